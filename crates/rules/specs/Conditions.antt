@@ -1,0 +1,112 @@
+-- Demand 1 as conditions: what a sound table is, and when each number is given. Assumes nothing: these are definitions.
+use mathlib.Core.Path.{_≡_}
+use mathlib.Core.Logic.{_⊎_}
+use mathlib.Core.Bool.{Bool, true, false}
+use mathlib.Core.List.{List}
+use Prim.Native.Nat.{ℕ, suc, _+_, _*_, _≤_, _<_}
+use lib.ListN.{length, getD}
+use Rattle.rules.specs.Limits.{head-size, row-size, most-rows, most-last, most-weight, ticket-limit, slot-at, last-at, next-at, used-at, head-zeros-at, ticket-at, due-at, weight-at, kind-at, row-zeros-at, slot-bytes, wide-bytes, kind-bytes}
+use Rattle.rules.specs.Rows.{Row, In}
+use Rattle.rules.specs.Plan.{plan, in-plan, listed}
+use Rattle.rules.specs.Table.{field, rows-of, round-in}
+use Rattle.rules.specs.Calls.{Call, opening, taking, sending, marking, totalling}
+
+infix 10 _⟺_
+abbrev pub _⟺_ : Type 0 → Type 0 → Type 0
+A ⟺ B = (A → B) × (B → A)
+
+abbrev pub Bytes : List ℕ → Type 0
+Bytes t = (i : ℕ) → getD t i 0 < 256
+
+-- the numbers in a table, by their places
+abbrev pub slot-in : List ℕ → ℕ
+slot-in t = field slot-at slot-bytes t
+
+abbrev pub last-in : List ℕ → ℕ
+last-in t = field last-at slot-bytes t
+
+abbrev pub next-in : List ℕ → ℕ
+next-in t = field next-at wide-bytes t
+
+abbrev pub used-in : List ℕ → ℕ
+used-in t = field used-at slot-bytes t
+
+abbrev pub row-at : (row : ℕ) → ℕ
+row-at i = head-size + row-size * i
+
+abbrev pub ticket-in : List ℕ → (row : ℕ) → ℕ
+ticket-in t i = field (row-at i + ticket-at) wide-bytes t
+
+abbrev pub due-in : List ℕ → (row : ℕ) → ℕ
+due-in t i = field (row-at i + due-at) slot-bytes t
+
+abbrev pub weight-in : List ℕ → (row : ℕ) → ℕ
+weight-in t i = field (row-at i + weight-at) wide-bytes t
+
+abbrev pub kind-in : List ℕ → (row : ℕ) → ℕ
+kind-in t i = field (row-at i + kind-at) kind-bytes t
+
+-- A SOUND TABLE: one fact for each clause of document 01
+pub record Sound (t : List ℕ) : Type 0 where
+  pub head-zeros : (i : ℕ) → head-zeros-at ≤ i → i < head-size → getD t i 0 ≡ 0
+  pub row-zeros : (i j : ℕ) → i < used-in t → row-zeros-at ≤ j → j < row-size → getD t (row-at i + j) 0 ≡ 0
+  pub kinds : (i : ℕ) → i < used-in t → kind-in t i ≤ 1
+  pub rows-fit : used-in t ≤ rows-of t
+  pub last-most : last-in t ≤ most-last
+  pub slot-most : slot-in t ≤ suc (last-in t)
+  pub next-least : 1 ≤ next-in t
+  pub next-most : next-in t ≤ ticket-limit
+  pub tickets-from : (i : ℕ) → i < used-in t → 1 ≤ ticket-in t i
+  pub tickets-rise : (i : ℕ) → suc i < used-in t → ticket-in t i < ticket-in t (suc i)
+  pub tickets-below : (i : ℕ) → i < used-in t → ticket-in t i < next-in t
+  pub dues-from : (i : ℕ) → i < used-in t → slot-in t ≤ due-in t i
+  pub dues-by : (i : ℕ) → i < used-in t → due-in t i ≤ last-in t
+  pub weights-least : (i : ℕ) → i < used-in t → 1 ≤ weight-in t i
+  pub weights-most : (i : ℕ) → i < used-in t → weight-in t i ≤ most-weight
+  pub unused-zeros : (i : ℕ) → row-at (used-in t) ≤ i → i < length t → getD t i 0 ≡ 0
+
+-- THE CONDITIONS, by number
+abbrev pub Length-bad : List ℕ → Type 0
+Length-bad t = (k : ℕ) → 1 ≤ k → k ≤ most-rows → length t ≡ head-size + row-size * k → ⊥
+
+abbrev pub Unsound : List ℕ → Type 0
+Unsound t = Sound t → ⊥
+
+abbrev pub Past : List ℕ → Type 0
+Past t = last-in t < slot-in t
+
+abbrev pub Weight-bad : (weight : ℕ) → Type 0
+Weight-bad w = (w ≡ 0) ⊎ (most-weight < w)
+
+abbrev pub Slot-bad : (slot : ℕ) → List ℕ → Type 0
+Slot-bad s t = (s < slot-in t) ⊎ (last-in t < s)
+
+abbrev pub No-row : (ticket : ℕ) → List ℕ → Type 0
+No-row k t = (i : ℕ) → i < used-in t → ticket-in t i ≡ k → ⊥
+
+abbrev pub Not-planned : (ticket : ℕ) → List ℕ → Type 0
+Not-planned k t = (x : Row) → In x (round-in t .rows) → x .ticket ≡ k → in-plan x (plan (round-in t)) ≡ false
+
+-- the first number whose condition holds, 0 where none does
+abbrev pub when : (number : ℕ) (holds : Type 0) (later : ℕ → Type 0) → ℕ → Type 0
+when k H later n = (H × (n ≡ k)) ⊎ ((H → ⊥) × later n)
+
+abbrev pub accepted : ℕ → Type 0
+accepted n = n ≡ 0
+
+abbrev pub if-sound : List ℕ → (later : ℕ → Type 0) → ℕ → Type 0
+if-sound t later = when 2 (Length-bad t) (when 3 (Unsound t) (when 5 (Past t) later))
+
+unfoldable pub refusal-given : Call → List ℕ → ℕ → Type 0
+refusal-given (opening l) t = when 2 (Length-bad t) (when 4 (most-last < l) accepted)
+refusal-given (taking d w) t =
+    if-sound t (when 6 (Weight-bad w) (when 7 (Slot-bad d t) (when 8 (next-in t ≡ ticket-limit) (when 9 (used-in t ≡ rows-of t) accepted))))
+refusal-given sending t = if-sound t accepted
+refusal-given (marking s) t = if-sound t (when 7 (Slot-bad s t) accepted)
+refusal-given totalling t = if-sound t accepted
+
+unfoldable pub substitute-given : (ticket : ℕ) → List ℕ → ℕ → Type 0
+substitute-given k t = if-sound t (when 10 (No-row k t) (when 11 (Not-planned k t) accepted))
+
+unfoldable pub list-given : (room : ℕ) → List ℕ → ℕ → Type 0
+list-given n t = if-sound t (when 12 (n < length (listed (round-in t))) accepted)

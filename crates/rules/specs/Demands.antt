@@ -1,0 +1,143 @@
+-- The owed statements: each is a type, proved in theory. Assumes nothing: these are definitions.
+use mathlib.Core.Path.{_≡_}
+use mathlib.Core.Bool.{Bool, true, false, _&&_, _||_, not, cond}
+use mathlib.Core.List.{List, [], _∷_, _++_}
+use Prim.Native.Nat.{ℕ, suc, _+_, _*_, _-_, _≤_, _<_}
+use lib.Dec.{ltb, leb, eqb}
+use lib.ListN.{length, take, drop}
+use Rattle.rules.specs.Limits.{head-size, row-size, most-rows, most-last, most-weight}
+use Rattle.rules.specs.Rows.{Row, Round, chosen, slots-left, sorted, heavier, canonical, Heavier, Canonical}
+use Rattle.rules.specs.Plan.{plan, total, total-weight, mark, feasible, planned, listed, beats-golden, golden-more}
+use Rattle.rules.specs.Steps.{opened}
+use Rattle.rules.specs.Table.{table, round-in, round-good, table-refusal}
+use Rattle.rules.specs.Calls.{Call, opening, taking, sending, marking, totalling, Reply, refused, done, ticket, step, amount, number-of, ordinary, silence, refusal, round-refusal, says, answer, left, run, replies, at, substitute-answer, list-answer}
+use Rattle.rules.specs.Lines.{Command, command, text, stands, read, payload, write-answer, write-left}
+use Rattle.rules.specs.Conditions.{_⟺_, Bytes, Length-bad, Sound, when, accepted, refusal-given, substitute-given, list-given}
+use Rattle.rules.specs.PlanM.{PlanM, Above-golden, Golden-more, score}
+
+-- GOING OUT IN TIME: slots, no two the same, each from the current one to the row's due slot
+unfoldable pub member : ℕ → List ℕ → Bool
+member v [] = false
+member v (x ∷ xs) = eqb x v || member v xs
+
+unfoldable pub in-time : (slot : ℕ) → List Row → (slots : List ℕ) → Bool
+in-time t [] [] = true
+in-time t [] (s ∷ ss) = false
+in-time t (x ∷ xs) [] = false
+in-time t (x ∷ xs) (s ∷ ss) = (leb t s && leb s (x .due)) && (not (member s ss) && in-time t xs ss)
+
+-- one slot after another
+unfoldable pub turns : (from : ℕ) → List Row → List ℕ
+turns a [] = []
+turns a (x ∷ xs) = a ∷ turns (suc a) xs
+
+-- no accepted opening among the calls
+unfoldable pub No-opening : List Call → Type 0
+No-opening [] = Unit {0}
+No-opening (opening l ∷ cs) = (most-last < l) × No-opening cs
+No-opening (taking d w ∷ cs) = No-opening cs
+No-opening (sending ∷ cs) = No-opening cs
+No-opening (marking s ∷ cs) = No-opening cs
+No-opening (totalling ∷ cs) = No-opening cs
+
+-- A POINT of a list: the table z is the model's round r; its plan is a best set of the waiting rows; each call answers as defined
+pub record Point (r : Round) (z : List ℕ) : Type 0 where
+  pub bytes : z ≡ table r
+  pub reads : round-in z ≡ r
+  pub sound : table-refusal z ≡ 0
+  pub full : (length (plan r) ≡ slots-left r) × (feasible r (plan r) ≡ true)
+  pub waiting : listed r ≡ sorted canonical (planned r)
+  pub goes-out : (zs : List ℕ) × (in-time (r .slot) (planned r) zs ≡ true)
+  pub in-order : in-time (r .slot) (listed r) (turns (r .slot) (listed r)) ≡ true
+  pub none-heavier : (ms : List Bool) (ss : List ℕ) → in-time (r .slot) (chosen ms (r .rows)) ss ≡ true → total-weight (chosen ms (r .rows)) ≤ total r
+  pub weighs : (total r ≡ total-weight (planned r)) × (total r ≡ total-weight (listed r))
+  pub over : r .last < r .slot → (plan r ≡ []) × (total r ≡ 0)
+  pub answers : (c : Call) → answer c z ≡ cond (eqb (round-refusal c r) 0) (says c r) (refused (round-refusal c r))
+
+-- THE THIRD DEMAND, of a list as a whole, on a table t of k rows opened with last slot l
+pub record Third (k l : ℕ) (t : List ℕ) (cs : List Call) : Type 0 where
+  pub opens : answer (opening l) t ≡ done
+  pub points : (xs ys : List Call) → cs ≡ xs ++ ys → Point (at k l xs) (run xs (left (opening l) t))
+  -- marks of slots ahead never sink
+  pub marks : (xs ys zs : List Call) (s : ℕ) → cs ≡ xs ++ (ys ++ zs) → No-opening ys → at k l (xs ++ ys) .slot ≤ s →
+      s ≤ at k l (xs ++ ys) .last → mark (at k l xs) s ≤ mark (at k l (xs ++ ys)) s
+  -- a newcomer raises the total by the part of its weight above the mark
+  pub newcomers : (xs ys : List Call) (d w : ℕ) → cs ≡ xs ++ (taking d w ∷ ys) → round-refusal (taking d w) (at k l xs) ≡ 0 →
+      total (at k l (xs ++ (taking d w ∷ []))) ≡ total (at k l xs) + (w - mark (at k l xs) d)
+  -- both once more by the replies alone
+  pub marks-answered : (xs ys zs : List Call) (ps qs ts : List Reply) (s m n : ℕ) → cs ≡ xs ++ (marking s ∷ (ys ++ (marking s ∷ zs))) →
+      No-opening ys → replies cs (left (opening l) t) ≡ ps ++ (amount m ∷ (qs ++ (amount n ∷ ts))) → length ps ≡ length xs → length qs ≡ length ys → m ≤ n
+  pub newcomers-answered : (xs ys : List Call) (ps qs : List Reply) (d w k′ a m b : ℕ) →
+      cs ≡ xs ++ (totalling ∷ marking d ∷ taking d w ∷ totalling ∷ ys) →
+      replies cs (left (opening l) t) ≡ ps ++ (amount a ∷ amount m ∷ ticket k′ ∷ amount b ∷ qs) → length ps ≡ length xs → b ≡ a + (w - m)
+
+unfoldable pub Demand-three : Type 0
+Demand-three =
+    (t : List ℕ) (k l : ℕ) (cs : List Call) → length t ≡ head-size + row-size * k → 1 ≤ k → k ≤ most-rows → l ≤ most-last → Third k l t cs
+
+-- DEMAND 1: each number comes under its condition and no other; soundness is document 01's clauses; accepted calls leave sound tables
+unfoldable pub Refusals : Type 0
+Refusals =
+    ((c : Call) (t : List ℕ) → Bytes t → refusal-given c t (refusal c t))
+    × ((k : ℕ) (t : List ℕ) → Bytes t → substitute-given k t (number-of (substitute-answer k t)))
+    × ((n : ℕ) (t : List ℕ) → Bytes t → list-given n t (number-of (list-answer t n)))
+
+unfoldable pub Soundness : Type 0
+Soundness = (t : List ℕ) → Bytes t → (table-refusal t ≡ 0) ⟺ ((Length-bad t → ⊥) × Sound t)
+
+unfoldable pub Stays-sound : Type 0
+Stays-sound = (c : Call) (t : List ℕ) → refusal c t ≡ 0 → (table-refusal (left c t) ≡ 0) × (length (left c t) ≡ length t)
+
+unfoldable pub Opening-alone : Type 0
+Opening-alone =
+    (l : ℕ) (t u : List ℕ) → length t ≡ length u →
+    (answer (opening l) t ≡ answer (opening l) u) × (answer (opening l) t ≡ done → left (opening l) t ≡ left (opening l) u)
+
+-- DEMAND 2: tables read back; every sound round's plan, reachable or not, is PlanM's; the orders, and the golden comparison, are what their names say
+abbrev pub Sound-round : Round → Type 0
+Sound-round r = (round-good r ≡ true) × (1 ≤ r .room) × (r .room ≤ most-rows)
+
+unfoldable pub Tables-back : Type 0
+Tables-back =
+    ((r : Round) → Sound-round r → (table-refusal (table r) ≡ 0) × (round-in (table r) ≡ r))
+    × ((t : List ℕ) → table-refusal t ≡ 0 → (table (round-in t) ≡ t) × Sound-round (round-in t))
+
+unfoldable pub Plans : Type 0
+Plans = (r : Round) → round-good r ≡ true → PlanM r
+
+unfoldable pub Orders : Type 0
+Orders = (a b : Row) → ((heavier a b ≡ true) ⟺ Heavier a b) × ((canonical a b ≡ true) ⟺ Canonical a b)
+
+unfoldable pub Golden : Type 0
+Golden =
+    ((x y : ℕ) → (beats-golden x y ≡ true) ⟺ Above-golden x y)
+    × ((a b c d : ℕ) → (golden-more a b c d ≡ true) ⟺ Golden-more a b c d)
+    × ((a b c d : ℕ) → b ≤ most-weight → d ≤ most-weight → (golden-more a b c d ≡ true) ⟺ (score c d < score a b))
+
+-- the i-th row listed is due in slot current + i or later; P10: a round just opened sends silence
+unfoldable pub Listed-fits : Type 0
+Listed-fits = (r : Round) → round-good r ≡ true → (xs ys : List Row) (x : Row) → listed r ≡ xs ++ (x ∷ ys) → r .slot + length xs ≤ x .due
+
+unfoldable pub Opened-silent : Type 0
+Opened-silent = (l k : ℕ) → says sending (opened l k) ≡ step (ordinary silence)
+
+-- TEXT LINES: a line is read as a command with a payload exactly where it is their text; reader and writer undo each other; 1 before 12
+unfoldable pub Lines-exact : Type 0
+Lines-exact =
+    (c : Command) (ps line : List ℕ) →
+    ((read line ≡ command c) × (payload line ≡ ps)) ⟺ ((stands c ps ≡ true) × (line ≡ text c ps))
+
+unfoldable pub Written-read : Type 0
+Written-read =
+    (c : Command) (ps z : List ℕ) (n : ℕ) → write-answer c ps (length z) ≡ amount n →
+    (read (take n (write-left c ps z)) ≡ command c) × (payload (take n (write-left c ps z)) ≡ ps) × (drop n (write-left c ps z) ≡ drop n z)
+
+unfoldable pub Read-written : Type 0
+Read-written =
+    (c : Command) (line z : List ℕ) → read line ≡ command c → length line ≤ length z →
+    (write-answer c (payload line) (length z) ≡ amount (length line)) × (write-left c (payload line) z ≡ line ++ drop (length line) z)
+
+unfoldable pub Write-refusals : Type 0
+Write-refusals =
+    (c : Command) (ps : List ℕ) (n : ℕ) →
+    when 1 (stands c ps ≡ false) (when 12 (n < length (text c ps)) accepted) (number-of (write-answer c ps n))

@@ -1,0 +1,10 @@
+pub mod Limits
+pub mod Rows
+pub mod Plan
+pub mod Steps
+pub mod Table
+pub mod Calls
+pub mod Lines
+pub mod Conditions
+pub mod PlanM
+pub mod Demands

@@ -1,0 +1,74 @@
+-- Sizes, byte places and limits of document 01, each named once. Assumes nothing: these are definitions.
+use Prim.Native.Nat.{ℕ}
+
+-- the table: a head, then rows
+abbrev pub head-size : ℕ
+head-size = 16
+
+abbrev pub row-size : ℕ
+row-size = 24
+
+abbrev pub most-rows : ℕ
+most-rows = 1024
+
+-- limits of a round; a ticket is below ticket-limit
+abbrev pub most-last : ℕ
+most-last = 4095
+
+abbrev pub most-weight : ℕ
+most-weight = 16777216
+
+abbrev pub ticket-limit : ℕ
+ticket-limit = 16777216
+
+-- places in the head, and where its zeros begin
+abbrev pub slot-at : ℕ
+slot-at = 0
+
+abbrev pub last-at : ℕ
+last-at = 2
+
+abbrev pub next-at : ℕ
+next-at = 4
+
+abbrev pub used-at : ℕ
+used-at = 8
+
+abbrev pub head-zeros-at : ℕ
+head-zeros-at = 10
+
+-- places in a row, and where its zeros begin
+abbrev pub ticket-at : ℕ
+ticket-at = 0
+
+abbrev pub due-at : ℕ
+due-at = 4
+
+abbrev pub weight-at : ℕ
+weight-at = 6
+
+abbrev pub kind-at : ℕ
+kind-at = 10
+
+abbrev pub row-zeros-at : ℕ
+row-zeros-at = 11
+
+-- widths in bytes: a slot or a count of rows; a ticket or a weight; a kind
+abbrev pub slot-bytes : ℕ
+slot-bytes = 2
+
+abbrev pub wide-bytes : ℕ
+wide-bytes = 4
+
+abbrev pub kind-bytes : ℕ
+kind-bytes = 1
+
+-- text lines: digits of a slot and of a weight or ticket, and the most payload digits
+abbrev pub slot-digits : ℕ
+slot-digits = 4
+
+abbrev pub wide-digits : ℕ
+wide-digits = 8
+
+abbrev pub most-payload : ℕ
+most-payload = 48

@@ -1,0 +1,128 @@
+-- Facts of every row of a list, rows in a list, falling weights. Assumes nothing.
+use mathlib.Core.Path.{_≡_, refl, sym, ap, _∙_, subst}
+use mathlib.Core.Logic.{_⊎_, inl, inr}
+use mathlib.Core.Bool.{Bool, true, false, _&&_, _||_, not, cond}
+use mathlib.Core.List.{List, [], _∷_, _++_}
+use Prim.Native.Nat.{ℕ, zero, suc, _+_, _*_, _-_, _≤_, _<_}
+use native.Mathlib.Omega.{arith}
+use lib.Dec.{ltb, leb, eqb}
+use lib.ListN.{length, replicate}
+use Rattle.rules.specs.Rows.{Row, Round, blank, heavier, into, sorted}
+use Rattle.rules.specs.Plan.{feasible, kept, blanks-from}
+use Rattle.theory.specs.Tests.{either, leb?, ltb?, eqb?, one-if}
+use Rattle.theory.specs.Sum.{rejected}
+
+abbrev pub All : (Row → Type 0) → List Row → Type 0
+All P [] = Unit {0}
+All P (x ∷ xs) = P x × All P xs
+
+abbrev pub In : Row → List Row → Type 0
+In x [] = ⊥
+In x (y ∷ ys) = (x ≡ y) ⊎ In x ys
+
+pub all-map : {P Q : Row → Type 0} → ((x : Row) → P x → Q x) → (xs : List Row) → All P xs → All Q xs
+all-map h [] a = tt
+all-map h (x ∷ xs) a = (h x (a .0), all-map h xs (a .1))
+
+pub all-in : (P : Row → Type 0) (x : Row) (xs : List Row) → All P xs → In x xs → P x
+all-in P x [] a i = absurd i
+all-in P x (y ∷ ys) a (inl e) = subst P (sym e) (a .0)
+all-in P x (y ∷ ys) a (inr i) = all-in P x ys (a .1) i
+
+pub all-append : (P : Row → Type 0) (xs ys : List Row) → All P xs → All P ys → All P (xs ++ ys)
+all-append P [] ys a b = b
+all-append P (x ∷ xs) ys a b = (a .0, all-append P xs ys (a .1) b)
+
+pub all-into : (P : Row → Type 0) (f : Row → Row → Bool) (x : Row) (ys : List Row) → P x → All P ys → All P (into f x ys)
+unfolding into
+all-into P f x [] p a = (p, tt)
+all-into P f x (y ∷ ys) p a =
+    elim (either (f x y)) [ inl e ↦ rw e (p, a) | inr e ↦ rw e (a .0, all-into P f x ys p (a .1)) ]
+
+pub all-sorted : (P : Row → Type 0) (f : Row → Row → Bool) (xs : List Row) → All P xs → All P (sorted f xs)
+unfolding sorted
+all-sorted P f [] a = tt
+all-sorted P f (x ∷ xs) a = all-into P f x (sorted f xs) (a .0) (all-sorted P f xs (a .1))
+
+pub all-kept : (P : Row → Type 0) (r : Round) (xs ps : List Row) → All P xs → All P ps → All P (kept r xs ps)
+unfolding kept
+all-kept P r [] ps a b = b
+all-kept P r (x ∷ xs) ps a b =
+    elim (either (feasible r (x ∷ ps))) [
+      | inl e ↦ rw e (all-kept P r xs (x ∷ ps) (a .1) (a .0, b))
+      | inr e ↦ rw e (all-kept P r xs ps (a .1) b)
+    ]
+
+pub all-rejected : (P : Row → Type 0) (r : Round) (xs ps : List Row) → All P xs → All P (rejected r xs ps)
+unfolding rejected
+all-rejected P r [] ps a = tt
+all-rejected P r (x ∷ xs) ps a =
+    elim (either (feasible r (x ∷ ps))) [
+      | inl e ↦ rw e (all-rejected P r xs (x ∷ ps) (a .1))
+      | inr e ↦ rw e (a .0, all-rejected P r xs ps (a .1))
+    ]
+
+pub all-replicate : (P : Row → Type 0) (n : ℕ) (x : Row) → P x → All P (replicate n x)
+all-replicate P zero x p = tt
+all-replicate P (suc n) x p = (p, all-replicate P n x p)
+
+-- falling weights
+abbrev pub Falling : List Row → Type 0
+Falling [] = Unit {0}
+Falling (x ∷ xs) = All (λ y. y .weight ≤ x .weight) xs × Falling xs
+
+pub heavier-true : (a b : Row) → heavier a b ≡ true → b .weight ≤ a .weight
+unfolding heavier
+heavier-true a b e =
+    elim (ltb? (b .weight) (a .weight)) [
+      | inl h ↦ omega arith
+      | inr h ↦ elim (eqb? (a .weight) (b .weight)) [
+        | inl k ↦ omega arith
+        | inr k ↦ let z : false ≡ true = (rw (h .0, k .0) at e) in absurd (mathlib.Core.Bool.false≢true z)
+      ]
+    ]
+
+pub heavier-false : (a b : Row) → heavier a b ≡ false → a .weight ≤ b .weight
+unfolding heavier
+heavier-false a b e =
+    elim (ltb? (b .weight) (a .weight)) [
+      | inl h ↦ let z : true ≡ false = (rw (h .0) at e) in absurd (mathlib.Core.Bool.true≢false z)
+      | inr h ↦ omega arith
+    ]
+
+pub falling-into : (x : Row) (ys : List Row) → Falling ys → Falling (into heavier x ys)
+unfolding into
+falling-into x [] f = (tt, tt)
+falling-into x (y ∷ ys) f =
+    elim (either (heavier x y)) [
+      | inl e ↦ rw e
+          ((heavier-true x y e, all-map (λ z (h : z .weight ≤ y .weight). omega (arith, heavier-true x y e)) ys (f .0)), f)
+      | inr e ↦ rw e (all-into (λ z. z .weight ≤ y .weight) heavier x ys (heavier-false x y e) (f .0), falling-into x ys (f .1))
+    ]
+
+pub falling-sorted : (xs : List Row) → Falling (sorted heavier xs)
+unfolding sorted
+falling-sorted [] = tt
+falling-sorted (x ∷ xs) = falling-into x (sorted heavier xs) (falling-sorted xs)
+
+-- rows without weight may follow
+abbrev pub Light : List Row → Type 0
+Light = All (λ x. x .weight ≤ 0)
+
+pub falling-light : (xs : List Row) → Light xs → Falling xs
+falling-light [] a = tt
+falling-light (x ∷ xs) a = (all-map (λ z (h : z .weight ≤ 0). omega arith) xs (a .1), falling-light xs (a .1))
+
+pub falling-append : (xs ys : List Row) → Falling xs → Light ys → Falling (xs ++ ys)
+falling-append [] ys f l = falling-light ys l
+falling-append (x ∷ xs) ys f l = (
+  all-append (λ z. z .weight ≤ x .weight) xs ys (f .0) (all-map (λ z (h : z .weight ≤ 0). omega arith) ys l),
+  falling-append xs ys (f .1) l,
+)
+
+pub light-blanks : (n s k : ℕ) → Light (blanks-from n s k)
+unfolding blanks-from blank
+light-blanks zero s k = tt
+light-blanks (suc n) s k =
+    all-append (λ x. x .weight ≤ 0) (replicate k (blank s)) (blanks-from n (suc s) k)
+    (all-replicate (λ x. x .weight ≤ 0) k (blank s) (omega arith)) (light-blanks n (suc s) k)

@@ -1,0 +1,434 @@
+-- What sending leaves, as rows closed up and as bytes. Assumes nothing.
+use mathlib.Core.Path.{_≡_, refl, sym, ap, ap₂, _∙_, subst}
+use mathlib.Core.Logic.{inl, inr, _≢_}
+use mathlib.Core.Bool.{Bool, true, false, _&&_, not, cond}
+use mathlib.Core.List.{List, [], _∷_, _++_, append-nil, append-assoc}
+use Prim.Native.Nat.{ℕ, suc, _+_, _*_, _-_, _≤_, _<_}
+use native.Mathlib.Omega.{arith}
+use lib.Dec.{leb, eqb}
+use borrow.Author.Tests.{le-leb, lt-leb, lt-ltb, le-ltb, ne-eqb}
+use lib.ListN.{length, getD, set, take, drop, replicate, length-append, length-drop, take-append-drop}
+use lib.Seq.{take-suc, drop-cons, take-at, drop-at, drop-drop, take-add, take-length, take-take, set-split, sets, sets-eq, paste, length-paste, take-paste, drop-paste, length-take-le}
+use Rattle.rules.specs.Rows.{Row, Round, blank, round, row, All, In}
+use Rattle.rules.specs.Plan.{plan, tight-after, segment-start, mark, first-end, substitute, best}
+use Rattle.rules.specs.Steps.{changed, without, still-due, sent}
+use Rattle.rules.specs.Table.{low, row-bytes, rows-bytes, table}
+use Rattle.theory.specs.Tests.{either, eqb?}
+use Rattle.theory.specs.Full.{Fine, Rising}
+use Rattle.theory.specs.Change.{rising-changed, rising-above, all-of-in}
+use Rattle.theory.specs.Back.{length-row, length-rows}
+use Rattle.theory.specs.Unique.{rising-other}
+use Rattle.theory.specs.Members.{Rows}
+use Rattle.theory.specs.Chain.{Chain, moves}
+use Rattle.theory.specs.Leaping.{rising-moves, each, or-changed, changed-each, final-row, final-ticket, moves-each, leapt-row, leapt-blank}
+
+-- THE ROWS KEPT: those due from a slot on, but for one ticket; 0 is no row's
+unfoldable pub stays : (slot gone : ℕ) → Row → Bool
+stays t k x = leb t (x .due) && not (eqb (x .ticket) k)
+
+unfoldable pub closed : (slot gone : ℕ) → List Row → List Row
+closed t k [] = []
+closed t k (x ∷ xs) = cond (stays t k x) (x ∷ closed t k xs) (closed t k xs)
+
+pub closed-other : (t k : ℕ) (xs : List Row) → All (λ x. k ≢ x .ticket) xs → still-due t xs ≡ closed t k xs
+unfolding closed still-due stays
+closed-other t k [] a = refl
+closed-other t k (x ∷ xs) a =
+    rw (ne-eqb (x .ticket) k (λ e. a .0 (sym e))) (elim (either (leb t (x .due))) [
+      | inl h ↦ rw h (ap (λ (zs : List Row). x ∷ zs) (closed-other t k xs (a .1)))
+      | inr h ↦ rw h (closed-other t k xs (a .1))
+    ])
+
+pub closed-without : (t k a b : ℕ) (xs : List Row) → Rising a b xs → still-due t (without k xs) ≡ closed t k xs
+unfolding closed still-due without stays
+closed-without t k a b [] s = refl
+closed-without t k a b (x ∷ xs) s = elim (eqb? (x .ticket) k) [
+  | inl e ↦ rw (e .0) (elim (either (leb t (x .due))) as (λ _. still-due t xs ≡ cond (leb t (x .due) && false) (x ∷ closed t k xs) (closed t k xs)) [
+    | inl h ↦ rw h (same-rest (e .1))
+    | inr h ↦ rw h (same-rest (e .1))
+  ])
+  | inr e ↦ rw (e .0) (elim (either (leb t (x .due))) [
+    | inl h ↦ rw h (ap (λ (zs : List Row). x ∷ zs) (closed-without t k (suc (x .ticket)) b xs (s .1)))
+    | inr h ↦ rw h (closed-without t k (suc (x .ticket)) b xs (s .1))
+  ])
+]
+  where
+    same-rest : x .ticket ≡ k → still-due t xs ≡ closed t k xs
+    same-rest e = closed-other t k xs (subst (λ (n : ℕ). All (λ y. n ≢ y .ticket) xs) e (rising-other b x xs (s .1)))
+
+pub closed-all : (t a b : ℕ) (xs : List Row) → 1 ≤ a → Rising a b xs → still-due t xs ≡ closed t 0 xs
+closed-all t a b xs h s = closed-other t 0 xs (all-of-in (λ x. 0 ≢ x .ticket) xs (λ x i e. omega (arith, e, h, rising-above a b x xs s i)))
+
+pub closed-append : (t k : ℕ) (xs ys : List Row) → closed t k (xs ++ ys) ≡ closed t k xs ++ closed t k ys
+unfolding closed
+closed-append t k [] ys = refl
+closed-append t k (x ∷ xs) ys = elim (either (stays t k x)) [
+  | inl e ↦ rw e (ap (λ (zs : List Row). x ∷ zs) (closed-append t k xs ys))
+  | inr e ↦ rw e (closed-append t k xs ys)
+]
+
+pub closed-yes : (t k : ℕ) (x : Row) → stays t k x ≡ true → closed t k (x ∷ []) ≡ (x ∷ [])
+unfolding closed
+closed-yes t k x e = rw e
+
+pub closed-no : (t k : ℕ) (x : Row) → stays t k x ≡ false → closed t k (x ∷ []) ≡ []
+unfolding closed
+closed-no t k x e = rw e
+
+pub closed-stays : (t k : ℕ) (xs : List Row) → All (λ x. stays t k x ≡ true) xs → closed t k xs ≡ xs
+unfolding closed
+closed-stays t k [] a = refl
+closed-stays t k (x ∷ xs) a = rw (a .0) (ap (λ (zs : List Row). x ∷ zs) (closed-stays t k xs (a .1)))
+
+pub length-closed : (t k : ℕ) (xs : List Row) → length (closed t k xs) ≤ length xs
+unfolding closed
+length-closed t k [] = omega arith
+length-closed t k (x ∷ xs) = elim (either (stays t k x)) [
+  | inl e ↦ rw e (omega (arith, length-closed t k xs))
+  | inr e ↦ rw e (omega (arith, length-closed t k xs))
+]
+
+-- THE ROUND AFTER, by the kind of step
+abbrev pub after-slot : Round → List Row → Round
+after-slot r xs = round (suc (r .slot)) (r .last) (r .next) (r .room) xs
+
+module _ (r : Round) (f : Fine r) (rs : List Row) (c : Rows r rs) where
+  pub sent-none : r .rows ≡ [] → (p : Row) → best r (plan r) ≡ p → p .due ≤ first-end r (plan r) → sent r ≡ after-slot r []
+  unfolding sent without still-due
+  sent-none e p b h = rw (b, le-leb (p .due) (first-end r (plan r)) h, e)
+
+  pub sent-ordinary : (p : Row) → best r (plan r) ≡ p → p .due ≤ first-end r (plan r) → sent r ≡ after-slot r (closed (suc (r .slot)) (p .ticket) (r .rows))
+  unfolding sent
+  sent-ordinary p e h = rw (e, le-leb (p .due) (first-end r (plan r)) h, closed-without (suc (r .slot)) (p .ticket) 1 (r .next) (r .rows) (f .rising))
+
+  -- a leap onto a row
+  pub sent-row : (p s : Row) (hs : List Row) → best r (plan r) ≡ p → first-end r (plan r) < p .due → substitute r (plan r) p ≡ s → In s (r .rows) →
+      Chain r rs (tight-after r (plan r) (p .due)) (tight-after r (plan r) (s .due)) hs →
+      sent r ≡ after-slot r (closed (suc (r .slot)) (p .ticket)
+      (changed (s .ticket) (row (s .ticket) (s .due) (mark r (s .due)) (s .kind)) (moves r (tight-after r (plan r) (p .due)) hs (r .rows))))
+  unfolding sent row
+  sent-row p s hs e h u i k =
+      rw (
+        e,
+        lt-leb (p .due) (first-end r (plan r)) h,
+        leapt-row r f rs c p s hs u i k,
+        closed-without (suc (r .slot)) (p .ticket) 1 (r .next)
+            (changed (s .ticket) (row (s .ticket) (s .due) (mark r (s .due)) (s .kind)) (moves r (tight-after r (plan r) (p .due)) hs (r .rows)))
+            (rising-changed 1 (r .next) (s .ticket) (row (s .ticket) (s .due) (mark r (s .due)) (s .kind)) refl
+            (moves r (tight-after r (plan r) (p .due)) hs (r .rows)) (rising-moves r 1 (r .next) (tight-after r (plan r) (p .due)) hs (r .rows) (f .rising))),
+      )
+
+  -- the same with each row's new content told by the row alone
+  pub sent-row-each : (p s : Row) (hs : List Row) → best r (plan r) ≡ p → first-end r (plan r) < p .due → substitute r (plan r) p ≡ s → In s (r .rows) →
+      Chain r rs (tight-after r (plan r) (p .due)) (tight-after r (plan r) (s .due)) hs →
+      sent r ≡ after-slot r (closed (suc (r .slot)) (p .ticket)
+      (each (or-changed (s .ticket) (row (s .ticket) (s .due) (mark r (s .due)) (s .kind)) (final-row r (tight-after r (plan r) (p .due)) hs)) (r .rows)))
+  sent-row-each p s hs e h u i k =
+      sent-row p s hs e h u i k
+      ∙ ap (λ (xs : List Row). after-slot r (closed (suc (r .slot)) (p .ticket) xs))
+      (ap (λ (xs : List Row). changed (s .ticket) (row (s .ticket) (s .due) (mark r (s .due)) (s .kind)) xs)
+      (moves-each r f rs c 1 (r .next) (tight-after r (plan r) (p .due)) (tight-after r (plan r) (s .due)) hs (r .rows) (f .rising) k)
+      ∙ changed-each (s .ticket) (row (s .ticket) (s .due) (mark r (s .due)) (s .kind)) (final-row r (tight-after r (plan r) (p .due)) hs)
+      (final-ticket r (tight-after r (plan r) (p .due)) hs) 1 (r .next) (r .rows) (f .rising))
+
+  -- onto a blank that is kept in p's row
+  pub sent-kept : (p : Row) → best r (plan r) ≡ p → In p (plan r) → first-end r (plan r) < p .due →
+      substitute r (plan r) p ≡ blank (segment-start r (plan r) (p .due)) → 1 ≤ mark r (p .due) →
+      sent r ≡ after-slot r (closed (suc (r .slot)) 0
+      (changed (p .ticket) (row (p .ticket) (segment-start r (plan r) (p .due)) (mark r (p .due)) 1) (r .rows)))
+  unfolding sent row
+  sent-kept p e i h u m =
+      rw (
+        e,
+        lt-leb (p .due) (first-end r (plan r)) h,
+        leapt-blank r f rs c p i u,
+        lt-ltb 0 (mark r (p .due)) m,
+        closed-all (suc (r .slot)) 1 (r .next) (changed (p .ticket) (row (p .ticket) (segment-start r (plan r) (p .due)) (mark r (p .due)) 1) (r .rows)) (omega arith)
+            (rising-changed 1 (r .next) (p .ticket) (row (p .ticket) (segment-start r (plan r) (p .due)) (mark r (p .due)) 1) refl (r .rows) (f .rising)),
+      )
+
+  -- onto one that isn't
+  pub sent-gone : (p : Row) → best r (plan r) ≡ p → In p (plan r) → first-end r (plan r) < p .due →
+      substitute r (plan r) p ≡ blank (segment-start r (plan r) (p .due)) → mark r (p .due) ≡ 0 →
+      sent r ≡ after-slot r (closed (suc (r .slot)) (p .ticket) (r .rows))
+  unfolding sent
+  sent-gone p e i h u m =
+      rw (
+        e,
+        lt-leb (p .due) (first-end r (plan r)) h,
+        leapt-blank r f rs c p i u,
+        le-ltb 0 (mark r (p .due)) (omega (arith, m)),
+        closed-without (suc (r .slot)) (p .ticket) 1 (r .next) (r .rows) (f .rising),
+      )
+
+-- BYTES
+unfoldable pub head-bytes : (slot last next count : ℕ) → List ℕ
+head-bytes t l n c = low 2 t ++ low 2 l ++ low 4 n ++ low 2 c ++ replicate 6 0
+
+pub length-head : (t l n c : ℕ) → length (head-bytes t l n c) ≡ 16
+unfolding head-bytes low
+length-head t l n c = refl
+
+pub table-is : (t l n k : ℕ) (xs : List Row) →
+    table (round t l n k xs) ≡ head-bytes t l n (length xs) ++ (rows-bytes xs ++ replicate (24 * (k - length xs)) 0)
+unfolding table round head-bytes low
+table-is t l n k xs = refl
+
+pub rows-append : (xs ys : List Row) → rows-bytes (xs ++ ys) ≡ rows-bytes xs ++ rows-bytes ys
+unfolding rows-bytes
+rows-append [] ys = refl
+rows-append (x ∷ xs) ys = ap (λ (bs : List ℕ). row-bytes x ++ bs) (rows-append xs ys) ∙ sym (append-assoc (row-bytes x) (rows-bytes xs) (rows-bytes ys))
+
+pub rows-one : (x : Row) → rows-bytes (x ∷ []) ≡ row-bytes x
+unfolding rows-bytes
+rows-one x = append-nil (row-bytes x)
+
+-- the first rows' bytes, and the others'
+pub rows-split : (xs : List Row) (i : ℕ) (bs : List ℕ) → rows-bytes xs ++ bs ≡ rows-bytes (take i xs) ++ (rows-bytes (drop i xs) ++ bs)
+rows-split xs i bs =
+    ap (λ (zs : List Row). rows-bytes zs ++ bs) (sym (take-append-drop i xs))
+    ∙ ap (λ (cs : List ℕ). cs ++ bs) (rows-append (take i xs) (drop i xs))
+    ∙ append-assoc (rows-bytes (take i xs)) (rows-bytes (drop i xs)) bs
+
+pub rows-long : (xs : List Row) (i : ℕ) → i ≤ length xs → length (rows-bytes (take i xs)) ≡ 24 * i
+rows-long xs i h = omega (arith, length-rows (take i xs), length-take-le i xs h)
+
+pub rows-take : (xs : List Row) (i : ℕ) (bs : List ℕ) → i ≤ length xs → take (24 * i) (rows-bytes xs ++ bs) ≡ rows-bytes (take i xs)
+rows-take xs i bs h =
+    ap (λ (cs : List ℕ). take (24 * i) cs) (rows-split xs i bs) ∙ take-at (rows-bytes (take i xs)) (rows-bytes (drop i xs) ++ bs) (24 * i) (rows-long xs i h)
+
+pub rows-drop : (xs : List Row) (i : ℕ) (bs : List ℕ) → i ≤ length xs → drop (24 * i) (rows-bytes xs ++ bs) ≡ rows-bytes (drop i xs) ++ bs
+rows-drop xs i bs h =
+    ap (λ (cs : List ℕ). drop (24 * i) cs) (rows-split xs i bs) ∙ drop-at (rows-bytes (take i xs)) (rows-bytes (drop i xs) ++ bs) (24 * i) (rows-long xs i h)
+
+-- A ROW WRITTEN IN PLACE
+pub rows-written : (xs : List Row) (i : ℕ) (y : Row) (bs : List ℕ) → i < length xs →
+    rows-bytes (set xs i y) ++ bs ≡ take (24 * i) (rows-bytes xs ++ bs) ++ row-bytes y ++ drop (24 * i + length (row-bytes y)) (rows-bytes xs ++ bs)
+unfolding rows-bytes
+rows-written xs i y bs h =
+    let d = rows-bytes (drop (suc i) xs) in
+    let e : 24 * i + length (row-bytes y) ≡ 24 * suc i = omega (arith, length-row y) in
+    ap (λ (zs : List Row). rows-bytes zs ++ bs) (set-split xs i y h)
+    ∙ ap (λ (cs : List ℕ). cs ++ bs) (rows-append (take i xs) (y ∷ drop (suc i) xs))
+    ∙ append-assoc (rows-bytes (take i xs)) (row-bytes y ++ d) bs
+    ∙ ap (λ (cs : List ℕ). rows-bytes (take i xs) ++ cs) (append-assoc (row-bytes y) d bs)
+    ∙ sym (append-assoc (rows-bytes (take i xs)) (row-bytes y) (d ++ bs))
+    ∙ ap₂ (λ (us : List ℕ) (vs : List ℕ). us ++ row-bytes y ++ vs) (sym (rows-take xs i bs (omega arith)))
+    (sym (ap (λ (n : ℕ). drop n (rows-bytes xs ++ bs)) e ∙ rows-drop xs (suc i) bs h))
+
+pub rows-set : (xs : List Row) (i : ℕ) (y : Row) (bs : List ℕ) → i < length xs → rows-bytes (set xs i y) ++ bs ≡ sets (rows-bytes xs ++ bs) (24 * i) (row-bytes y)
+rows-set xs i y bs h =
+    rows-written xs i y bs h
+    ∙ sym (sets-eq (row-bytes y) (rows-bytes xs ++ bs) (24 * i) (omega (arith, h, length-row y, length-append (rows-bytes xs) bs, length-rows xs)))
+
+-- CLOSING UP IN PLACE: after i rows, those of them that stay stand first, and the rest is as it was
+abbrev pub kept-of : (slot gone : ℕ) → List Row → (i : ℕ) → ℕ
+kept-of t k xs i = length (closed t k (take i xs))
+
+pub record Closing (t k : ℕ) (hd : List ℕ) (xs : List Row) (zs : List ℕ) (i : ℕ) (w : List ℕ) : Type 0 where
+  pub ahead : i ≤ length xs
+  pub long : length w ≡ 16 + 24 * length xs + length zs
+  pub first : take (16 + 24 * kept-of t k xs i) w ≡ hd ++ rows-bytes (closed t k (take i xs))
+  pub rest : drop (16 + 24 * i) w ≡ rows-bytes (drop i xs) ++ zs
+
+pub closing-start : (t k : ℕ) (hd : List ℕ) (xs : List Row) (zs : List ℕ) → length hd ≡ 16 → Closing t k hd xs zs 0 (hd ++ (rows-bytes xs ++ zs))
+unfolding closed rows-bytes
+closing-start t k hd xs zs e =
+    record {
+      ahead = omega arith;
+      long = omega (arith, e, length-append hd (rows-bytes xs ++ zs), length-append (rows-bytes xs) zs, length-rows xs);
+      first = take-at hd (rows-bytes xs ++ zs) 16 e ∙ sym (append-nil hd);
+      rest = drop-at hd (rows-bytes xs ++ zs) 16 e;
+    }
+
+pub closed-next : (t k : ℕ) (xs : List Row) (i : ℕ) (z : Row) → i < length xs →
+    closed t k (take (suc i) xs) ≡ closed t k (take i xs) ++ closed t k (getD xs i z ∷ [])
+closed-next t k xs i z h = ap (closed t k) (take-suc xs i z h) ∙ closed-append t k (take i xs) (getD xs i z ∷ [])
+
+pub kept-more : (t k : ℕ) (xs : List Row) (i : ℕ) (z : Row) → i < length xs → stays t k (getD xs i z) ≡ true → kept-of t k xs (suc i) ≡ suc (kept-of t k xs i)
+kept-more t k xs i z h e =
+    omega (
+      arith,
+      ap length (closed-next t k xs i z h),
+      length-append (closed t k (take i xs)) (closed t k (getD xs i z ∷ [])),
+      ap length (closed-yes t k (getD xs i z) e),
+    )
+
+pub kept-still : (t k : ℕ) (xs : List Row) (i : ℕ) (z : Row) → i < length xs → stays t k (getD xs i z) ≡ false → kept-of t k xs (suc i) ≡ kept-of t k xs i
+kept-still t k xs i z h e =
+    omega (
+      arith,
+      ap length (closed-next t k xs i z h),
+      length-append (closed t k (take i xs)) (closed t k (getD xs i z ∷ [])),
+      ap length (closed-no t k (getD xs i z) e),
+    )
+
+pub kept-most : (t k : ℕ) (xs : List Row) (i : ℕ) → i ≤ length xs → kept-of t k xs i ≤ i
+kept-most t k xs i h = omega (arith, length-closed t k (take i xs), length-take-le i xs h)
+
+module _ (t k : ℕ) (hd : List ℕ) (xs : List Row) (zs : List ℕ) where
+  -- the row at i
+  pub row-here : (i : ℕ) (z : Row) → i < length xs → rows-bytes (drop i xs) ++ zs ≡ row-bytes (getD xs i z) ++ (rows-bytes (drop (suc i) xs) ++ zs)
+  unfolding rows-bytes
+  row-here i z h =
+      ap (λ (ys : List Row). rows-bytes ys ++ zs) (drop-cons xs i z h) ∙ append-assoc (row-bytes (getD xs i z)) (rows-bytes (drop (suc i) xs)) zs
+
+  pub bytes-here : (i : ℕ) (z : Row) (w : List ℕ) → i < length xs → Closing t k hd xs zs i w → take 24 (drop (16 + 24 * i) w) ≡ row-bytes (getD xs i z)
+  bytes-here i z w h q =
+      ap (λ (cs : List ℕ). take 24 cs) (q .rest ∙ row-here i z h)
+      ∙ take-at (row-bytes (getD xs i z)) (rows-bytes (drop (suc i) xs) ++ zs) 24 (length-row (getD xs i z))
+
+  pub rest-here : (i : ℕ) (z : Row) (w : List ℕ) → i < length xs → Closing t k hd xs zs i w → drop (16 + 24 * suc i) w ≡ rows-bytes (drop (suc i) xs) ++ zs
+  rest-here i z w h q =
+      let e : 16 + 24 * suc i ≡ 16 + 24 * i + 24 = omega arith in
+      ap (λ (n : ℕ). drop n w) e
+      ∙ sym (drop-drop 24 (16 + 24 * i) w)
+      ∙ ap (λ (cs : List ℕ). drop 24 cs) (q .rest ∙ row-here i z h)
+      ∙ drop-at (row-bytes (getD xs i z)) (rows-bytes (drop (suc i) xs) ++ zs) 24 (length-row (getD xs i z))
+
+  -- a row that goes: nothing is written, or anything behind the kept rows and not past it
+  pub closing-skip : (i : ℕ) (z : Row) (w v : List ℕ) → i < length xs → Closing t k hd xs zs i w → stays t k (getD xs i z) ≡ false →
+      length v ≡ length w → take (16 + 24 * kept-of t k xs i) v ≡ take (16 + 24 * kept-of t k xs i) w → drop (16 + 24 * suc i) v ≡ drop (16 + 24 * suc i) w →
+      Closing t k hd xs zs (suc i) v
+  closing-skip i z w v h q e a b d =
+      let c : closed t k (take (suc i) xs) ≡ closed t k (take i xs) =
+      closed-next t k xs i z h ∙ ap (λ (ys : List Row). closed t k (take i xs) ++ ys) (closed-no t k (getD xs i z) e) ∙ append-nil (closed t k (take i xs)) in
+      record {
+        ahead = h;
+        long = omega (arith, a, q .long);
+        first = ap (λ (n : ℕ). take (16 + 24 * n) v) (kept-still t k xs i z h e) ∙ b ∙ q .first ∙ ap (λ (ys : List Row). hd ++ rows-bytes ys) (sym c);
+        rest = d ∙ rest-here i z w h q;
+      }
+
+  -- a row that stays: its bytes are copied behind the kept rows
+  pub closing-copy : (i : ℕ) (z : Row) (w v : List ℕ) → i < length xs → Closing t k hd xs zs i w → stays t k (getD xs i z) ≡ true →
+      length v ≡ length w → take (16 + 24 * kept-of t k xs i) v ≡ take (16 + 24 * kept-of t k xs i) w →
+      take 24 (drop (16 + 24 * kept-of t k xs i) v) ≡ take 24 (drop (16 + 24 * i) w) → drop (16 + 24 * suc i) v ≡ drop (16 + 24 * suc i) w →
+      Closing t k hd xs zs (suc i) v
+  closing-copy i z w v h q e a b m d =
+      let x = getD xs i z in
+      let n = kept-of t k xs i in
+      let c : closed t k (take (suc i) xs) ≡ closed t k (take i xs) ++ (x ∷ []) =
+      closed-next t k xs i z h ∙ ap (λ (ys : List Row). closed t k (take i xs) ++ ys) (closed-yes t k x e) in
+      let j : 16 + 24 * kept-of t k xs (suc i) ≡ 16 + 24 * n + 24 = omega (arith, kept-more t k xs i z h e) in
+      record {
+        ahead = h;
+        long = omega (arith, a, q .long);
+        first =
+            ap (λ (l : ℕ). take l v) j
+            ∙ take-add (16 + 24 * n) 24 v
+            ∙ ap₂ (λ (us : List ℕ) (vs : List ℕ). us ++ vs) (b ∙ q .first) (m ∙ bytes-here i z w h q ∙ sym (rows-one x))
+            ∙ append-assoc hd (rows-bytes (closed t k (take i xs))) (rows-bytes (x ∷ []))
+            ∙ ap (λ (cs : List ℕ). hd ++ cs) (sym (rows-append (closed t k (take i xs)) (x ∷ [])))
+            ∙ ap (λ (ys : List Row). hd ++ rows-bytes ys) (sym c);
+        rest = d ∙ rest-here i z w h q;
+      }
+
+  -- the copy as one paste
+  pub closing-paste : (i : ℕ) (z : Row) (w : List ℕ) → i < length xs → Closing t k hd xs zs i w → stays t k (getD xs i z) ≡ true →
+      Closing t k hd xs zs (suc i) (paste w (16 + 24 * kept-of t k xs i) (drop (16 + 24 * i) w) 24)
+  closing-paste i z w h q e =
+      let n = kept-of t k xs i in
+      let l = kept-most t k xs i (q .ahead) in
+      let s = drop (16 + 24 * i) w in
+      let v = paste w (16 + 24 * n) s 24 in
+      let a : 16 + 24 * n ≤ length w = omega (arith, q .long, l, h) in
+      let b : 24 ≤ length s = omega (arith, q .long, h, length-drop (16 + 24 * i) w) in
+      let d : take (16 + 24 * n + 24) v ≡ take (16 + 24 * n) w ++ take 24 s = take-paste w (16 + 24 * n) s 24 a b in
+      let y : length (take (16 + 24 * n) w) ≡ 16 + 24 * n = length-take-le (16 + 24 * n) w a in
+      let g : 16 + 24 * suc i ≡ 16 + 24 * n + 24 + (24 * i - 24 * n) = omega (arith, l) in
+      closing-copy i z w v h q e (length-paste w (16 + 24 * n) s 24 (omega (arith, q .long, l, h)) b)
+      (sym (take-take (16 + 24 * n) (16 + 24 * n + 24) v (omega arith)) ∙ ap (λ (cs : List ℕ). take (16 + 24 * n) cs) d
+      ∙ take-at (take (16 + 24 * n) w) (take 24 s) (16 + 24 * n) y)
+      (pasted n s a b)
+      (ap (λ (m : ℕ). drop m v) g ∙ sym (drop-drop (24 * i - 24 * n) (16 + 24 * n + 24) v)
+      ∙ ap (λ (cs : List ℕ). drop (24 * i - 24 * n) cs) (drop-paste w (16 + 24 * n) s 24 a b)
+      ∙ drop-drop (24 * i - 24 * n) (16 + 24 * n + 24) w ∙ ap (λ (m : ℕ). drop m w) (sym g))
+    where
+      pasted : (n : ℕ) (s : List ℕ) → 16 + 24 * n ≤ length w → 24 ≤ length s → take 24 (drop (16 + 24 * n) (paste w (16 + 24 * n) s 24)) ≡ take 24 s
+      pasted n s a b =
+          ap (λ (cs : List ℕ). take 24 cs) (ap (λ (cs : List ℕ). drop (16 + 24 * n) cs) (append-assoc (take (16 + 24 * n) w) (take 24 s) (drop (16 + 24 * n + 24) w))
+          ∙ drop-at (take (16 + 24 * n) w) (take 24 s ++ drop (16 + 24 * n + 24) w) (16 + 24 * n) (length-take-le (16 + 24 * n) w a))
+          ∙ take-at (take 24 s) (drop (16 + 24 * n + 24) w) 24 (length-take-le 24 s b)
+
+  -- A RUN of m rows that all stay, copied at once
+  pub closing-run : (i m : ℕ) (w v : List ℕ) → i + m ≤ length xs → Closing t k hd xs zs i w → All (λ x. stays t k x ≡ true) (take m (drop i xs)) →
+      length v ≡ length w → take (16 + 24 * kept-of t k xs i) v ≡ take (16 + 24 * kept-of t k xs i) w →
+      take (24 * m) (drop (16 + 24 * kept-of t k xs i) v) ≡ take (24 * m) (drop (16 + 24 * i) w) → drop (16 + 24 * (i + m)) v ≡ drop (16 + 24 * (i + m)) w →
+      (kept-of t k xs (i + m) ≡ kept-of t k xs i + m) × Closing t k hd xs zs (i + m) v
+  closing-run i m w v h q e a b c d =
+      let n = kept-of t k xs i in
+      let ys = take m (drop i xs) in
+      let g : closed t k (take (i + m) xs) ≡ closed t k (take i xs) ++ ys =
+      ap (closed t k) (take-add i m xs) ∙ closed-append t k (take i xs) ys ∙ ap (λ (us : List Row). closed t k (take i xs) ++ us) (closed-stays t k ys e) in
+      let y : length ys ≡ m = length-take-le m (drop i xs) (omega (arith, h, length-drop i xs)) in
+      let u : kept-of t k xs (i + m) ≡ n + m = omega (arith, ap length g, length-append (closed t k (take i xs)) ys, y) in
+      let j : 16 + 24 * kept-of t k xs (i + m) ≡ 16 + 24 * n + 24 * m = omega (arith, u) in
+      let p : 16 + 24 * (i + m) ≡ 16 + 24 * i + 24 * m = omega arith in (
+        u,
+        record {
+          ahead = h;
+          long = omega (arith, a, q .long);
+          first =
+              ap (λ (l : ℕ). take l v) j
+              ∙ take-add (16 + 24 * n) (24 * m) v
+              ∙ ap₂ (λ (us : List ℕ) (vs : List ℕ). us ++ vs) (b ∙ q .first)
+              (c ∙ ap (λ (cs : List ℕ). take (24 * m) cs) (q .rest) ∙ rows-take (drop i xs) m zs (omega (arith, h, length-drop i xs)))
+              ∙ append-assoc hd (rows-bytes (closed t k (take i xs))) (rows-bytes ys)
+              ∙ ap (λ (cs : List ℕ). hd ++ cs) (sym (rows-append (closed t k (take i xs)) ys))
+              ∙ ap (λ (us : List Row). hd ++ rows-bytes us) (sym g);
+          rest =
+              d
+              ∙ ap (λ (l : ℕ). drop l w) p
+              ∙ sym (drop-drop (24 * m) (16 + 24 * i) w)
+              ∙ ap (λ (cs : List ℕ). drop (24 * m) cs) (q .rest)
+              ∙ rows-drop (drop i xs) m zs (omega (arith, h, length-drop i xs))
+              ∙ ap (λ (us : List Row). rows-bytes us ++ zs) (drop-drop m i xs);
+        },
+      )
+
+  pub closing-run-paste : (i m : ℕ) (w : List ℕ) → i + m ≤ length xs → Closing t k hd xs zs i w → All (λ x. stays t k x ≡ true) (take m (drop i xs)) →
+      (kept-of t k xs (i + m) ≡ kept-of t k xs i + m)
+      × Closing t k hd xs zs (i + m) (paste w (16 + 24 * kept-of t k xs i) (drop (16 + 24 * i) w) (24 * m))
+  closing-run-paste i m w h q e =
+      let n = kept-of t k xs i in
+      let l = kept-most t k xs i (q .ahead) in
+      let s = drop (16 + 24 * i) w in
+      let v = paste w (16 + 24 * n) s (24 * m) in
+      let a : 16 + 24 * n ≤ length w = omega (arith, q .long, l, h) in
+      let b : 24 * m ≤ length s = omega (arith, q .long, h, length-drop (16 + 24 * i) w) in
+      let d : take (16 + 24 * n + 24 * m) v ≡ take (16 + 24 * n) w ++ take (24 * m) s = take-paste w (16 + 24 * n) s (24 * m) a b in
+      let y : length (take (16 + 24 * n) w) ≡ 16 + 24 * n = length-take-le (16 + 24 * n) w a in
+      let g : 16 + 24 * (i + m) ≡ 16 + 24 * n + 24 * m + (24 * i - 24 * n) = omega (arith, l) in
+      closing-run i m w v h q e (length-paste w (16 + 24 * n) s (24 * m) (omega (arith, q .long, l, h)) b)
+      (sym (take-take (16 + 24 * n) (16 + 24 * n + 24 * m) v (omega arith)) ∙ ap (λ (cs : List ℕ). take (16 + 24 * n) cs) d
+      ∙ take-at (take (16 + 24 * n) w) (take (24 * m) s) (16 + 24 * n) y)
+      (pasted n s a b)
+      (ap (λ (o : ℕ). drop o v) g ∙ sym (drop-drop (24 * i - 24 * n) (16 + 24 * n + 24 * m) v)
+      ∙ ap (λ (cs : List ℕ). drop (24 * i - 24 * n) cs) (drop-paste w (16 + 24 * n) s (24 * m) a b)
+      ∙ drop-drop (24 * i - 24 * n) (16 + 24 * n + 24 * m) w ∙ ap (λ (o : ℕ). drop o w) (sym g))
+    where
+      pasted : (n : ℕ) (s : List ℕ) → 16 + 24 * n ≤ length w → 24 * m ≤ length s →
+          take (24 * m) (drop (16 + 24 * n) (paste w (16 + 24 * n) s (24 * m))) ≡ take (24 * m) s
+      pasted n s a b =
+          ap (λ (cs : List ℕ). take (24 * m) cs)
+          (ap (λ (cs : List ℕ). drop (16 + 24 * n) cs) (append-assoc (take (16 + 24 * n) w) (take (24 * m) s) (drop (16 + 24 * n + 24 * m) w))
+          ∙ drop-at (take (16 + 24 * n) w) (take (24 * m) s ++ drop (16 + 24 * n + 24 * m) w) (16 + 24 * n) (length-take-le (16 + 24 * n) w a))
+          ∙ take-at (take (24 * m) s) (drop (16 + 24 * n + 24 * m) w) (24 * m) (length-take-le (24 * m) s b)
+
+  -- at the end
+  pub closing-rows : (w : List ℕ) → length hd ≡ 16 → Closing t k hd xs zs (length xs) w →
+      (kept-of t k xs (length xs) ≡ length (closed t k xs)) × (take (16 + 24 * length (closed t k xs)) w ≡ hd ++ rows-bytes (closed t k xs))
+  closing-rows w e q =
+      let a : closed t k (take (length xs) xs) ≡ closed t k xs = ap (closed t k) (take-length xs) in
+      (ap length a, ap (λ (n : ℕ). take (16 + 24 * n) w) (sym (ap length a)) ∙ q .first ∙ ap (λ (ys : List Row). hd ++ rows-bytes ys) a)
+
+-- THE TABLE AFTER: a new head, the rows closed up, zeros
+pub closing-table : (t l n room s k : ℕ) (hd : List ℕ) (xs : List Row) (zs w : List ℕ) → length hd ≡ 16 → Closing s k hd xs zs (length xs) w →
+    table (round t l n room (closed s k xs))
+    ≡ head-bytes t l n (length (closed s k xs)) ++ (drop 16 (take (16 + 24 * length (closed s k xs)) w) ++ replicate (24 * (room - length (closed s k xs))) 0)
+closing-table t l n room s k hd xs zs w e q =
+    let ys = closed s k xs in
+    table-is t l n room ys
+    ∙ ap (λ (bs : List ℕ). head-bytes t l n (length ys) ++ (bs ++ replicate (24 * (room - length ys)) 0))
+    (sym (ap (λ (bs : List ℕ). drop 16 bs) (closing-rows s k hd xs zs w e q .1) ∙ drop-at hd (rows-bytes ys) 16 e))

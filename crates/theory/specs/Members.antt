@@ -1,0 +1,157 @@
+-- The plan's members by the rows that a computation has: each is a blank or one of these. Assumes nothing.
+use mathlib.Core.Path.{_≡_, refl, sym, ap, _∙_, subst}
+use mathlib.Core.Logic.{_⊎_, inl, inr}
+use mathlib.Core.Bool.{Bool, true, false, true≢false}
+use mathlib.Core.List.{List, [], _∷_}
+use Prim.Native.Nat.{ℕ, _≤_}
+use native.Mathlib.Omega.{arith}
+use Rattle.rules.specs.Rows.{Row, Round, blank, heavier, sorted, canonical, chosen, rows-only, All, In, Heavier}
+use Rattle.rules.specs.Plan.{plan, in-plan, total, total-weight, planned, listed}
+use Rattle.theory.specs.Tests.{eqb?}
+use Rattle.theory.specs.Sum.{total-sum}
+use Rattle.theory.specs.All.{all-in, all-append, all-sorted, all-kept}
+use Rattle.theory.specs.Full.{Fine, Row-fine, blanks, pool}
+use Rattle.theory.specs.Change.{rising-same, all-of-in, in-sum}
+use Rattle.theory.specs.Times.{ticks}
+use Rattle.theory.specs.Back.{all-blanks}
+use Rattle.theory.specs.Order.{Not-over, heavier?, over-absurd}
+use Rattle.theory.specs.Same.{Same, in-plan?, with-tick, tick-self, row-ticket, planned-same, planned-in, chosen-in, planned-weighs, sorted-same, plan-rows-in}
+use Rattle.theory.specs.Unique.{Certified, certified-rows}
+
+abbrev pub Is-blank : Row → Type 0
+Is-blank x = x ≡ blank (x .due)
+
+pub blank-ticket : (x : Row) → Is-blank x → x .ticket ≡ 0
+unfolding blank
+blank-ticket x e = ap (λ (y : Row). y .ticket) e
+
+pub blank-weight : (x : Row) → Is-blank x → x .weight ≡ 0
+unfolding blank
+blank-weight x e = ap (λ (y : Row). y .weight) e
+
+pub blank-is : (s : ℕ) → Is-blank (blank s)
+unfolding blank
+blank-is s = refl
+
+pub blank-due : (s : ℕ) → blank s .due ≡ s
+unfolding blank
+blank-due s = refl
+
+pub plan-members : (r : Round) → All (λ x. Is-blank x ⊎ In x (r .rows)) (plan r)
+unfolding plan
+plan-members r =
+    all-kept (λ x. Is-blank x ⊎ In x (r .rows)) r (pool r) []
+    (all-append (λ x. Is-blank x ⊎ In x (r .rows)) (sorted heavier (r .rows)) (blanks r)
+    (all-sorted (λ x. Is-blank x ⊎ In x (r .rows)) heavier (r .rows) (all-of-in (λ x. Is-blank x ⊎ In x (r .rows)) (r .rows) (λ x i. inr i)))
+    (all-blanks (λ x. Is-blank x ⊎ In x (r .rows)) (λ s. inl (blank-is s)) _ _ _))
+    tt
+
+pub in-rows-only : (x : Row) (xs : List Row) → 1 ≤ x .ticket → In x xs → In x (rows-only xs)
+unfolding rows-only
+in-rows-only x [] h i = i
+in-rows-only x (y ∷ ys) h (inl e) = elim (eqb? (y .ticket) 0) [
+  | inl k ↦ absurd (omega (arith, h, k .1, ap (λ (z : Row). z .ticket) e))
+  | inr k ↦ rw (k .0) (inl e)
+]
+in-rows-only x (y ∷ ys) h (inr i) = elim (eqb? (y .ticket) 0) [
+  | inl k ↦ rw (k .0) (in-rows-only x ys h i)
+  | inr k ↦ rw (k .0) (inr (in-rows-only x ys h i))
+]
+
+pub rows-only-in : (x : Row) (xs : List Row) → In x (rows-only xs) → In x xs
+unfolding rows-only
+rows-only-in x [] i = i
+rows-only-in x (y ∷ ys) i = elim (eqb? (y .ticket) 0) [
+  | inl k ↦ inr (rows-only-in x ys (rw (k .0) at i))
+  | inr k ↦ elim (the-case (rw (k .0) at i)) [ inl e ↦ inl e | inr j ↦ inr (rows-only-in x ys j) ]
+]
+  where
+    the-case : In x (y ∷ rows-only ys) → (x ≡ y) ⊎ In x (rows-only ys)
+    the-case j = j
+
+-- the order, from its test
+pub heavier-yes : (a b : Row) → heavier a b ≡ true → Heavier a b
+heavier-yes a b e = elim (heavier? a b) [ inl h ↦ h .1 | inr h ↦ absurd (true≢false (sym e ∙ h .0)) ]
+
+pub heavier-no : (a b : Row) → heavier a b ≡ false → Not-over a b
+heavier-no a b e = elim (heavier? a b) [ inl h ↦ absurd (true≢false (sym (h .0) ∙ e)) | inr h ↦ h .1 ]
+
+pub over-heavier : (a b : Row) → Heavier a b → heavier a b ≡ true
+over-heavier a b o = elim (heavier? a b) [ inl h ↦ h .0 | inr h ↦ absurd (over-absurd a b o (h .1)) ]
+
+pub not-over-heavier : (a b : Row) → Not-over a b → heavier a b ≡ false
+not-over-heavier a b o = elim (heavier? a b) [ inl h ↦ absurd (over-absurd a b (h .1) o) | inr h ↦ h .0 ]
+
+-- THE ROWS that a computation found: the plan's, in any order
+pub record Rows (r : Round) (rs : List Row) : Type 0 where
+  pub same : Same (rows-only (plan r)) rs
+  pub waiting : All (λ y. In y (r .rows)) rs
+
+pub planned-rows : (r : Round) → Fine r → Rows r (planned r)
+planned-rows r f = record { same = planned-same r f; waiting = planned-in r }
+
+pub certified-found : (r : Round) → Fine r → (fs : List Bool) → Certified r fs → Rows r (chosen fs (r .rows))
+certified-found r f fs c = record { same = certified-rows r f fs c; waiting = chosen-in fs (r .rows) }
+
+module _ (r : Round) (f : Fine r) (rs : List Row) (c : Rows r rs) where
+  pub of-rows-in : (x : Row) → In x rs → In x (r .rows)
+  of-rows-in x i = all-in (λ y. In y (r .rows)) x rs (c .waiting) i
+
+  pub of-rows-ticket : (x : Row) → In x rs → 1 ≤ x .ticket
+  of-rows-ticket x i = all-in (λ y. 1 ≤ y .ticket) x (r .rows) (row-ticket r f) (of-rows-in x i)
+
+  pub of-rows-fine : (x : Row) → In x rs → Row-fine r x
+  of-rows-fine x i = all-in (Row-fine r) x (r .rows) (f .fine) (of-rows-in x i)
+
+  -- a member with a ticket is one of them
+  pub member-found : (x : Row) → In x (plan r) → 1 ≤ x .ticket → In x rs
+  member-found x i t =
+      let j : In x (r .rows) = elim (all-in (λ x. Is-blank x ⊎ In x (r .rows)) x (plan r) (plan-members r) i) [
+        | inl a ↦ absurd (omega (arith, t, blank-ticket x a))
+        | inr a ↦ a
+      ] in
+      let w = with-tick (x .ticket) rs (omega (arith, c .same (ticks (x .ticket)), tick-self x, in-sum (ticks (x .ticket)) x (rows-only (plan r)) (in-rows-only x (plan r) t i))) in
+      subst (λ (z : Row). In z rs) (rising-same 1 (r .next) (w .0) x (r .rows) (f .rising) (of-rows-in (w .0) (w .1)) j (w .2)) (w .1)
+
+  pub found-member : (x : Row) → In x rs → In x (plan r)
+  found-member x i =
+      let w = with-tick (x .ticket) (rows-only (plan r)) (omega (arith, c .same (ticks (x .ticket)), tick-self x, in-sum (ticks (x .ticket)) x rs i)) in
+      let j = rows-only-in (w .0) (plan r) (w .1) in
+      let k : In (w .0) (r .rows) = elim (all-in (λ x. Is-blank x ⊎ In x (r .rows)) (w .0) (plan r) (plan-members r) j) [
+        | inl a ↦ absurd (omega (arith, w .2, of-rows-ticket x i, blank-ticket (w .0) a))
+        | inr a ↦ a
+      ] in
+      subst (λ (z : Row). In z (plan r)) (rising-same 1 (r .next) (w .0) x (r .rows) (f .rising) k (of-rows-in x i) (w .2)) j
+
+  -- A MEMBER is a blank or one of the rows
+  pub member? : (x : Row) → In x (plan r) → Is-blank x ⊎ In x rs
+  member? x i = elim (all-in (λ x. Is-blank x ⊎ In x (r .rows)) x (plan r) (plan-members r) i) [
+    | inl a ↦ inl a
+    | inr a ↦ inr (member-found x i (all-in (λ y. 1 ≤ y .ticket) x (r .rows) (row-ticket r f) a))
+  ]
+
+  pub in-plan-is : (x : Row) → In x (r .rows) → in-plan x (plan r) ≡ in-plan x rs
+  in-plan-is x i =
+      let t = all-in (λ y. 1 ≤ y .ticket) x (r .rows) (row-ticket r f) i in
+      elim (in-plan? x (plan r)) [
+        | inl a ↦ elim (in-plan? x rs) [
+          | inl b ↦ a .0 ∙ sym (b .0)
+          | inr b ↦ absurd (b .1 (a .1 .0) (member-found (a .1 .0) (a .1 .1) (omega (arith, t, a .1 .2))) (sym (a .1 .2)))
+        ]
+        | inr a ↦ elim (in-plan? x rs) [
+          | inl b ↦ absurd (a .1 (b .1 .0) (found-member (b .1 .0) (b .1 .1)) (sym (b .1 .2)))
+          | inr b ↦ a .0 ∙ sym (b .0)
+        ]
+      ]
+
+  pub not-found : (x : Row) → In x (r .rows) → in-plan x rs ≡ false → In x rs → ⊥
+  not-found x i n j = elim (in-plan? x rs) [ inl a ↦ true≢false (sym (a .0) ∙ n) | inr a ↦ a .1 x j refl ]
+
+  -- THE TOTAL AND THE LIST by them
+  pub found-total : total r ≡ total-weight rs
+  found-total =
+      omega (arith, planned-weighs r f, total-sum (planned r), total-sum rs, planned-same r f (λ x. x .weight), c .same (λ x. x .weight))
+
+  pub found-listed : listed r ≡ sorted canonical rs
+  unfolding listed
+  found-listed = sorted-same (r .rows) 1 (r .next) (f .rising) (rows-only (plan r)) rs (plan-rows-in r f) (c .waiting) (c .same)

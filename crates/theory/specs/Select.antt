@@ -1,0 +1,179 @@
+-- Full selections of rows and blanks, certified by their next tight slots, have the plan's rows. Assumes nothing.
+use mathlib.Core.Path.{_≡_, refl, sym, ap, ap₂, _∙_, subst}
+use mathlib.Core.Logic.{_⊎_, inl, inr, _≢_}
+use mathlib.Core.Bool.{Bool, true, false, _&&_, _||_, not, cond, true≢false, false≢true}
+use mathlib.Core.List.{List, [], _∷_, _++_}
+use Prim.Native.Nat.{ℕ, zero, suc, _+_, _*_, _-_, _≤_, _<_}
+use native.Mathlib.Omega.{arith}
+use lib.Dec.{ltb, leb, eqb}
+use borrow.Author.Tests.{eq-eqb, ne-eqb}
+use lib.ListN.{length}
+use Rattle.rules.specs.Rows.{Row, Round, heavier, slots-left, chosen, rows-only, All, In}
+use Rattle.rules.specs.Plan.{due-by, feasible, plan, same-row, in-plan, tight-after}
+use Rattle.theory.specs.Tests.{either, leb?, ltb?, eqb?}
+use Rattle.theory.specs.Sum.{sum, sum-le}
+use Rattle.theory.specs.All.{all-map, all-in}
+use Rattle.theory.specs.Feas.{below, num, below-yes, below-late, due-below, Feas, feas-yes, feas-made}
+use Rattle.theory.specs.Full.{Fine, Row-fine, Rising, plan-feas, plan-full, plan-due}
+use Rattle.theory.specs.Marks.{Next, next}
+use Rattle.theory.specs.Change.{Member, plan-rows, row-outside, not-in-plan, rising-above, all-of-in, in-sum}
+use Rattle.theory.specs.Times.{ticks, sum-rows-only, all-rows-only}
+use Rattle.theory.specs.Order.{heavier?, over-absurd, over-light, within, from-row, outside-by-order}
+use Rattle.theory.specs.Same.{in-plan?, of-plan, of-yes, of-no, row-ticket, tick-self, tick-once, sum-none, sum-of-rows, not-over-both}
+use Rattle.theory.specs.Unique.{Left-out, in-plan-other, in-plan-self, rising-other, not-there, plan-selected, within-below, all-within}
+
+-- A FULL SELECTION: rows, each at most once, and blanks, feasible and filling every slot; a row left out is lighter than every member due by its next tight slot
+pub record Selection (r : Round) (ps : List Row) : Type 0 where
+  pub members : All (λ y. (r .slot ≤ y .due) × Member r y) ps
+  pub once : (k : ℕ) → 1 ≤ k → sum (ticks k) ps ≤ 1
+  pub fits : feasible r ps ≡ true
+  pub full : due-by (r .last) ps ≡ slots-left r
+  pub out : (x : Row) → In x (r .rows) → in-plan x ps ≡ false → All (λ y. y .due ≤ tight-after r ps (x .due) → heavier y x ≡ true) ps
+
+-- the rows of a list, each once, are the rows with a ticket in it
+pub of-same : (x : Row) (rs : List Row) (μ : Row → ℕ) (ys : List Row) → All (λ y. x .ticket ≢ y .ticket) ys → sum (of-plan (x ∷ rs) μ) ys ≡ sum (of-plan rs μ) ys
+unfolding of-plan
+of-same x rs μ [] a = refl
+of-same x rs μ (y ∷ ys) a = rw (in-plan-other y x rs (a .0)) (omega (arith, of-same x rs μ ys (a .1)))
+
+pub of-more : (a b : ℕ) (x : Row) (rs : List Row) (μ : Row → ℕ) → 1 ≤ x .ticket → in-plan x rs ≡ false → (ys : List Row) → Rising a b ys → In x ys →
+    sum (of-plan (x ∷ rs) μ) ys ≡ sum (of-plan rs μ) ys + μ x
+of-more a b x rs μ t n [] s i = absurd i
+of-more a b x rs μ t n (y ∷ ys) s (inl e) =
+    let k : All (λ z. x .ticket ≢ z .ticket) ys =
+    subst (λ (v : Row). All (λ z. v .ticket ≢ z .ticket) ys) (sym e) (rising-other b y ys (s .1)) in
+    omega (arith, of-same x rs μ ys k, subst (λ (v : Row). of-plan (x ∷ rs) μ v ≡ μ x) e (of-yes (x ∷ rs) μ x t (in-plan-self x rs)), subst (λ (v : Row). of-plan rs μ v ≡ 0) e (of-no rs μ x n))
+of-more a b x rs μ t n (y ∷ ys) s (inr i) =
+    let h = rising-above (suc (y .ticket)) b x ys (s .1) i in
+    omega (arith, of-more (suc (y .ticket)) b x rs μ t n ys (s .1) i, of-same x rs μ (y ∷ []) (λ e. omega (arith, e, h), tt))
+
+pub of-all : (r : Round) → Fine r → (rs : List Row) → All (λ y. In y (r .rows)) rs → ((k : ℕ) → 1 ≤ k → sum (ticks k) rs ≤ 1) → (μ : Row → ℕ) →
+    sum (of-plan rs μ) (r .rows) ≡ sum μ rs
+of-all r f [] i o μ =
+    sum-none (of-plan [] μ) (r .rows) (all-of-in (λ x. of-plan [] μ x ≡ 0) (r .rows) (λ x _. of-no [] μ x (not-there x [] tt)))
+of-all r f (x ∷ rs) i o μ =
+    let t = all-in (λ x. 1 ≤ x .ticket) x (r .rows) (row-ticket r f) (i .0) in
+    omega (
+      arith,
+      of-all r f rs (i .1) (λ k h. omega (arith, o k h)) μ,
+      of-more 1 (r .next) x rs μ t
+          (not-there x rs (all-of-in (λ y. x .ticket ≢ y .ticket) rs (λ y j e. omega (
+            arith,
+            o (x .ticket) t,
+            tick-self x,
+            subst (λ (z : ℕ). ticks z y ≡ 1) (sym e) (tick-self y),
+            in-sum (ticks (x .ticket)) y rs j,
+          ))))
+          (r .rows) (f .rising) (i .0),
+    )
+
+-- a row with a ticket, in a list and in its rows
+pub in-rows : (x : Row) → 1 ≤ x .ticket → (ps : List Row) → in-plan x (rows-only ps) ≡ in-plan x ps
+unfolding rows-only in-plan same-row
+in-rows x t [] = refl
+in-rows x t (p ∷ ps) = elim (eqb? (p .ticket) 0) [
+  | inl h ↦ rw (h .0) (in-rows x t ps ∙ sym (in-plan-other x p ps (λ e. omega (arith, e, h .1))))
+  | inr h ↦ rw (h .0) (both (in-rows x t ps))
+]
+  where
+    both : in-plan x (rows-only ps) ≡ in-plan x ps → in-plan x (p ∷ rows-only ps) ≡ in-plan x (p ∷ ps)
+    both e = ap (λ (b : Bool). same-row x p || b) e
+
+module _ (r : Round) (f : Fine r) (ps : List Row) (c : Selection r ps) where
+  pub selection-in : All (λ y. In y (r .rows)) (rows-only ps)
+  selection-in =
+      all-map {Q = λ y. In y (r .rows)}
+      (λ y (h : (1 ≤ y .ticket) × ((r .slot ≤ y .due) × Member r y)). elim (h .1 .1) [ inl a ↦ absurd (omega (arith, h .0, a .1)) | inr a ↦ a ])
+      (rows-only ps) (all-rows-only (λ y. (r .slot ≤ y .due) × Member r y) ps (c .members))
+
+  pub selection-feas : Feas r ps
+  selection-feas =
+      feas-yes r ps (c .fits) (all-map {Q = λ y. r .slot ≤ y .due} (λ y (h : (r .slot ≤ y .due) × Member r y). h .0) ps (c .members))
+
+  -- the certificate of the rows alone
+  pub selection-out : (x : Row) → In x (r .rows) → in-plan x (rows-only ps) ≡ false → Left-out r (rows-only ps) x
+  unfolding slots-left
+  selection-out x i n =
+      let g = all-in (Row-fine r) x (r .rows) (f .fine) i in
+      let t = all-in (λ x. 1 ≤ x .ticket) x (r .rows) (row-ticket r f) i in
+      let z = tight-after r ps (x .due) in
+      let k = next r ps (x .due) (g .1) (omega (arith, c .full, due-below (r .last) ps)) in
+      let o = c .out x i (sym (in-rows x t ps) ∙ n) in
+      record {
+        at = z;
+        from = k .from;
+        by = k .by;
+        full = omega (
+          arith,
+          due-below z (rows-only ps),
+          k .tight,
+          sum-of-rows (below 0 (suc z)) ps (all-of-in (λ y. y .ticket ≡ 0 → below 0 (suc z) y ≡ 0) ps (λ y j e.
+              elim (leb? (y .due) z) [
+                | inl l ↦ elim (all-in (λ y. (r .slot ≤ y .due) × Member r y) y ps (c .members) j .1) [
+                  | inl a ↦ absurd (light y (a .0) (g .2) (all-in (λ y. y .due ≤ z → heavier y x ≡ true) y ps o j (l .1)))
+                  | inr a ↦ absurd (omega (arith, e, all-in (λ x. 1 ≤ x .ticket) y (r .rows) (row-ticket r f) a))
+                ]
+                | inr l ↦ below-late 0 (suc z) y (l .1)
+              ])),
+        );
+        heavy = all-map {Q = λ y. y .due ≤ z → heavier y x ≡ true} (λ y (h : (1 ≤ y .ticket) × (y .due ≤ z → heavier y x ≡ true)). h .1) (rows-only ps)
+            (all-rows-only (λ y. y .due ≤ z → heavier y x ≡ true) ps o);
+      }
+    where
+      light : (y : Row) → y .weight ≤ 0 → 1 ≤ x .weight → heavier y x ≡ true → ⊥
+      light y h k e = elim (heavier? y x) [
+        | inl a ↦ over-absurd y x (a .1) (inl (omega (arith, h, k)))
+        | inr a ↦ true≢false (sym e ∙ a .0)
+      ]
+
+  -- A FULL SELECTION HAS THE PLAN'S ROWS
+  pub selection-plan : (x : Row) → In x (r .rows) → in-plan x (plan r) ≡ in-plan x ps
+  selection-plan x i =
+      plan-selected r f (rows-only ps) selection-in (λ e h k. omega (arith, selection-feas e h k, sum-rows-only (below 0 e) ps)) selection-out
+      (of-all r f (rows-only ps) selection-in (λ k h. omega (arith, c .once k h, sum-rows-only (ticks k) ps))) x i
+      ∙ in-rows x (all-in (λ x. 1 ≤ x .ticket) x (r .rows) (row-ticket r f) i) ps
+
+-- two have the same rows
+pub selections-same : (r : Round) → Fine r → (ps qs : List Row) → Selection r ps → Selection r qs → (x : Row) → In x (r .rows) → in-plan x ps ≡ in-plan x qs
+selections-same r f ps qs c d x i = sym (selection-plan r f ps c x i) ∙ selection-plan r f qs d x i
+
+-- and the plan is one
+pub plan-selection : (r : Round) → Fine r → Selection r (plan r)
+unfolding slots-left
+plan-selection r f =
+    record {
+      members = all-of-in (λ y. (r .slot ≤ y .due) × Member r y) (plan r) (λ y i. (
+        all-in (λ x. (r .slot ≤ x .due) × (x .due ≤ r .last)) y (plan r) (plan-due r f) i .0,
+        all-in (Member r) y (plan r) (plan-rows r) i,
+      ));
+      once = λ k h. omega (arith, tick-once r f k h);
+      fits = feas-made r (plan r) (plan-feas r f);
+      full = omega (arith, due-below (r .last) (plan r), plan-full r f);
+      out = λ x i n. lighter x i n;
+    }
+  where
+    lighter : (x : Row) → In x (r .rows) → in-plan x (plan r) ≡ false → All (λ y. y .due ≤ tight-after r (plan r) (x .due) → heavier y x ≡ true) (plan r)
+    lighter x i n =
+        let g = all-in (Row-fine r) x (r .rows) (f .fine) i in
+        let b = outside-by-order r f x (g .2) (row-outside r x i n) in
+        let e = b .0 in
+        let z : suc (e - 1) ≡ e = omega (arith, b .1) in
+        let k : num 0 e (plan r) ≤ e - r .slot = plan-feas r f e (omega (arith, b .1, g .0)) (b .2) in
+        let t : num 0 e (plan r) ≡ e - r .slot = omega (arith, k, b .3, sum-le (within (from-row x) e) (below 0 e) (within-below (from-row x) e) (plan r)) in
+        let q = next r (plan r) (x .due) (g .1) (plan-full r f) in
+        let m : tight-after r (plan r) (x .due) ≤ e - 1 = elim (leb? (tight-after r (plan r) (x .due)) (e - 1)) [
+          | inl h ↦ h .1
+          | inr h ↦ absurd (q .first (e - 1) (omega (arith, b .1)) (h .1) (omega (arith, t, z, ap (λ v. num 0 v (plan r)) z)))
+        ] in
+        all-of-in (λ y. y .due ≤ tight-after r (plan r) (x .due) → heavier y x ≡ true) (plan r) (λ y j h.
+        over y j (all-in (λ y. y .due < e → from-row x y ≡ true) y (plan r) (all-within (from-row x) e (plan r) (omega (arith, k, b .3))) j (omega (arith, h, m, z))))
+      where
+        over : (y : Row) → In y (plan r) → from-row x y ≡ true → heavier y x ≡ true
+        over y j h =
+            elim (heavier? y x) [
+              | inl a ↦ a .0
+              | inr a ↦ elim (heavier? x y) [
+                | inl b ↦ let q : false ≡ true = (rw (b .0) at h) in absurd (false≢true q)
+                | inr b ↦ absurd (not-in-plan x (plan r) n y j (not-over-both x y (b .1) (a .1)))
+              ]
+            ]

@@ -1,0 +1,330 @@
+-- Going out in time: slots for a feasible set, and a set with slots is feasible; the plan is best. Assumes nothing.
+use mathlib.Core.Path.{_≡_, refl, sym, ap, _∙_, subst}
+use mathlib.Core.Logic.{_⊎_, inl, inr, _≢_}
+use mathlib.Core.Bool.{Bool, true, false, _&&_, _||_, not, cond, true≢false, false≢true}
+use mathlib.Core.List.{List, [], _∷_, _++_}
+use Prim.Native.Nat.{ℕ, zero, suc, _+_, _*_, _-_, _≤_, _<_, min, max}
+use native.Mathlib.Omega.{arith}
+use lib.Dec.{ltb, leb, eqb}
+use borrow.Author.Tests.{ltb-true, ltb-false, leb-true, leb-false, eqb-true, eqb-false, le-leb, lt-ltb, le-ltb, eq-eqb, ne-eqb}
+use lib.ListN.{length, replicate}
+use Rattle.rules.specs.Rows.{Row, Round, chosen, rows-only, All, In}
+use Rattle.rules.specs.Plan.{plan, total, total-weight}
+use Rattle.theory.specs.Tests.{either, leb?, ltb?, eqb?, and-true, not-true′, pick, one-if}
+use Rattle.theory.specs.Sum.{sum, sum-append, sum-chosen, sum-le}
+use Rattle.theory.specs.All.{all-map, all-in, all-append}
+use Rattle.theory.specs.Feas.{below, below?, num, below-yes, below-late, num-mono, Feas}
+use Rattle.theory.specs.Full.{Fine, Row-fine, Rising, blanks, outside, plan-feas, plan-sum, plan-due}
+use Rattle.theory.specs.Change.{Member, plan-rows, rising-above, in-sum, ticketless, all-of-in}
+use Rattle.theory.specs.Totals.{best-weight}
+use Rattle.theory.specs.Calls.{begun-fine}
+
+-- MISSING begun from Promise
+-- MISSING member from Promise
+-- MISSING in-time from Promise
+-- MISSING Plan-best from Promise
+
+-- SLOTS, NO TWO THE SAME
+abbrev pub Each : (ℕ → Type 0) → List ℕ → Type 0
+Each P [] = Unit {0}
+Each P (s ∷ ss) = P s × Each P ss
+
+abbrev pub Distinct : List ℕ → Type 0
+Distinct [] = Unit {0}
+Distinct (s ∷ ss) = (member s ss ≡ false) × Distinct ss
+
+-- how many are v; how many are before e
+unfoldable pub is : (v s : ℕ) → ℕ
+is v s = one-if (eqb s v)
+
+pub is? : (v s : ℕ) → ((is v s ≡ 1) × (s ≡ v)) ⊎ ((is v s ≡ 0) × (s ≢ v))
+unfolding is
+is? v s = elim (eqb? s v) [ inl a ↦ inl (rw (a .0), a .1) | inr a ↦ inr (rw (a .0), a .1) ]
+
+unfoldable pub lt : (e s : ℕ) → ℕ
+lt e s = one-if (ltb s e)
+
+pub lt? : (e s : ℕ) → ((lt e s ≡ 1) × (s < e)) ⊎ ((lt e s ≡ 0) × (e ≤ s))
+unfolding lt
+lt? e s = elim (ltb? s e) [ inl a ↦ inl (rw (a .0), a .1) | inr a ↦ inr (rw (a .0), a .1) ]
+
+abbrev pub tally : (ℕ → ℕ) → List ℕ → ℕ
+tally μ [] = 0
+tally μ (s ∷ ss) = μ s + tally μ ss
+
+pub absent : (v : ℕ) (ss : List ℕ) → member v ss ≡ false → tally (is v) ss ≡ 0
+unfolding member
+absent v [] e = refl
+absent v (s ∷ ss) e =
+    elim (eqb? s v) [
+      | inl a ↦ let z : true ≡ false = (rw (a .0) at e) in absurd (true≢false z)
+      | inr a ↦ elim (is? v s) [
+        | inl b ↦ absurd (a .1 (b .1))
+        | inr b ↦ omega (arith, absent v ss (rw (a .0) at e))
+      ]
+    ]
+
+pub once : (v : ℕ) (ss : List ℕ) → Distinct ss → tally (is v) ss ≤ 1
+once v [] d = omega arith
+once v (s ∷ ss) d =
+    elim (is? v s) [
+      | inl a ↦ omega (arith, absent v ss (subst (λ (x : ℕ). member x ss ≡ false) (a .1) (d .0)))
+      | inr a ↦ omega (arith, once v ss (d .1))
+    ]
+
+pub tally-suc : (e : ℕ) (ss : List ℕ) → tally (lt (suc e)) ss ≡ tally (lt e) ss + tally (is e) ss
+tally-suc e [] = refl
+tally-suc e (s ∷ ss) =
+    elim (lt? (suc e) s) [
+      | inl a ↦ elim (lt? e s) [
+        | inl b ↦ elim (is? e s) [ inl c ↦ absurd (omega arith) | inr c ↦ omega (arith, tally-suc e ss) ]
+        | inr b ↦ elim (is? e s) [ inl c ↦ omega (arith, tally-suc e ss) | inr c ↦ absurd (omega arith) ]
+      ]
+      | inr a ↦ elim (lt? e s) [
+        | inl b ↦ absurd (omega arith)
+        | inr b ↦ elim (is? e s) [ inl c ↦ absurd (omega arith) | inr c ↦ omega (arith, tally-suc e ss) ]
+      ]
+    ]
+
+pub tally-none : (t : ℕ) (ss : List ℕ) → Each (λ s. t ≤ s) ss → tally (lt t) ss ≡ 0
+tally-none t [] a = refl
+tally-none t (s ∷ ss) a = elim (lt? t s) [ inl b ↦ absurd (omega (arith, a .0)) | inr b ↦ omega (arith, tally-none t ss (a .1)) ]
+
+pub few : (t n : ℕ) (ss : List ℕ) → Distinct ss → Each (λ s. t ≤ s) ss → tally (lt (t + n)) ss ≤ n
+few t zero ss d a =
+    let z : t + 0 ≡ t = omega arith in rw z (omega (arith, tally-none t ss a))
+few t (suc n) ss d a =
+    let z : t + suc n ≡ suc (t + n) = omega arith in rw z (omega (arith, tally-suc (t + n) ss, once (t + n) ss d, few t n ss d a))
+
+-- a set with slots
+pub record Timed (t : ℕ) (xs : List Row) (ss : List ℕ) : Type 0 where
+  pub distinct : Distinct ss
+  pub from : Each (λ s. t ≤ s) ss
+  pub count : (e : ℕ) → num 0 e xs ≤ tally (lt e) ss
+
+pub timed : (t : ℕ) (xs : List Row) (ss : List ℕ) → in-time t xs ss ≡ true → Timed t xs ss
+unfolding in-time
+timed t [] [] e = record { distinct = tt; from = tt; count = λ e. omega arith }
+timed t [] (s ∷ ss) e = absurd (false≢true e)
+timed t (x ∷ xs) [] e = absurd (false≢true e)
+timed t (x ∷ xs) (s ∷ ss) e =
+    let a = and-true (leb t s && leb s (x .due)) (not (member s ss) && in-time t xs ss) e in
+    let b = and-true (leb t s) (leb s (x .due)) (a .0) in
+    let c = and-true (not (member s ss)) (in-time t xs ss) (a .1) in
+    let q = timed t xs ss (c .1) in
+    record {
+      distinct = (not-true′ (member s ss) (c .0), q .distinct);
+      from = (leb-true t s (b .0), q .from);
+      count = λ e. elim (below? 0 e x) [
+        | inl k ↦ elim (lt? e s) [ inl l ↦ omega (arith, q .count e) | inr l ↦ absurd (omega (arith, leb-true s (x .due) (b .1))) ]
+        | inr (inl k) ↦ absurd (omega arith)
+        | inr (inr k) ↦ omega (arith, q .count e)
+      ];
+    }
+
+pub timed-feas : (r : Round) (xs : List Row) (ss : List ℕ) → in-time (r .slot) xs ss ≡ true → Feas r xs
+timed-feas r xs ss i e h k =
+    let q = timed (r .slot) xs ss i in
+    let z : r .slot + (e - r .slot) ≡ e = omega arith in
+    omega (arith, q .count e, rw z at (few (r .slot) (e - r .slot) ss (q .distinct) (q .from)))
+
+pub all-chosen : (P : Row → Type 0) (ms : List Bool) (xs : List Row) → All P xs → All P (chosen ms xs)
+unfolding chosen
+all-chosen P [] xs a = tt
+all-chosen P (m ∷ ms) [] a = tt
+all-chosen P (true ∷ ms) (x ∷ xs) a = (a .0, all-chosen P ms xs (a .1))
+all-chosen P (false ∷ ms) (x ∷ xs) a = all-chosen P ms xs (a .1)
+
+-- SLOTS FOR A FEASIBLE SET: by rank
+unfoldable pub before : Row → Row → ℕ
+before y x = one-if (ltb (y .due) (x .due) || (eqb (y .due) (x .due) && ltb (y .ticket) (x .ticket)))
+
+abbrev pub Ahead : Row → Row → Type 0
+Ahead y x = (y .due < x .due) ⊎ ((y .due ≡ x .due) × (y .ticket < x .ticket))
+
+pub before? : (y x : Row) → ((before y x ≡ 1) × Ahead y x) ⊎ ((before y x ≡ 0) × (Ahead y x → ⊥))
+unfolding before
+before? y x =
+    elim (ltb? (y .due) (x .due)) [
+      | inl a ↦ inl (rw (a .0), inl (a .1))
+      | inr a ↦ elim (eqb? (y .due) (x .due)) [
+        | inl b ↦ elim (ltb? (y .ticket) (x .ticket)) [
+          | inl c ↦ inl (rw (a .0, b .0, c .0), inr (b .1, c .1))
+          | inr c ↦ inr (rw (a .0, b .0, c .0), λ k. elim k [ inl l ↦ omega arith | inr l ↦ omega (arith, l .1) ])
+        ]
+        | inr b ↦ inr (rw (a .0, b .0), λ k. elim k [ inl l ↦ omega arith | inr l ↦ b .1 (l .0) ])
+      ]
+    ]
+
+pub ahead-trans : (z y x : Row) → Ahead z y → Ahead y x → Ahead z x
+ahead-trans z y x (inl a) (inl b) = inl (omega arith)
+ahead-trans z y x (inl a) (inr b) = inl (omega arith)
+ahead-trans z y x (inr a) (inl b) = inl (omega arith)
+ahead-trans z y x (inr a) (inr b) = inr (omega arith, omega arith)
+
+pub ahead-not : (x : Row) → Ahead x x → ⊥
+ahead-not x (inl a) = omega arith
+ahead-not x (inr a) = omega arith
+
+abbrev pub rank : Row → List Row → ℕ
+rank x xs = sum (λ y. before y x) xs
+
+pub sum-less : (μ ν : Row → ℕ) → ((x : Row) → μ x ≤ ν x) → (x : Row) → μ x + 1 ≤ ν x → (xs : List Row) → In x xs → sum μ xs + 1 ≤ sum ν xs
+sum-less μ ν h x k [] i = absurd i
+sum-less μ ν h x k (y ∷ ys) (inl e) = omega (arith, subst (λ (z : Row). μ z + 1 ≤ ν z) e k, sum-le μ ν h ys)
+sum-less μ ν h x k (y ∷ ys) (inr i) = omega (arith, h y, sum-less μ ν h x k ys i)
+
+pub rank-less : (x y : Row) (xs : List Row) → In x xs → Ahead x y → rank x xs + 1 ≤ rank y xs
+rank-less x y xs i a =
+    sum-less (λ z. before z x) (λ z. before z y)
+    (λ z. elim (before? z x) [
+      | inl b ↦ elim (before? z y) [ inl c ↦ omega arith | inr c ↦ absurd (c .1 (ahead-trans z x y (b .1) a)) ]
+      | inr b ↦ omega arith
+    ]) x
+    (elim (before? x x) [
+      | inl b ↦ absurd (ahead-not x (b .1))
+      | inr b ↦ elim (before? x y) [ inl c ↦ omega arith | inr c ↦ absurd (c .1 a) ]
+    ]) xs i
+
+pub rank-due : (x : Row) (xs : List Row) → In x xs → rank x xs + 1 ≤ num 0 (suc (x .due)) xs
+rank-due x xs i =
+    sum-less (λ z. before z x) (below 0 (suc (x .due)))
+    (λ z. elim (before? z x) [
+      | inl b ↦ elim (b .1) [
+        | inl c ↦ omega (arith, below-yes 0 (suc (x .due)) z (omega arith) (omega arith))
+        | inr c ↦ omega (arith, below-yes 0 (suc (x .due)) z (omega arith) (omega arith))
+      ]
+      | inr b ↦ omega arith
+    ]) x
+    (elim (before? x x) [
+      | inl b ↦ absurd (ahead-not x (b .1))
+      | inr b ↦ omega (arith, below-yes 0 (suc (x .due)) x (omega arith) (omega arith))
+    ]) xs i
+
+unfoldable pub slots-of : (t : ℕ) (all xs : List Row) → List ℕ
+slots-of t all [] = []
+slots-of t all (x ∷ xs) = (t + rank x all) ∷ slots-of t all xs
+
+abbrev pub Apart : List Row → Type 0
+Apart [] = Unit {0}
+Apart (x ∷ xs) = All (λ y. x .ticket ≢ y .ticket) xs × Apart xs
+
+pub rank-apart : (x y : Row) (xs : List Row) → In x xs → In y xs → x .ticket ≢ y .ticket → rank x xs ≢ rank y xs
+rank-apart x y xs i j n =
+    elim (ltb? (x .due) (y .due)) [
+      | inl a ↦ omega (arith, rank-less x y xs i (inl (a .1)))
+      | inr a ↦ elim (ltb? (y .due) (x .due)) [
+        | inl b ↦ omega (arith, rank-less y x xs j (inl (b .1)))
+        | inr b ↦ elim (ltb? (x .ticket) (y .ticket)) [
+          | inl c ↦ omega (arith, rank-less x y xs i (inr (omega arith, c .1)))
+          | inr c ↦ omega (arith, rank-less y x xs j (inr (omega arith, omega arith)))
+        ]
+      ]
+    ]
+
+pub slot-fresh : (t : ℕ) (x : Row) (all xs : List Row) → In x all → All (λ y. In y all) xs → All (λ y. x .ticket ≢ y .ticket) xs →
+    member (t + rank x all) (slots-of t all xs) ≡ false
+unfolding member slots-of
+slot-fresh t x all [] i a b = refl
+slot-fresh t x all (y ∷ ys) i a b =
+    let n = rank-apart x y all i (a .0) (b .0) in
+    rw (ne-eqb (t + rank y all) (t + rank x all) (λ e. n (omega arith))) (slot-fresh t x all ys i (a .1) (b .1))
+
+pub in-slots : (t : ℕ) (all xs : List Row) → All (λ y. In y all) xs → Apart xs → All (λ x. t + rank x all ≤ x .due) xs →
+    in-time t xs (slots-of t all xs) ≡ true
+unfolding in-time slots-of
+in-slots t all [] a b c = refl
+in-slots t all (x ∷ xs) a b c =
+    rw (le-leb t (t + rank x all) (omega arith), le-leb (t + rank x all) (x .due) (c .0), slot-fresh t x all xs (a .0) (a .1) (b .0))
+    (in-slots t all xs (a .1) (b .1) (c .1))
+
+-- the plan's rows
+pub sum-rows-only : (μ : Row → ℕ) (xs : List Row) → sum μ (rows-only xs) ≤ sum μ xs
+unfolding rows-only
+sum-rows-only μ [] = omega arith
+sum-rows-only μ (x ∷ xs) =
+    elim (either (eqb (x .ticket) 0)) [
+      | inl e ↦ rw e (omega (arith, sum-rows-only μ xs))
+      | inr e ↦ rw e (omega (arith, sum-rows-only μ xs))
+    ]
+
+pub all-rows-only : (P : Row → Type 0) (xs : List Row) → All P xs → All (λ x. (1 ≤ x .ticket) × P x) (rows-only xs)
+unfolding rows-only
+all-rows-only P [] a = tt
+all-rows-only P (x ∷ xs) a =
+    elim (eqb? (x .ticket) 0) [
+      | inl e ↦ rw (e .0) (all-rows-only P xs (a .1))
+      | inr e ↦ rw (e .0) ((positive (x .ticket) (e .1), a .0), all-rows-only P xs (a .1))
+    ]
+  where
+    positive : (n : ℕ) → n ≢ 0 → 1 ≤ n
+    positive n h = omega arith
+
+abbrev pub ticks : ℕ → Row → ℕ
+ticks k x = is k (x .ticket)
+
+pub no-ticks : (k : ℕ) (xs : List Row) → All (λ x. x .ticket ≢ k) xs → sum (ticks k) xs ≡ 0
+no-ticks k [] a = refl
+no-ticks k (x ∷ xs) a = elim (is? k (x .ticket)) [ inl b ↦ absurd (a .0 (b .1)) | inr b ↦ omega (arith, no-ticks k xs (a .1)) ]
+
+pub rising-ticks : (a b k : ℕ) (xs : List Row) → Rising a b xs → (sum (ticks k) xs ≤ 1) × (k < a → sum (ticks k) xs ≡ 0)
+rising-ticks a b k [] s = (omega arith, λ _. refl)
+rising-ticks a b k (x ∷ xs) s =
+    let q = rising-ticks (suc (x .ticket)) b k xs (s .1) in
+    elim (is? k (x .ticket)) [
+      | inl c ↦ (omega (arith, q .1 (omega arith)), λ h. absurd (omega (arith, s .0)))
+      | inr c ↦ (omega (arith, q .0), λ h. omega (arith, q .1 (omega (arith, s .0))))
+    ]
+
+pub apart-of : (xs : List Row) → ((k : ℕ) → 1 ≤ k → sum (ticks k) xs ≤ 1) → All (λ x. 1 ≤ x .ticket) xs → Apart xs
+apart-of [] h a = tt
+apart-of (x ∷ xs) h a = (
+  all-of-in (λ y. x .ticket ≢ y .ticket) xs (λ y i.
+      elim (is? (x .ticket) (x .ticket)) [
+        | inl b ↦ elim (is? (x .ticket) (y .ticket)) [
+          | inl c ↦ absurd (omega (arith, h (x .ticket) (a .0), in-sum (ticks (x .ticket)) y xs i))
+          | inr c ↦ omega arith
+        ]
+        | inr b ↦ absurd (b .1 refl)
+      ]),
+  apart-of xs (λ k l. omega (arith, h k l)) (a .1),
+)
+
+pub plan-ticks : (r : Round) → Fine r → (k : ℕ) → 1 ≤ k → sum (ticks k) (rows-only (plan r)) ≤ 1
+plan-ticks r f k h =
+    omega (
+      arith,
+      sum-rows-only (ticks k) (plan r),
+      plan-sum (ticks k) r,
+      rising-ticks 1 (r .next) k (r .rows) (f .rising) .0,
+      no-ticks k (blanks r) (all-map {Q = λ x. x .ticket ≢ k} (λ x (a : (x .weight ≤ 0) × (x .ticket ≡ 0)). omega arith) (blanks r) (ticketless _ _ _)),
+    )
+
+pub plan-in-time : (r : Round) → Fine r → in-time (r .slot) (rows-only (plan r)) (slots-of (r .slot) (rows-only (plan r)) (rows-only (plan r))) ≡ true
+plan-in-time r f =
+    let q = rows-only (plan r) in
+    let a = all-rows-only (λ x. (r .slot ≤ x .due) × (x .due ≤ r .last)) (plan r) (plan-due r f) in
+    in-slots (r .slot) q q (all-of-in (λ y. In y q) q (λ y i. i))
+    (apart-of q (plan-ticks r f) (all-map {Q = λ x. 1 ≤ x .ticket} (λ x (b : (1 ≤ x .ticket) × (r .slot ≤ x .due) × (x .due ≤ r .last)). b .0) q
+    (all-map {Q = λ x. (1 ≤ x .ticket) × (r .slot ≤ x .due) × (x .due ≤ r .last)}
+    (λ x (b : (1 ≤ x .ticket) × ((r .slot ≤ x .due) × (x .due ≤ r .last))). (b .0, b .1 .0, b .1 .1)) q a)))
+    (all-of-in (λ x. r .slot + rank x q ≤ x .due) q (λ x i.
+    let b = all-in (λ x. (1 ≤ x .ticket) × ((r .slot ≤ x .due) × (x .due ≤ r .last))) x q a i in
+    omega (
+      arith,
+      b .1 .0,
+      rank-due x q i,
+      sum-rows-only (below 0 (suc (x .due))) (plan r),
+      plan-feas r f (suc (x .due)) (omega (arith, b .1 .0)) (omega (arith, b .1 .1)),
+    )))
+
+pub plan-best : Plan-best
+unfolding Plan-best
+plan-best l k cs ms ss a b c =
+    let r = begun l k cs in
+    let f = begun-fine l k cs in (
+      (slots-of (r .slot) (rows-only (plan r)) (rows-only (plan r)), plan-in-time r f),
+      λ h. best-weight r f (chosen ms (r .rows)) (timed-feas r (chosen ms (r .rows)) ss h) (λ μ. sum-chosen μ ms (r .rows))
+          (all-chosen (λ x. (x .weight ≤ 16777216) × (x .due < suc (r .last))) ms (r .rows)
+          (all-map {Q = λ x. (x .weight ≤ 16777216) × (x .due < suc (r .last))} (λ x (h : Row-fine r x). (h .3, omega (arith, h .1))) (r .rows) (f .fine))),
+    )

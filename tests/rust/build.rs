@@ -1,0 +1,24 @@
+//! Links the library's archive into `compare` when LIRVEDD_ARCHIVE names it.
+//! Without it everything still builds, and `compare` knows only itself.
+
+use std::env;
+use std::path::Path;
+
+fn main() {
+    println!("cargo:rustc-check-cfg=cfg(archive)");
+    println!("cargo:rerun-if-env-changed=LIRVEDD_ARCHIVE");
+    println!("cargo:rerun-if-changed=build.rs");
+    let Ok(named) = env::var("LIRVEDD_ARCHIVE") else {
+        return;
+    };
+    if named.is_empty() {
+        return;
+    }
+    let full = Path::new(&named)
+        .canonicalize()
+        .unwrap_or_else(|_| panic!("LIRVEDD_ARCHIVE: no file {named} (give its full path)"));
+    let full = full.display();
+    println!("cargo:rerun-if-changed={full}");
+    println!("cargo:rustc-cfg=archive");
+    println!("cargo:rustc-link-arg-bin=compare={full}");
+}

@@ -1,0 +1,46 @@
+//! The calls of the stations, with their arguments as raw numbers.
+
+#[derive(Clone, Copy, PartialEq, Eq, Debug)]
+pub enum Call {
+    Open { last: u32 },
+    Take { due: u32, weight: u32 },
+    Send,
+    Mark { slot: u32 },
+    Total,
+    Substitute { ticket: u32 },
+}
+
+/// A call without its arguments.
+#[derive(Clone, Copy, PartialEq, Eq, Debug)]
+pub enum CallName {
+    Open,
+    Take,
+    Send,
+    Mark,
+    Total,
+    Substitute,
+}
+
+impl Call {
+    pub fn name(self) -> CallName {
+        match self {
+            Call::Open { .. } => CallName::Open,
+            Call::Take { .. } => CallName::Take,
+            Call::Send => CallName::Send,
+            Call::Mark { .. } => CallName::Mark,
+            Call::Total => CallName::Total,
+            Call::Substitute { .. } => CallName::Substitute,
+        }
+    }
+}
+
+impl CallName {
+    pub const ALL: &'static [CallName] = &[
+        CallName::Open,
+        CallName::Take,
+        CallName::Send,
+        CallName::Mark,
+        CallName::Total,
+        CallName::Substitute,
+    ];
+}

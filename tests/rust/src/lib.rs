@@ -1,0 +1,30 @@
+//! A second implementation of the slot planner, written from document 01 and
+//! source document 000 alone. It is kept simple and literal: its worth is that
+//! it shares nothing with the library it is compared with.
+
+#![forbid(unsafe_code)]
+
+pub mod bytes;
+pub mod call;
+pub mod calls;
+pub mod command;
+pub mod compare;
+pub mod counts;
+pub mod golden;
+pub mod hand;
+pub mod leap;
+pub mod listing;
+pub mod mutation;
+pub mod order;
+pub mod pack;
+pub mod payload;
+pub mod plan;
+pub mod refusal;
+pub mod round;
+pub mod send;
+pub mod sound;
+pub mod station;
+pub mod substitute;
+pub mod table;
+pub mod tight;
+pub mod writer;

@@ -1,0 +1,43 @@
+//! Rows and blanks side by side, and the two orders of document 01.
+
+use crate::counts::{Slot, Ticket, Weight};
+use crate::mutation::Mutation;
+use crate::round::Row;
+use std::cmp::Ordering;
+
+/// A row, or a blank without a row (which has no ticket).
+#[derive(Clone, Copy, PartialEq, Eq, Debug)]
+pub struct Item {
+    pub due: Slot,
+    pub weight: Weight,
+    pub ticket: Option<Ticket>,
+}
+
+impl Item {
+    pub fn of_row(row: &Row) -> Item {
+        Item { due: row.due, weight: row.weight, ticket: Some(row.ticket) }
+    }
+
+    pub fn blank(due: Slot) -> Item {
+        Item { due, weight: Weight(0), ticket: None }
+    }
+}
+
+/// Heavier comes first: larger weight; if equal, earlier due slot; if equal,
+/// smaller ticket.
+pub fn heaviest_first(a: &Item, b: &Item, mutation: Mutation) -> Ordering {
+    let weight = b.weight.cmp(&a.weight);
+    let due = a.due.cmp(&b.due);
+    let ticket = a.ticket.cmp(&b.ticket);
+    match mutation {
+        Mutation::TiesByTicket => weight.then(ticket).then(due),
+        Mutation::TiesByLateDue => weight.then(due.reverse()).then(ticket),
+        Mutation::TiesByLateTicket => weight.then(due).then(ticket.reverse()),
+        _ => weight.then(due).then(ticket),
+    }
+}
+
+/// Canonical order: earlier due slot; if equal, heavier.
+pub fn canonical(a: &Item, b: &Item, mutation: Mutation) -> Ordering {
+    a.due.cmp(&b.due).then(heaviest_first(a, b, mutation))
+}

@@ -1,0 +1,109 @@
+//! The plan: from heaviest to lightest, each row or blank that leaves the set
+//! feasible is kept (document 01; algorithm ComputePlan of the source).
+
+use crate::counts::Slot;
+use crate::mutation::Mutation;
+use crate::order::{canonical, heaviest_first, Item};
+use crate::round::Round;
+
+pub struct Plan {
+    pub slot: Slot,
+    pub last: Slot,
+    /// Rows and blanks in the plan, in canonical order.
+    pub members: Vec<Item>,
+    /// The waiting rows left out, and one more blank due in each slot.
+    pub outside: Vec<Item>,
+    /// The tight slots, rising; the slot before the current counts as one.
+    pub tight: Vec<i64>,
+    pub mutation: Mutation,
+}
+
+/// For each slot from the current on, how many more members due by it the set
+/// can bear: s − t + 1 less those it has.
+struct Free {
+    slot: Slot,
+    left: Vec<i16>,
+}
+
+impl Free {
+    fn new(slot: Slot, last: Slot) -> Free {
+        let slots = (last.0 + 1).saturating_sub(slot.0) as i16;
+        Free { slot, left: (1..=slots).collect() }
+    }
+
+    fn from(&mut self, due: Slot) -> &mut [i16] {
+        &mut self.left[(due.0 - self.slot.0) as usize..]
+    }
+
+    /// How many more members due in this slot leave the set feasible.
+    fn bears(&mut self, due: Slot) -> i16 {
+        self.from(due).iter().copied().fold(i16::MAX, i16::min)
+    }
+
+    fn keep(&mut self, due: Slot, members: i16) {
+        for left in self.from(due) {
+            *left -= members;
+        }
+    }
+}
+
+impl Plan {
+    pub fn of(round: &Round, mutation: Mutation) -> Plan {
+        let mut plan = Plan {
+            slot: round.slot,
+            last: round.last,
+            members: Vec::new(),
+            outside: Vec::new(),
+            tight: vec![i64::from(round.slot.0) - 1],
+            mutation,
+        };
+        let mut free = Free::new(round.slot, round.last);
+        plan.choose_rows(round, &mut free);
+        plan.choose_blanks(&mut free);
+        plan.members.sort_by(|a, b| canonical(a, b, mutation));
+        for (s, left) in (round.slot.0..).zip(&free.left) {
+            if *left == 0 {
+                plan.tight.push(i64::from(s));
+            }
+        }
+        plan
+    }
+
+    /// Every row weighs more than every blank, so the rows come first.
+    fn choose_rows(&mut self, round: &Round, free: &mut Free) {
+        let mut rows: Vec<Item> = round.rows.iter().map(Item::of_row).collect();
+        rows.sort_by(|a, b| heaviest_first(a, b, self.mutation));
+        for row in rows {
+            if free.bears(row.due) > 0 {
+                free.keep(row.due, 1);
+                self.members.push(row);
+            } else {
+                self.outside.push(row);
+            }
+        }
+    }
+
+    /// Blanks from the earliest due slot to the latest, in each as many as the
+    /// set bears, and one more outside.
+    fn choose_blanks(&mut self, free: &mut Free) {
+        for s in self.slot.0..=self.last.0 {
+            let due = Slot(s);
+            let members = free.bears(due);
+            free.keep(due, members);
+            for _ in 0..members {
+                self.members.push(Item::blank(due));
+            }
+            self.outside.push(Item::blank(due));
+        }
+    }
+
+    /// The sum of the members' weights, kept blanks included.
+    pub fn total(&self) -> u64 {
+        self.members.iter().map(|item| u64::from(item.weight.0)).sum()
+    }
+
+    /// The plan member with this ticket.
+    pub fn member(&self, ticket: crate::counts::Ticket) -> Option<Item> {
+        self.members.iter().copied().find(|item| item.ticket == Some(ticket))
+    }
+}

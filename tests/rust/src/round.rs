@@ -1,0 +1,43 @@
+//! A round as it stands between two calls.
+
+use crate::counts::{Slot, Ticket, Weight};
+
+/// A waiting row: a frame, or a kept blank.
+#[derive(Clone, Copy, PartialEq, Eq, Debug)]
+pub struct Row {
+    pub ticket: Ticket,
+    pub due: Slot,
+    pub weight: Weight,
+    /// True for a kept blank.
+    pub kept: bool,
+}
+
+#[derive(Clone, PartialEq, Eq, Debug)]
+pub struct Round {
+    pub slot: Slot,
+    pub last: Slot,
+    pub next: Ticket,
+    /// The used rows, in ticket order.
+    pub rows: Vec<Row>,
+}
+
+impl Round {
+    /// The most rows a table has.
+    pub const ROWS: usize = 1_024;
+    /// The latest last slot.
+    pub const LAST: Slot = Slot(4_095);
+    /// The greatest weight.
+    pub const WEIGHT: Weight = Weight(16_777_216);
+    /// The greatest next ticket; with it no frame is taken.
+    pub const TICKET: Ticket = Ticket(16_777_216);
+
+    /// The round just after opening.
+    pub fn opened(last: Slot) -> Round {
+        Round { slot: Slot(0), last, next: Ticket(1), rows: Vec::new() }
+    }
+
+    /// The place of the row with this ticket.
+    pub fn place(&self, ticket: Ticket) -> Option<usize> {
+        self.rows.iter().position(|row| row.ticket == ticket)
+    }
+}

@@ -12,17 +12,13 @@ use lib.ListN.{length, take, drop, replicate, length-append, length-replicate}
 use Rattle.rules.specs.Rows.{Row, Round, heavier, sorted, blank, round, row, All, In}
 use Rattle.rules.specs.Plan.{in-plan, blanks-from, lightest-by, sends-before, best-from, plan, best, first-end, tight-after, mark-in, substitute, heaviest-outside, segment-start}
 use Rattle.rules.specs.Steps.{opened, taken, sent, without, changed, still-due, leapt, replaced, shifted, heaviest-between}
-use Rattle.rules.specs.Table.{low, value, field, row-bytes, rows-bytes, table, rows-in, round-in, length-good, rows-good, round-good, same, table-refusal}
-use Rattle.rules.specs.Calls.{Call, opening, taking, sending, open-refusal, take-refusal, send-refusal, done, after}
+use Rattle.rules.specs.Table.{low, value, field, row-bytes, rows-bytes, table, rows-in, round-in, length-good, rows-good, round-good, same, table-refusal, rows-of}
+use Rattle.rules.specs.Calls.{Call, opening, taking, sending, open-refusal, take-refusal, send-refusal, mark-refusal, marking, totalling, round-refusal, leaves, next-round}
 use Rattle.theory.specs.Tests.{either, leb?, ltb?, eqb?, pick}
 use Rattle.theory.specs.All.{all-map, all-in, all-append, all-kept, all-sorted, all-replicate}
 use Rattle.theory.specs.Change.{all-changed, all-without, all-still}
 use Rattle.theory.specs.Full.{Fine, Row-fine, Rising, pool, blanks}
-use Rattle.theory.specs.Calls.{begun-fine, no-refusal, or-false}
-
--- MISSING asking from Steps
--- MISSING begun from Promise
--- MISSING Tables-back from Promise
+use Rattle.theory.specs.Calls.{no-refusal, or-false}
 
 pub value-low : (n v : ℕ) → v < 256 ^ n → value (low n v) ≡ v
 unfolding value low
@@ -130,7 +126,7 @@ module _ (r : Round) (f : Fine r) (z : Sized r) where
       (fits-bytes r 1 (r .rows) (z .last) (z .next) (f .fine) (z .kinds) (f .rising)))
 
   pub read-back : round-in (table r) ≡ r
-  unfolding round-in round
+  unfolding round-in rows-of round
   read-back i =
       record { slot = slot-is i; last = last-is i; next = next-is i; room = room-back r (z .long) i; rows = rows-are i }
 
@@ -336,29 +332,14 @@ sized-sent r z =
 abbrev pub Held : ℕ → Round → Type 0
 Held k r = (r .room ≡ k) × Sized r
 
-pub done-sized : (k : ℕ) → k ≤ 1024 → (c : Call) (r : Round) → Held k r → Held k (done c r)
-unfolding done open-refusal opened taken sent round
-done-sized k i (opening l) r h =
+pub next-sized : (k : ℕ) → k ≤ 1024 → (c : Call) (r : Round) → Held k r → Held k (next-round c r)
+unfolding next-round round-refusal leaves open-refusal opened taken sent round
+next-sized k i (opening l) r h =
     pick (Held k) (eqb (open-refusal l) 0) (opened l (r .room)) r
     (λ e. (h .0, sized-opened l (r .room) (ltb-false 4095 l (no-refusal (ltb 4095 l) 3 0 (eqb-true (open-refusal l) 0 e) .0)) (h .1 .room))) (λ e. h)
-done-sized k i (taking d w) r h =
+next-sized k i (taking d w) r h =
     pick (Held k) (eqb (take-refusal r d w) 0) (taken r d w) r
     (λ e. (h .0, sized-taken r d w (eqb-true (take-refusal r d w) 0 e) (h .1))) (λ e. h)
-done-sized k i sending r h = pick (Held k) (eqb (send-refusal r) 0) (sent r) r (λ e. (h .0, sized-sent r (h .1))) (λ e. h)
-done-sized k i asking r h = h
-
-pub after-sized : (k : ℕ) → k ≤ 1024 → (cs : List Call) (r : Round) → Held k r → Held k (after cs r)
-unfolding after
-after-sized k i [] r h = h
-after-sized k i (c ∷ cs) r h = after-sized k i cs (done c r) (done-sized k i c r h)
-
-pub begun-sized : (l k : ℕ) (cs : List Call) → open-refusal l ≡ 0 → k ≤ 1024 → Held k (begun l k cs)
-unfolding begun open-refusal opened round
-begun-sized l k cs a c = after-sized k c cs (opened l k) (refl, sized-opened l k (ltb-false 4095 l (no-refusal (ltb 4095 l) 3 0 a .0)) c)
-
-pub tables-back : Tables-back
-unfolding Tables-back
-tables-back l k cs a b c =
-    let h = begun-sized l k cs a c in
-    let f = begun-fine l k cs in
-    (good (begun l k cs) f (h .1), table-good (begun l k cs) f (h .1) (omega (arith, h .0)), read-back (begun l k cs) f (h .1))
+next-sized k i sending r h = pick (Held k) (eqb (send-refusal r) 0) (sent r) r (λ e. (h .0, sized-sent r (h .1))) (λ e. h)
+next-sized k i (marking s) r h = pick (Held k) (eqb (mark-refusal r s) 0) r r (λ e. h) (λ e. h)
+next-sized k i totalling r h = pick (Held k) (eqb (send-refusal r) 0) r r (λ e. h) (λ e. h)

@@ -6,12 +6,14 @@ use mathlib.Core.List.{List, [], _∷_, _++_}
 use Prim.Native.Nat.{ℕ, zero, suc, _+_, _*_, _-_, _≤_, _<_, min, max}
 use native.Mathlib.Omega.{arith}
 use lib.Dec.{ltb, leb, eqb}
-use borrow.Author.Tests.{ltb-true, ltb-false, leb-true, leb-false, eqb-true, eqb-false}
+use borrow.Author.Tests.{lt-ltb, ltb-true, ltb-false, leb-true, leb-false, eqb-true, eqb-false}
 use lib.ListN.{length, replicate}
+use Rattle.rules.specs.Limits.{most-last}
 use Rattle.rules.specs.Rows.{Row, Round, slots-left, round, row, All, In}
 use Rattle.rules.specs.Plan.{plan, first-end, best, mark}
 use Rattle.rules.specs.Steps.{opened, taken, sent, without, still-due, leapt}
-use Rattle.rules.specs.Calls.{Call, opening, taking, sending, open-refusal, take-refusal, send-refusal, done, after}
+use Rattle.rules.specs.Calls.{Call, opening, taking, sending, marking, totalling, open-refusal, take-refusal, send-refusal, mark-refusal, round-refusal, leaves, next-round, after}
+use Rattle.rules.specs.Demands.{No-opening}
 use Rattle.theory.specs.Tests.{either, leb?, ltb?, eqb?, pick, and-true, not-true′}
 use Rattle.theory.specs.Sum.{sum, sum-append}
 use Rattle.theory.specs.All.{all-map, all-in, all-append}
@@ -20,12 +22,6 @@ use Rattle.theory.specs.Marks.{box, Marked, mark-stays}
 use Rattle.theory.specs.Change.{all-still, all-without, rising-still, rising-without, still-box}
 use Rattle.theory.specs.Send.{best-in, ordinary-fills}
 use Rattle.theory.specs.Leap.{Row-ok, Left, leapt-left, plain, rows-kept}
-
--- MISSING asking from Steps
--- MISSING no-opening from Steps
--- MISSING begun from Promise
--- MISSING Marks-stay from Promise
--- MISSING Plan-full from Promise
 
 -- what no refusal says
 pub no-refusal : (c : Bool) (n z : ℕ) → cond c (suc n) z ≡ 0 → (c ≡ false) × (z ≡ 0)
@@ -115,24 +111,21 @@ sent-fine r f o =
       rising = rising-still 1 (r .next) (suc (r .slot)) (sent-rows r) (l .rising);
     }
 
-pub done-fine : (c : Call) (r : Round) → Fine r → Fine (done c r)
-unfolding done
-done-fine (opening l) r f = pick Fine (eqb (open-refusal l) 0) (opened l (r .room)) r (λ e. opened-fine l (r .room)) (λ e. f)
-done-fine (taking d w) r f =
+pub next-fine : (c : Call) (r : Round) → Fine r → Fine (next-round c r)
+unfolding next-round round-refusal leaves
+next-fine (opening l) r f = pick Fine (eqb (open-refusal l) 0) (opened l (r .room)) r (λ e. opened-fine l (r .room)) (λ e. f)
+next-fine (taking d w) r f =
     pick Fine (eqb (take-refusal r d w) 0) (taken r d w) r
     (λ e. taken-fine r f d w (takes r d w (eqb-true (take-refusal r d w) 0 e))) (λ e. f)
-done-fine sending r f =
+next-fine sending r f =
     pick Fine (eqb (send-refusal r) 0) (sent r) r (λ e. sent-fine r f (sends r (eqb-true (send-refusal r) 0 e))) (λ e. f)
-done-fine asking r f = f
+next-fine (marking s) r f = pick Fine (eqb (mark-refusal r s) 0) r r (λ e. f) (λ e. f)
+next-fine totalling r f = pick Fine (eqb (send-refusal r) 0) r r (λ e. f) (λ e. f)
 
 pub after-fine : (cs : List Call) (r : Round) → Fine r → Fine (after cs r)
 unfolding after
 after-fine [] r f = f
-after-fine (c ∷ cs) r f = after-fine cs (done c r) (done-fine c r f)
-
-pub begun-fine : (l k : ℕ) (cs : List Call) → Fine (begun l k cs)
-unfolding begun
-begun-fine l k cs = after-fine cs (opened l k) (opened-fine l k)
+after-fine (c ∷ cs) r f = after-fine cs (next-round c r) (next-fine c r f)
 
 -- NO MARK SINKS
 abbrev pub Stays : ℕ → Round → Round → Type 0
@@ -159,29 +152,30 @@ sent-stays s r f o = (
 pub same-stays : (s : ℕ) (r : Round) → Stays s r r
 same-stays s r = (refl, omega arith, λ h i. omega arith)
 
-pub done-stays : (s : ℕ) (c : Call) (cs : List Call) (r : Round) → Fine r → no-opening (c ∷ cs) ≡ true → Stays s r (done c r) × (no-opening cs ≡ true)
-unfolding done no-opening
-done-stays s (opening l) cs r f n =
-    let a = and-true (not (eqb (open-refusal l) 0)) (no-opening cs) n in
-    (rw (not-true′ (eqb (open-refusal l) 0) (a .0)) (same-stays s r), a .1)
-done-stays s (taking d w) cs r f n = (
+pub next-stays : (s : ℕ) (c : Call) (cs : List Call) (r : Round) → Fine r → No-opening (c ∷ cs) → Stays s r (next-round c r) × No-opening cs
+unfolding next-round round-refusal leaves open-refusal No-opening
+next-stays s (opening l) cs r f n = (rw (lt-ltb most-last l (n .0)) (same-stays s r), n .1)
+next-stays s (taking d w) cs r f n = (
   pick (Stays s r) (eqb (take-refusal r d w) 0) (taken r d w) r
       (λ e. taken-stays s r f d w (takes r d w (eqb-true (take-refusal r d w) 0 e))) (λ e. same-stays s r),
   n,
 )
-done-stays s sending cs r f n = (
+next-stays s sending cs r f n = (
   pick (Stays s r) (eqb (send-refusal r) 0) (sent r) r (λ e. sent-stays s r f (sends r (eqb-true (send-refusal r) 0 e)))
       (λ e. same-stays s r),
   n,
 )
-done-stays s asking cs r f n = (same-stays s r, n)
+next-stays s (marking u) cs r f n =
+    (pick (Stays s r) (eqb (mark-refusal r u) 0) r r (λ e. same-stays s r) (λ e. same-stays s r), n)
+next-stays s totalling cs r f n =
+    (pick (Stays s r) (eqb (send-refusal r) 0) r r (λ e. same-stays s r) (λ e. same-stays s r), n)
 
-pub after-stays : (s : ℕ) (cs : List Call) (r : Round) → Fine r → no-opening cs ≡ true → Stays s r (after cs r)
+pub after-stays : (s : ℕ) (cs : List Call) (r : Round) → Fine r → No-opening cs → Stays s r (after cs r)
 unfolding after
 after-stays s [] r f n = same-stays s r
 after-stays s (c ∷ cs) r f n =
-    let a = done-stays s c cs r f n in
-    let b = after-stays s cs (done c r) (done-fine c r f) (a .1) in (
+    let a = next-stays s c cs r f n in
+    let b = after-stays s cs (next-round c r) (next-fine c r f) (a .1) in (
       b .0 ∙ a .0 .0,
       omega (arith, a .0 .1, b .1),
       λ h i. omega (arith, a .0 .2 (omega (arith, b .1)) i, b .2 h (omega (arith, a .0 .0))),
@@ -190,15 +184,4 @@ after-stays s (c ∷ cs) r f n =
 pub after-append : (cs ds : List Call) (r : Round) → after (cs ++ ds) r ≡ after ds (after cs r)
 unfolding after
 after-append [] ds r = refl
-after-append (c ∷ cs) ds r = after-append cs ds (done c r)
-
-pub marks-stay : Marks-stay
-unfolding Marks-stay begun
-marks-stay l k s cs ds a b c n h i =
-    rw (after-append cs ds (opened l k))
-    (let e = after-stays s ds (after cs (opened l k)) (begun-fine l k cs) n in
-    e .2 (rw (after-append cs ds (opened l k)) at h) (omega (arith, e .0, rw (after-append cs ds (opened l k)) at i)))
-
-pub plan-is-full : Plan-full
-unfolding Plan-full
-plan-is-full l k cs a b c = plan-length (begun l k cs) (begun-fine l k cs)
+after-append (c ∷ cs) ds r = after-append cs ds (next-round c r)

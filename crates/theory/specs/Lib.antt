@@ -13,7 +13,8 @@ pub mod Times
 pub mod Back
 pub mod Order
 pub mod Same
-pub mod Demanded
+pub mod Sane
+pub mod Third
 pub mod Golden
 pub mod Score
 pub mod Unique

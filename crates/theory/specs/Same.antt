@@ -10,6 +10,7 @@ use borrow.Author.Tests.{le-leb, ne-eqb}
 use lib.ListN.{length}
 use Rattle.rules.specs.Rows.{Row, Round, heavier, canonical, into, sorted, chosen, rows-only, All, In, Heavier}
 use Rattle.rules.specs.Plan.{plan, same-row, in-plan, total, total-weight, flags, planned, listed}
+use Rattle.rules.specs.Demands.{member, in-time, turns}
 use Rattle.theory.specs.Tests.{either, leb?, ltb?, eqb?}
 use Rattle.theory.specs.Sum.{sum, sum-sorted, sum-kept, total-sum}
 use Rattle.theory.specs.All.{all-map, all-in, all-append, all-into, all-sorted}
@@ -18,10 +19,6 @@ use Rattle.theory.specs.Full.{Fine, Row-fine, Rising, blanks, outside, p
 use Rattle.theory.specs.Change.{Member, plan-rows, rising-same, rising-above, in-sum, ticketless, all-of-in, in-sorted, not-in-plan}
 use Rattle.theory.specs.Times.{is, is?, ticks, no-ticks, rising-ticks, Apart, apart-of, rank-due, in-slots, slots-of, rank, all-chosen, sum-rows-only, all-rows-only, plan-ticks}
 use Rattle.theory.specs.Order.{Not-over, heavier?, not-over-trans, over-not, over-absurd}
-
--- MISSING member from Promise
--- MISSING in-time from Promise
--- MISSING turns from Demand
 
 -- THE SAME ROWS in any order
 abbrev pub Same : List Row → List Row → Type 0

@@ -12,97 +12,19 @@ use Rattle.rules.specs.Rows.{Row, Round, round, All}
 use Rattle.rules.specs.Plan.{plan, first-end, best}
 use Rattle.rules.specs.Steps.{sent, is-ordinary}
 use Rattle.rules.specs.Table.{low, rows-bytes, table, round-in, length-good, rows-good, round-good, same, table-refusal}
-use Rattle.rules.specs.Calls.{send-refusal, sending, ordinary, leap, out-of, says, leaves, refusal, answer, left}
-use Rattle.theory.specs.Tests.{and-true}
-use Rattle.theory.specs.Full.{Row-fine, Rising}
-use Rattle.theory.specs.Calls.{no-refusal}
-use Rattle.theory.specs.Demanded.{Sane}
+use Rattle.rules.specs.Calls.{first, table-first, round-refusal, step, send-refusal, sending, ordinary, leap, out-of, says, leaves, refusal, answer, left}
+use Rattle.theory.specs.Sane.{Sane, Stands-for, sound}
 use Rattle.theory.specs.Close.{closed, after-slot, head-bytes, length-head, table-is, Closing, closing-rows, length-closed}
 use Rattle.theory.specs.Write.{head-sets, zeros-join, zero-byte}
 
--- TODO use Rattle.lirvedd.specs.Demand as Now
-
--- A SOUND TABLE is that of a sound round
-pub same-true : (xs ys : List ℕ) → same xs ys ≡ true → xs ≡ ys
-unfolding same
-same-true [] [] e = refl
-same-true [] (y ∷ ys) e = absurd (false≢true e)
-same-true (x ∷ xs) [] e = absurd (false≢true e)
-same-true (x ∷ xs) (y ∷ ys) e =
-    let a = and-true (eqb x y) (same xs ys) e in ap₂ (λ (z : ℕ) (zs : List ℕ). z ∷ zs) (eqb-true x y (a .0)) (same-true xs ys (a .1))
-
-pub rows-good-true : (r : Round) (a : ℕ) (xs : List Row) → a ≤ r .next → rows-good r a xs ≡ true →
-    (All (Row-fine r) xs) × (All (λ x. x .kind < 2) xs) × (Rising a (r .next) xs)
-unfolding rows-good
-rows-good-true r a [] h e = (tt, tt, h)
-rows-good-true r a (x ∷ xs) h e =
-    let b = and-true ((leb a (x .ticket) && ltb (x .ticket) (r .next)) && (leb (r .slot) (x .due) && leb (x .due) (r .last))) _ e in
-    let c = and-true (leb a (x .ticket) && ltb (x .ticket) (r .next)) (leb (r .slot) (x .due) && leb (x .due) (r .last)) (b .0) in
-    let d = and-true (leb a (x .ticket)) (ltb (x .ticket) (r .next)) (c .0) in
-    let g = and-true (leb (r .slot) (x .due)) (leb (x .due) (r .last)) (c .1) in
-    let i = and-true ((leb 1 (x .weight) && leb (x .weight) 16777216) && ltb (x .kind) 2) (rows-good r (suc (x .ticket)) xs) (b .1) in
-    let j = and-true (leb 1 (x .weight) && leb (x .weight) 16777216) (ltb (x .kind) 2) (i .0) in
-    let k = and-true (leb 1 (x .weight)) (leb (x .weight) 16777216) (j .0) in
-    let q = rows-good-true r (suc (x .ticket)) xs (ltb-true (x .ticket) (r .next) (d .1)) (i .1) in (
-      ((leb-true (r .slot) (x .due) (g .0), leb-true (x .due) (r .last) (g .1), leb-true 1 (x .weight) (k .0), leb-true (x .weight) 16777216 (k .1)), q .0),
-      (ltb-true (x .kind) 2 (j .1), q .1),
-      (leb-true a (x .ticket) (d .0), q .2),
-    )
-
-pub good-true : (r : Round) → round-good r ≡ true → 1 ≤ r .room → r .room ≤ 1024 → Sane r
-unfolding round-good
-good-true r e h k =
-    let a = and-true ((leb (r .last) 4095 && leb (r .slot) (suc (r .last))) && (leb 1 (r .next) && leb (r .next) 16777216)) _ e in
-    let b = and-true (leb (r .last) 4095 && leb (r .slot) (suc (r .last))) (leb 1 (r .next) && leb (r .next) 16777216) (a .0) in
-    let c = and-true (leb (r .last) 4095) (leb (r .slot) (suc (r .last))) (b .0) in
-    let d = and-true (leb 1 (r .next)) (leb (r .next) 16777216) (b .1) in
-    let g = and-true (leb (length (r .rows)) (r .room)) (rows-good r 1 (r .rows)) (a .1) in
-    let q = rows-good-true r 1 (r .rows) (leb-true 1 (r .next) (d .0)) (g .1) in
-    record {
-      fine = record { time = leb-true (r .slot) (suc (r .last)) (c .1); fine = q .0; rising = q .2 };
-      size = record {
-        last = leb-true (r .last) 4095 (c .0);
-        room = k;
-        next = leb-true (r .next) 16777216 (d .1);
-        long = leb-true (length (r .rows)) (r .room) (g .0);
-        kinds = q .1;
-      };
-      some = h;
-    }
-
-pub record Sound (t : List ℕ) : Type 0 where
-  pub bytes : table (round-in t) ≡ t
-  pub sane : Sane (round-in t)
-
-pub sound : (t : List ℕ) → table-refusal t ≡ 0 → Sound t
-unfolding table-refusal length-good round-in round
-sound t e =
-    let a = no-refusal (not (length-good (length t))) 1 _ e in
-    let b = and-true (round-good (round-in t)) (same (table (round-in t)) t) (accepted (round-good (round-in t) && same (table (round-in t)) t) (a .1)) in
-    let l : (leb 40 (length t) && (eqb ((length t - 16) % 24) 0 && leb ((length t - 16) / 24) 1024)) ≡ true = not-not (length-good (length t)) (a .0) in
-    let c = and-true (leb 40 (length t)) (eqb ((length t - 16) % 24) 0 && leb ((length t - 16) / 24) 1024) l in
-    let d = and-true (eqb ((length t - 16) % 24) 0) (leb ((length t - 16) / 24) 1024) (c .1) in
-    record {
-      bytes = same-true (table (round-in t)) t (b .1);
-      sane = good-true (round-in t) (b .0) (omega (arith, leb-true 40 (length t) (c .0))) (leb-true ((length t - 16) / 24) 1024 (d .1));
-    }
-  where
-    accepted : (c : Bool) → _≡_ {A = ℕ} (cond c 0 3) 0 → c ≡ true
-    accepted true q = refl
-    accepted false q = absurd (omega (arith, q))
-
-    not-not : (c : Bool) → not c ≡ false → c ≡ true
-    not-not true q = refl
-    not-not false q = absurd (true≢false q)
-
 module _ (t : List ℕ) (s : table-refusal t ≡ 0) (o : round-in t .slot ≤ round-in t .last) where
   pub send-accepted : refusal sending t ≡ 0
-  unfolding refusal Now.first send-refusal
+  unfolding refusal first table-first round-refusal send-refusal
   send-accepted = rw (s, le-ltb (round-in t .last) (round-in t .slot) o)
 
   -- WHAT IS ANSWERED
   pub answer-sent : (p : Row) → best (round-in t) (plan (round-in t)) ≡ p →
-      answer sending t ≡ Now.step (cond (leb (p .due) (first-end (round-in t) (plan (round-in t)))) (ordinary (out-of p)) (leap (out-of p)))
+      answer sending t ≡ step (cond (leb (p .due) (first-end (round-in t) (plan (round-in t)))) (ordinary (out-of p)) (leap (out-of p)))
   unfolding answer says is-ordinary
   answer-sent p e = rw (send-accepted, e)
 

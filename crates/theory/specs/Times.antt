@@ -10,6 +10,7 @@ use borrow.Author.Tests.{ltb-true, ltb-false, leb-true, leb-false, eqb-true, eqb
 use lib.ListN.{length, replicate}
 use Rattle.rules.specs.Rows.{Row, Round, chosen, rows-only, All, In}
 use Rattle.rules.specs.Plan.{plan, total, total-weight}
+use Rattle.rules.specs.Demands.{member, in-time}
 use Rattle.theory.specs.Tests.{either, leb?, ltb?, eqb?, and-true, not-true′, pick, one-if}
 use Rattle.theory.specs.Sum.{sum, sum-append, sum-chosen, sum-le}
 use Rattle.theory.specs.All.{all-map, all-in, all-append}
@@ -17,12 +18,6 @@ use Rattle.theory.specs.Feas.{below, below?, num, below-yes, below-late,
 use Rattle.theory.specs.Full.{Fine, Row-fine, Rising, blanks, outside, plan-feas, plan-sum, plan-due}
 use Rattle.theory.specs.Change.{Member, plan-rows, rising-above, in-sum, ticketless, all-of-in}
 use Rattle.theory.specs.Totals.{best-weight}
-use Rattle.theory.specs.Calls.{begun-fine}
-
--- MISSING begun from Promise
--- MISSING member from Promise
--- MISSING in-time from Promise
--- MISSING Plan-best from Promise
 
 -- SLOTS, NO TWO THE SAME
 abbrev pub Each : (ℕ → Type 0) → List ℕ → Type 0
@@ -317,14 +312,3 @@ plan-in-time r f =
       sum-rows-only (below 0 (suc (x .due))) (plan r),
       plan-feas r f (suc (x .due)) (omega (arith, b .1 .0)) (omega (arith, b .1 .1)),
     )))
-
-pub plan-best : Plan-best
-unfolding Plan-best
-plan-best l k cs ms ss a b c =
-    let r = begun l k cs in
-    let f = begun-fine l k cs in (
-      (slots-of (r .slot) (rows-only (plan r)) (rows-only (plan r)), plan-in-time r f),
-      λ h. best-weight r f (chosen ms (r .rows)) (timed-feas r (chosen ms (r .rows)) ss h) (λ μ. sum-chosen μ ms (r .rows))
-          (all-chosen (λ x. (x .weight ≤ 16777216) × (x .due < suc (r .last))) ms (r .rows)
-          (all-map {Q = λ x. (x .weight ≤ 16777216) × (x .due < suc (r .last))} (λ x (h : Row-fine r x). (h .3, omega (arith, h .1))) (r .rows) (f .fine))),
-    )

@@ -17,10 +17,7 @@ use Rattle.theory.specs.All.{all-map, all-in, all-append, all-sorted, al
 use Rattle.theory.specs.Feas.{below, below?, num, below-yes, below-late, below-light, num-mono, num-weight, num-early, Feas, Edge}
 use Rattle.theory.specs.Full.{Fine, Row-fine, blanks, pool, outside, plan-feas, plan-edge, plan-sum, no-blanks, plan-full, plan-due}
 use Rattle.theory.specs.Marks.{Next, box, box?, box-yes, box-num, Marked, marked, mark-above}
-use Rattle.theory.specs.Calls.{Takes, takes, taken-fine, begun-fine}
-
--- MISSING begun from Promise
--- MISSING Newcomer-adds from Promise
+use Rattle.theory.specs.Calls.{Takes, takes, taken-fine}
 
 -- g 1 + .. + g n; shut, so that no numeral is counted through
 unfoldable pub sum-to : ℕ → (ℕ → ℕ) → ℕ
@@ -275,7 +272,3 @@ newcomer r f d b k =
       sum-to-add 16777216 (λ w. num w (suc (r .last)) (plan r)) (gain (mark r d) b),
       gain-sum (mark r d) b 16777216,
     )
-
-pub newcomer-adds : Newcomer-adds
-unfolding Newcomer-adds
-newcomer-adds l k d w cs a b c e = newcomer (begun l k cs) (begun-fine l k cs) d w (takes (begun l k cs) d w e)

@@ -11,7 +11,7 @@ use Rattle.rules.specs.Rows.{Row, Round, blank, heavier, row, In}
 use Rattle.rules.specs.Plan.{plan, in-plan, tight-after, mark, first-end, best}
 use Rattle.rules.specs.Steps.{changed, sent, is-ordinary}
 use Rattle.rules.specs.Table.{round-in, table-refusal}
-use Rattle.rules.specs.Calls.{sending, ordinary, leap, out-of, answer}
+use Rattle.rules.specs.Calls.{step, sending, ordinary, leap, out-of, answer}
 use Rattle.theory.specs.Full.{Fine}
 use Rattle.theory.specs.Back.{length-changed}
 use Rattle.theory.specs.Members.{Rows, of-rows-fine, found-member}
@@ -22,8 +22,6 @@ use Rattle.theory.specs.Segments.{Segment, segment-end, segment-begin, f
 use Rattle.theory.specs.Lead.{Leads, lead-best}
 use Rattle.theory.specs.Close.{after-slot, closed, sent-ordinary, sent-none, sent-row, sent-kept}
 use Rattle.theory.specs.Sender.{answer-sent}
-
--- TODO use Rattle.lirvedd.specs.Demand as Now
 
 -- WHAT A STEP DOES: p goes; of the rows xs those still due are left, but for one ticket
 pub record Sends (r : Round) (p : Row) (plain : Bool) (gone : ℕ) (xs : List Row) : Type 0 where
@@ -117,9 +115,9 @@ module _ (r : Round) (f : Fine r) (o : r .slot ≤ r .last) (rs : List Row) (c :
 
 -- THE ANSWER on a sound table
 pub sends-answer : (t : List ℕ) (p : Row) (plain : Bool) (gone : ℕ) (xs : List Row) → table-refusal t ≡ 0 → round-in t .slot ≤ round-in t .last →
-    Sends (round-in t) p plain gone xs → answer sending t ≡ Now.step (cond plain (ordinary (out-of p)) (leap (out-of p)))
+    Sends (round-in t) p plain gone xs → answer sending t ≡ step (cond plain (ordinary (out-of p)) (leap (out-of p)))
 unfolding is-ordinary
 sends-answer t p plain gone xs s o w =
     answer-sent t s o p (w .goes)
-    ∙ ap (λ (v : Bool). Now.step (cond v (ordinary (out-of p)) (leap (out-of p))))
+    ∙ ap (λ (v : Bool). step (cond v (ordinary (out-of p)) (leap (out-of p))))
     (sym (ap (λ (x : Row). leb (x .due) (first-end (round-in t) (plan (round-in t)))) (w .goes)) ∙ w .step)

@@ -1,0 +1,79 @@
+//! Rounds by hand, written as document 01 writes them: the last slot, then
+//! "due:weight" for each taking and "S" for each sending.
+
+use crate::call::Call;
+use crate::counts::{Slot, Ticket, Weight};
+use crate::mutation::Mutation;
+use crate::round::{Round, Row};
+use crate::table::{encode, row_at};
+
+/// Rounds P1 to P10, with their sendings, and the further rounds by hand.
+pub const ROUNDS: &[(&str, &str)] = &[
+    ("P1", "1; 0:4 1:10 S S"),
+    ("P2", "1; 0:4 1:11 S S"),
+    ("P3", "4; 0:1 4:9 S S S S S"),
+    ("P4", "2; 0:4 1:10 2:5 2:3 S S S"),
+    ("P5", "1; 1:5 1:5 S S"),
+    ("P6", "0; 0:5 0:5 S"),
+    ("P7", "0; 0:5 0:6 S"),
+    ("P8", "1; 0:2178309 1:5702887 S S"),
+    ("P9", "1; 0:3524578 1:9227465 S S"),
+    ("P10", "9; S S S S S S S S S S S"),
+    ("all substitutes", "4; 4:2 1:1 4:20 3:9 0:9 2:2 1:2 3:4 S S S S S"),
+    ("send, take, send", "3; 3:20 0:5 2:5 3:9 S 2:1 S S S"),
+    ("shift and raise", "4; 0:3 4:3 2:2 3:5 1:9 4:5 S S S S S"),
+    ("all equal", "3; 3:9 3:9 3:9 2:9 S S S S"),
+    ("two shifts", "4; 3:2 2:2 0:4 1:20 3:1 0:5 0:1 S S S S S"),
+    ("leap after leap", "3; 2:3 1:3 3:20 2:5 2:2 S 2:3 3:20 S S S"),
+    ("heaviest of later", "3; 1:20 2:5 3:3 0:9 3:20 2:1 S S S S"),
+    ("heavy h", "4; 0:3 4:20 1:4 1:4 4:2 4:3 4:20 2:20 S S S S S"),
+    ("blank substitute", "3; 1:11 3:20 1:2 S S S S"),
+    ("idle slot", "3; 3:9 3:5 S S S S"),
+    ("fresh marks", "3; 0:8 1:40 2:5 3:4 3:3 S S S S"),
+];
+
+/// The calls of a round by hand, its opening first.
+pub fn calls(text: &str) -> Vec<Call> {
+    let (last, rest) = text.split_once(';').expect("the last slot, then ';'");
+    let mut calls = vec![Call::Open { last: number(last) }];
+    for word in rest.split_whitespace() {
+        calls.push(match word.split_once(':') {
+            Some((due, weight)) => Call::Take { due: number(due), weight: number(weight) },
+            None => Call::Send,
+        });
+    }
+    calls
+}
+
+fn number(text: &str) -> u32 {
+    text.trim().parse().expect("a number")
+}
+
+/// A table of so many rows: ticket, due slot, weight and whether kept.
+pub fn table(rows: usize, last: u32, used: &[(u32, u32, u32, bool)]) -> Vec<u8> {
+    let row = |&(ticket, due, weight, kept): &(u32, u32, u32, bool)| Row {
+        ticket: Ticket(ticket),
+        due: Slot(due),
+        weight: Weight(weight),
+        kept,
+    };
+    let next = used.last().map_or(1, |row| row.0 + 1);
+    let round = Round {
+        slot: Slot(0),
+        last: Slot(last),
+        next: Ticket(next),
+        rows: used.iter().map(row).collect(),
+    };
+    let mut table = vec![0; row_at(rows)];
+    encode(&round, &mut table, Mutation::None);
+    table
+}
+
+/// The rows of a round as "due:weight (ticket)", kept blanks with "kept".
+pub fn shown(round: &Round) -> String {
+    let show = |row: &Row| {
+        let kept = if row.kept { "kept " } else { "" };
+        format!("{kept}{}:{} (t{})", row.due.0, row.weight.0, row.ticket.0)
+    };
+    round.rows.iter().map(show).collect::<Vec<_>>().join(" ")
+}

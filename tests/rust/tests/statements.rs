@@ -1,0 +1,109 @@
+//! The further rounds by hand: after the calls, the last step and the rows
+//! that wait; for the first of them the plan and its substitutes.
+
+use second::call::Call;
+use second::calls::{Second, Substitute};
+use second::counts::{Slot, Ticket, Weight};
+use second::hand::{calls, shown, table};
+use second::listing::Entry;
+use second::mutation::Mutation;
+use second::send::{Out, Step};
+use second::table::{decode, row_at};
+
+/// Plays a round by hand on a fresh table: each sending with the rows after it.
+fn play(text: &str) -> (Vec<u8>, Vec<(Step, String)>) {
+    let mut table = vec![0; row_at(12)];
+    let mut sendings = Vec::new();
+    for call in calls(text) {
+        match call {
+            Call::Send => {
+                let step = Second::PLAIN.send(&mut table).expect("a sending");
+                let round = decode(&table, Mutation::None);
+                sendings.push((step, shown(&round)));
+            }
+            _ => assert_eq!(Second::PLAIN.answer(call, &mut table) & 0xFF, 0),
+        }
+    }
+    (table, sendings)
+}
+
+fn leap(ticket: u32) -> Step {
+    Step::Leap(Out::Frame(Ticket(ticket)))
+}
+
+fn ordinary(ticket: u32) -> Step {
+    Step::Ordinary(Out::Frame(Ticket(ticket)))
+}
+
+/// A round whose only sending gives this step and leaves these rows.
+fn one(text: &str, step: Step, rows: &str) {
+    let (_, sendings) = play(&format!("{text} S"));
+    assert_eq!(sendings, [(step, rows.to_string())], "{text}");
+}
+
+#[test]
+fn plan_and_substitutes_of_the_first() {
+    let text = "4; 4:2 1:1 4:20 3:9 0:9 2:2 1:2 3:4";
+    let (table, _) = play(text);
+    let none = Entry { ticket: Ticket(0), due: Slot(0), weight: Weight(0) };
+    let mut entries = [none; 8];
+    assert_eq!(Second::PLAIN.list(&table, &mut entries), Ok(5));
+    let listed: Vec<u32> = entries[..5].iter().map(|entry| entry.ticket.0).collect();
+    assert_eq!(listed, [5, 7, 4, 8, 3]);
+    for (ticket, substitute) in [(3, 1), (4, 6), (5, 5), (7, 6), (8, 6)] {
+        let found = Second::PLAIN.substitute(Ticket(ticket), &table);
+        assert_eq!(found, Ok(Substitute::Ticket(Ticket(substitute))), "ticket {ticket}");
+    }
+    let rows = "4:2 (t1) 1:1 (t2) 4:20 (t3) 3:9 (t4) 2:2 (t6) 1:2 (t7) 3:4 (t8)";
+    one(text, ordinary(5), rows);
+}
+
+#[test]
+fn a_sending_between_takings() {
+    let (_, sendings) = play("3; 3:20 0:5 2:5 3:9 S 2:1 S");
+    let first = "kept 1:5 (t1) 2:5 (t3) 3:9 (t4)".to_string();
+    let second = "2:5 (t3) 3:9 (t4) 2:1 (t5)".to_string();
+    let blank = Step::Ordinary(Out::KeptBlank(Ticket(1)));
+    assert_eq!(sendings, [(leap(1), first), (blank, second)]);
+    let (_, sendings) = play("3; 2:3 1:3 3:20 2:5 2:2 S 2:3 3:20 S");
+    assert_eq!(sendings[0].0, leap(3));
+    assert!(sendings[0].1.contains("kept 3:3 (t3)"));
+    let rows = "2:3 (t1) kept 3:3 (t3) 2:5 (t4) 2:2 (t5) 2:3 (t6)".to_string();
+    assert_eq!(sendings[1], (leap(7), rows));
+}
+
+#[test]
+fn shifts_and_raises() {
+    one("4; 0:3 4:3 2:2 3:5 1:9 4:5", leap(5), "4:3 (t2) 2:3 (t3) 1:5 (t4) 4:5 (t6)");
+    one("4; 3:2 2:2 0:4 1:20 3:1 0:5 0:1", leap(4), "2:2 (t1) 1:5 (t2) 3:2 (t5)");
+    one("3; 1:20 2:5 3:3 0:9 3:20 2:1", leap(1), "2:5 (t2) 3:5 (t3) 1:20 (t5) 2:1 (t6)");
+    let heavy = "2:20 (t2) 1:4 (t3) 1:4 (t4) 4:2 (t5) 4:4 (t6) 4:20 (t7)";
+    one("4; 0:3 4:20 1:4 1:4 4:2 4:3 4:20 2:20", leap(8), heavy);
+    one("3; 0:8 1:40 2:5 3:4 3:3", leap(2), "1:8 (t3) 2:5 (t4) 3:4 (t5)");
+}
+
+#[test]
+fn equals_and_idle_slots() {
+    let (table, _) = play("3; 3:9 3:9 3:9 2:9");
+    for ticket in 1..=4 {
+        let found = Second::PLAIN.substitute(Ticket(ticket), &table);
+        assert_eq!(found, Ok(Substitute::Ticket(Ticket(3))), "ticket {ticket}");
+    }
+    one("3; 3:9 3:9 3:9 2:9", ordinary(4), "3:9 (t1) 3:9 (t2) 3:9 (t3)");
+    assert_eq!(play("3; 1:11 3:20 1:2 S").1[0].0, leap(2));
+    assert_eq!(play("3; 3:9 3:5 S").1[0].0, leap(1));
+}
+
+/// Sound tables that no list of calls reaches: kept blanks anywhere.
+#[test]
+fn kept_blanks_anywhere() {
+    let rows = [(1, 0, 4, false), (2, 1, 20, false), (3, 2, 9, true), (4, 2, 2, false)];
+    let mut lent = table(4, 2, &rows);
+    assert_eq!(Second::PLAIN.send(&mut lent), Ok(leap(2)));
+    let left = shown(&decode(&lent, Mutation::None));
+    assert_eq!(left, "kept 1:9 (t3) 2:4 (t4)");
+    let mut lent = table(2, 1, &[(1, 0, 4, false), (2, 1, 11, true)]);
+    let blank = Step::Leap(Out::KeptBlank(Ticket(2)));
+    assert_eq!(Second::PLAIN.send(&mut lent), Ok(blank));
+    assert_eq!(shown(&decode(&lent, Mutation::None)), "kept 1:4 (t2)");
+}

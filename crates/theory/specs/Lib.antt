@@ -37,3 +37,4 @@ pub mod Write
 pub mod Sender
 pub mod Whole
 pub mod Cover
+pub mod Judge

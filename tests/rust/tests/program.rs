@@ -1,0 +1,62 @@
+//! The program stationround, and document 01's sample through it.
+
+use second::station::printed;
+use std::io::Write;
+use std::process::{Command, Stdio};
+
+const SAMPLE: &str = "000001\n01000000000004\n0100010000000B\n02\n02\n";
+const ANSWER: &str = "00\n0100000001\n0100000002\n02010100000002\n02020000000002\n";
+
+/// What the program itself prints.
+fn run(input: &[u8]) -> String {
+    let mut child = Command::new(env!("CARGO_BIN_EXE_second_stationround"))
+        .stdin(Stdio::piped())
+        .stdout(Stdio::piped())
+        .spawn()
+        .expect("the program starts");
+    let mut stdin = child.stdin.take().expect("its input");
+    stdin.write_all(input).expect("it reads");
+    drop(stdin);
+    let output = child.wait_with_output().expect("it ends");
+    assert!(output.status.success());
+    String::from_utf8(output.stdout).expect("digits")
+}
+
+/// Both the program and the function give this output.
+fn prints(input: &str, output: &str) {
+    assert_eq!(printed(input.as_bytes()), output, "{input:?}");
+    assert_eq!(run(input.as_bytes()), output, "{input:?}");
+}
+
+#[test]
+fn sample() {
+    prints(SAMPLE, ANSWER);
+}
+
+#[test]
+fn named_replies() {
+    prints("", "");
+    prints("02\n", "FF03\n");
+    prints("000000\n02\n02\n", "00\n02000000000000\nFF05\n");
+    prints("000FFF\n001000\n00FFFF\n", "00\nFF04\nFF04\n");
+    prints("000001\n01000001000000\n01000001000001\n", "00\n0100000001\nFF06\n");
+    prints("000001\n01000200000001\n01000200000000\n", "00\nFF07\nFF06\n");
+}
+
+#[test]
+fn stops_after_refusal_1() {
+    prints("\n", "FF01\n");
+    prints("000000\n\n02\n", "00\nFF01\n");
+    prints("000000\n02", "00\nFF01\n");
+    prints("000000\n03\n02\n", "00\nFF01\n");
+    prints("000000\r\n02\n", "FF01\n");
+    prints("00000a\n02\n", "FF01\n");
+}
+
+#[test]
+fn the_table_has_1024_rows() {
+    let mut input = "000FFF\n".to_string();
+    input.push_str(&"01000000000001\n".repeat(1_025));
+    let output = printed(input.as_bytes());
+    assert!(output.ends_with("0100000400\nFF09\n"));
+}

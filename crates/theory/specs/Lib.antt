@@ -14,6 +14,7 @@ pub mod Back
 pub mod Order
 pub mod Same
 pub mod Sane
+pub mod Replies
 pub mod Third
 pub mod Golden
 pub mod Score

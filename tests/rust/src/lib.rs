@@ -8,6 +8,7 @@ pub mod bytes;
 pub mod call;
 pub mod calls;
 pub mod command;
+pub mod compare;
 
 pub mod counts;
 pub mod golden;

@@ -35,15 +35,26 @@ impl Free {
         &mut self.left[(due.0 - self.slot.0) as usize..]
     }
 
-    /// How many more members due in this slot leave the set feasible.
-    fn bears(&mut self, due: Slot) -> i16 {
-        self.from(due).iter().copied().fold(i16::MAX, i16::min)
+    /// Whether one more member due in this slot leaves the set feasible.
+    fn bears(&mut self, due: Slot) -> bool {
+        self.from(due).iter().copied().fold(i16::MAX, i16::min) > 0
     }
 
-    fn keep(&mut self, due: Slot, members: i16) {
+    /// Takes a member due in this slot into the set.
+    fn keep(&mut self, due: Slot) {
         for left in self.from(due) {
-            *left -= members;
+            *left -= 1;
         }
+    }
+
+    /// For each slot, how many more members due there the set can bear: the
+    /// least that is left there or later.
+    fn bears_from_each(&self) -> Vec<i16> {
+        let mut bears = self.left.clone();
+        for place in (1..bears.len()).rev() {
+            bears[place - 1] = bears[place - 1].min(bears[place]);
+        }
+        bears
     }
 }
 
@@ -74,8 +85,8 @@ impl Plan {
         let mut rows: Vec<Item> = round.rows.iter().map(Item::of_row).collect();
         rows.sort_by(|a, b| heaviest_first(a, b, self.mutation));
         for row in rows {
-            if free.bears(row.due) > 0 {
-                free.keep(row.due, 1);
+            if free.bears(row.due) {
+                free.keep(row.due);
                 self.members.push(row);
             } else {
                 self.outside.push(row);
@@ -84,16 +95,19 @@ impl Plan {
     }
 
     /// Blanks from the earliest due slot to the latest, in each as many as the
-    /// set bears, and one more outside.
+    /// set bears, and one more outside. A blank kept for one slot is due by
+    /// every later one too.
     fn choose_blanks(&mut self, free: &mut Free) {
-        for s in self.slot.0..=self.last.0 {
-            let due = Slot(s);
-            let members = free.bears(due);
-            free.keep(due, members);
-            for _ in 0..members {
-                self.members.push(Item::blank(due));
+        let bears = free.bears_from_each();
+        let mut kept = 0;
+        for (place, s) in (self.slot.0..=self.last.0).enumerate() {
+            let blank = Item::blank(Slot(s));
+            while kept < bears[place] {
+                self.members.push(blank);
+                kept += 1;
             }
-            self.outside.push(Item::blank(due));
+            free.left[place] -= kept;
+            self.outside.push(blank);
         }
     }
 

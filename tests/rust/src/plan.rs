@@ -1,7 +1,7 @@
 //! The plan: from heaviest to lightest, each row or blank that leaves the set
 //! feasible is kept (document 01; algorithm ComputePlan of the source).
 
-use crate::counts::Slot;
+use crate::counts::{Slot, Ticket};
 use crate::mutation::Mutation;
 use crate::order::{canonical, heaviest_first, Item};
 use crate::round::Round;
@@ -28,7 +28,10 @@ struct Free {
 impl Free {
     fn new(slot: Slot, last: Slot) -> Free {
         let slots = (last.0 + 1).saturating_sub(slot.0) as i16;
-        Free { slot, left: (1..=slots).collect() }
+        Free {
+            slot,
+            left: (1..=slots).collect(),
+        }
     }
 
     fn from(&mut self, due: Slot) -> &mut [i16] {
@@ -113,11 +116,17 @@ impl Plan {
 
     /// The sum of the members' weights, kept blanks included.
     pub fn total(&self) -> u64 {
-        self.members.iter().map(|item| u64::from(item.weight.0)).sum()
+        self.members
+            .iter()
+            .map(|item| u64::from(item.weight.0))
+            .sum()
     }
 
     /// The plan member with this ticket.
-    pub fn member(&self, ticket: crate::counts::Ticket) -> Option<Item> {
-        self.members.iter().copied().find(|item| item.ticket == Some(ticket))
+    pub fn member(&self, ticket: Ticket) -> Option<Item> {
+        self.members
+            .iter()
+            .copied()
+            .find(|item| item.ticket == Some(ticket))
     }
 }

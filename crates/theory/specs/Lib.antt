@@ -41,3 +41,4 @@ pub mod Cover
 pub mod Judge
 pub mod Digits
 pub mod Lines
+pub mod Flags

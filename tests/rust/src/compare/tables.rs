@@ -83,7 +83,10 @@ pub fn round(draw: &mut Draw, size: Size, most_rows: u32) -> Round {
         _ => draw.between(0, most_rows),
     };
     let (next, tickets) = tickets(draw, used);
-    let rows = rows(draw, Slot(slot), Slot(last), tickets);
+    let rows = match draw.below(4) {
+        0 if slot <= last => ladder(draw, Slot(slot), Slot(last), tickets),
+        _ => rows(draw, Slot(slot), Slot(last), tickets),
+    };
     Round {
         slot: Slot(slot),
         last: Slot(last),
@@ -125,6 +128,38 @@ fn rows(draw: &mut Draw, slot: Slot, last: Slot, tickets: Vec<Ticket>) -> Vec<Ro
         kept: draw.once_in(kept_once_in),
     };
     tickets.into_iter().map(row).collect()
+}
+
+/// About one row due in each slot, lighter from slot to slot but for a few
+/// heavy ones, and light rows left over: rounds with long leaps.
+fn ladder(draw: &mut Draw, slot: Slot, last: Slot, tickets: Vec<Ticket>) -> Vec<Row> {
+    let steps = u64::from(last.0 - slot.0) + 1;
+    let scale = *draw.pick(&[3, 10, 40, 100_000]);
+    let kept_once_in = *draw.pick(&[6, 1_000_000]);
+    let first = draw.below(tickets.len().max(1) as u64);
+    let mut place = first;
+    let mut row = |ticket| {
+        place = (place + 1) % tickets.len() as u64;
+        let over = place >= steps;
+        let step = if over { draw.below(steps) } else { place };
+        let falls = if over {
+            0
+        } else {
+            (steps - step) * scale / steps
+        };
+        let heavy = if draw.once_in(5) {
+            draw.between(3, 6)
+        } else {
+            1
+        };
+        Row {
+            ticket,
+            due: Slot(slot.0 + step as u32),
+            weight: Weight((falls as u32 + draw.between(1, 3)) * heavy),
+            kept: draw.once_in(kept_once_in),
+        }
+    };
+    tickets.iter().map(|ticket| row(*ticket)).collect()
 }
 
 /// The table of a round, with so many rows.

@@ -1,3 +1,5 @@
+use Rattle.round.proofs.NumberLaws.{field2}
+use mathlib.Core.Path.{_≡_, sym, _∙_}
 use borrow.Author.Needs.{needs}
 use Rattle.round.proofs.bytes.read2.Statement.{statement}
 use Rattle.round.proofs.bytes.read2.Tie as tie
@@ -23,7 +25,7 @@ join2-requires c κs = search needs
 
 -- src/bytes.rt:26:1
 returns : tie.Need-returns
-returns c = ?
+returns c = c .join2 .ensures ∙ sym (field2 _ _ (search needs))
 
 pub read2-spec : {M : Type 1} → statement M
 read2-spec =

@@ -1,3 +1,5 @@
+use Rattle.round.proofs.NumberLaws.{field4}
+use mathlib.Core.Path.{_≡_, sym, _∙_}
 use borrow.Author.Needs.{needs}
 use Rattle.round.proofs.bytes.read4.Statement.{statement}
 use Rattle.round.proofs.bytes.read4.Tie as tie
@@ -39,7 +41,7 @@ join4-requires c κs = search needs
 
 -- src/bytes.rt:33:1
 returns : tie.Need-returns
-returns c = ?
+returns c = c .join4 .ensures ∙ sym (field4 _ _ (search needs))
 
 pub read4-spec : {M : Type 1} → statement M
 read4-spec =

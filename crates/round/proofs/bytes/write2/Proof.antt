@@ -1,3 +1,5 @@
+use Rattle.round.proofs.NumberLaws.{sets2}
+use lib.ListN.{length-set}
 use borrow.Author.Needs.{needs}
 use Rattle.round.proofs.bytes.write2.Statement.{statement}
 use Rattle.round.proofs.bytes.write2.Tie as tie
@@ -22,7 +24,7 @@ add-bytes c = search needs
 
 -- src/bytes.rt:53:5
 slice-write-bytes-2 : tie.Need-slice-write-bytes-2
-slice-write-bytes-2 c = ?
+slice-write-bytes-2 c = simp length-set (search needs)
 
 -- src/bytes.rt:48:1
 same-length : tie.Need-same-length
@@ -30,7 +32,7 @@ same-length c = search needs
 
 -- src/bytes.rt:48:1
 returns : tie.Need-returns
-returns c = ?
+returns c = sets2 (c .args .bytes .now) (c .args .at) (c .args .value)
 
 pub write2-spec : {M : Type 1} → statement M
 write2-spec =

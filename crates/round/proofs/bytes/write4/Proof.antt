@@ -1,3 +1,5 @@
+use Rattle.round.proofs.NumberLaws.{sets4}
+use lib.ListN.{length-set}
 use borrow.Author.Needs.{needs}
 use Rattle.round.proofs.bytes.write4.Statement.{statement}
 use Rattle.round.proofs.bytes.write4.Tie as tie
@@ -22,7 +24,7 @@ add-bytes c = search needs
 
 -- src/bytes.rt:61:5
 slice-write-bytes-2 : tie.Need-slice-write-bytes-2
-slice-write-bytes-2 c = ?
+slice-write-bytes-2 c = simp length-set (search needs)
 
 -- src/bytes.rt:62:21
 cast-bytes-3 : tie.Need-cast-bytes-3
@@ -34,7 +36,7 @@ add-bytes-2 c = search needs
 
 -- src/bytes.rt:62:5
 slice-write-bytes-3 : tie.Need-slice-write-bytes-3
-slice-write-bytes-3 c = ?
+slice-write-bytes-3 c = simp length-set (search needs)
 
 -- src/bytes.rt:63:21
 cast-bytes-4 : tie.Need-cast-bytes-4
@@ -46,7 +48,7 @@ add-bytes-3 c = search needs
 
 -- src/bytes.rt:63:5
 slice-write-bytes-4 : tie.Need-slice-write-bytes-4
-slice-write-bytes-4 c = ?
+slice-write-bytes-4 c = simp length-set (search needs)
 
 -- src/bytes.rt:56:1
 same-length : tie.Need-same-length
@@ -54,7 +56,7 @@ same-length c = search needs
 
 -- src/bytes.rt:56:1
 returns : tie.Need-returns
-returns c = ?
+returns c = sets4 (c .args .bytes .now) (c .args .at) (c .args .value)
 
 pub write4-spec : {M : Type 1} → statement M
 write4-spec =

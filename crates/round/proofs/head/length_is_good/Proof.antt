@@ -1,3 +1,5 @@
+use borrow.Author.Tests.{le-leb, lt-leb}
+use Rattle.rules.specs.Table.{length-good}
 use borrow.Author.Needs.{needs}
 use Rattle.round.proofs.head.length_is_good.Statement.{statement}
 use Rattle.round.proofs.head.length_is_good.Tie as tie
@@ -10,7 +12,8 @@ add-if1 c = search needs
 
 -- src/head.rt:24:9
 returns : tie.Need-returns
-returns c = ?
+unfolding length-good
+returns c = simp (lt-leb _ _ (c .if1 .taken))
 
 -- src/head.rt:26:18
 sub-behind : tie.Need-sub-behind
@@ -18,7 +21,8 @@ sub-behind c = search needs
 
 -- src/head.rt:20:1
 returns-2 : tie.Need-returns-2
-returns-2 c = ?
+unfolding length-good
+returns-2 c = simp (le-leb _ _ (c .before .if1 .left))
 
 pub length-is-good-spec : {M : Type 1} → statement M
 length-is-good-spec = tie.close (tie.spec add-if1 returns sub-behind returns-2)

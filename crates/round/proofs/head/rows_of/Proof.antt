@@ -1,3 +1,4 @@
+use Rattle.rules.specs.Table.{rows-of}
 use borrow.Author.Needs.{needs}
 use Rattle.round.proofs.head.rows_of.Statement.{statement}
 use Rattle.round.proofs.head.rows_of.Tie as tie
@@ -10,7 +11,8 @@ sub-result c = search needs
 
 -- src/head.rt:31:1
 returns : tie.Need-returns
-returns c = ?
+unfolding rows-of
+returns c = search needs
 
 pub rows-of-spec : {M : Type 1} → statement M
 rows-of-spec = tie.close (tie.spec sub-result returns)

@@ -38,3 +38,6 @@ pub mod Sender
 pub mod Whole
 pub mod Cover
 pub mod Judge
+pub mod Fields
+pub mod Clauses
+pub mod Judged

@@ -41,3 +41,4 @@ pub mod Judge
 pub mod Fields
 pub mod Clauses
 pub mod Judged
+pub mod Soundness

@@ -42,3 +42,5 @@ pub mod Fields
 pub mod Clauses
 pub mod Judged
 pub mod Soundness
+pub mod Checks
+pub mod Refusals

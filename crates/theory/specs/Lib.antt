@@ -44,3 +44,4 @@ pub mod Judged
 pub mod Soundness
 pub mod Checks
 pub mod Refusals
+pub mod Stays

@@ -38,3 +38,10 @@ pub mod Sender
 pub mod Whole
 pub mod Cover
 pub mod Judge
+pub mod Fields
+pub mod Clauses
+pub mod Judged
+pub mod Soundness
+pub mod Checks
+pub mod Refusals
+pub mod Stays

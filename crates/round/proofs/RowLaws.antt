@@ -1,0 +1,1 @@
+-- A row's judge on words. Assumes nothing.

@@ -20,7 +20,7 @@ use Rattle.theory.specs.Calls.{no-refusal}
 use Rattle.theory.specs.Back.{read-back, length-table, table-good, good, next-sized}
 use Rattle.theory.specs.Sane.{Sane, next-sane, good-true, sound, left-is}
 use Rattle.theory.specs.Third.{opened-sane, opening-leaves}
-use Rattle.theory.specs.Clauses.{long}
+use Rattle.theory.specs.Clauses.{length-long}
 
 -- TABLES READ BACK
 pub tables-back : Tables-back
@@ -49,7 +49,7 @@ pub opening-sound : (l : ℕ) (t : List ℕ) → length-good (length t) ≡ true
 unfolding opened round
 opening-sound l t g h =
     let k = rows-of t in
-    let m = long t g in
+    let m = length-long t g in
     rw (opening-leaves t k l (m .0) (m .1) (m .2) h) (sane-table (opened l k) t (opened-sane l k h (m .1) (m .2)) (m .0))
 
 -- any call on a sound table, refused or not

@@ -14,6 +14,7 @@ pub mod Back
 pub mod Order
 pub mod Same
 pub mod Sane
+pub mod Replies
 pub mod Third
 pub mod Golden
 pub mod Score
@@ -45,3 +46,6 @@ pub mod Soundness
 pub mod Checks
 pub mod Refusals
 pub mod Stays
+pub mod Digits
+pub mod Lines
+pub mod Flags

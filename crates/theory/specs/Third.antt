@@ -1,12 +1,12 @@
 -- THE THIRD DEMAND, proved: demand-three. Assumes nothing.
 use mathlib.Core.Path.{_≡_, refl, sym, ap, _∙_}
-use mathlib.Core.Bool.{Bool, true, false, _&&_, not, cond}
+use mathlib.Core.Bool.{Bool, true, false, _||_, cond}
 use mathlib.Core.List.{List, [], _∷_, _++_}
 use Prim.Native.Nat.{ℕ, suc, _+_, _*_, _-_, _/_, _%_, _≤_, _<_}
 use native.Mathlib.Omega.{arith}
 use lib.Dec.{ltb, leb, eqb}
-use borrow.Author.Tests.{le-ltb, le-leb, eq-eqb, eqb-true}
-use lib.ListN.{length, length-append}
+use borrow.Author.Tests.{le-ltb, le-leb, eq-eqb, ltb-false}
+use lib.ListN.{length}
 use Rattle.rules.specs.Limits.{head-size, row-size, most-rows, most-last}
 use Rattle.rules.specs.Rows.{Row, Round, slots-left, round, chosen}
 use Rattle.rules.specs.Plan.{plan, total, total-weight, mark, planned, listed}
@@ -14,16 +14,16 @@ use Rattle.rules.specs.Steps.{opened, taken}
 use Rattle.rules.specs.Table.{table, rows-of, round-in, length-good}
 use Rattle.rules.specs.Calls.{Call, opening, taking, marking, totalling, Reply, refused, done, ticket, amount, first, open-refusal, take-refusal, mark-refusal, send-refusal, round-refusal, table-first, refusal, says, leaves, answer, left, run, replies, next-round, after, at}
 use Rattle.rules.specs.Demands.{No-opening, in-time, Point, Third, Demand-three}
-use Rattle.theory.specs.Tests.{either, eqb?}
 use Rattle.theory.specs.Sum.{sum-chosen}
 use Rattle.theory.specs.All.{all-map}
 use Rattle.theory.specs.Full.{Fine, Row-fine, plan-length}
-use Rattle.theory.specs.Calls.{takes, opened-fine, after-fine, after-stays, after-append}
+use Rattle.theory.specs.Calls.{no-refusal, or-false, takes, opened-fine, after-stays, after-append}
 use Rattle.theory.specs.Totals.{newcomer, best-weight}
 use Rattle.theory.specs.Times.{timed-feas, all-chosen, slots-of}
 use Rattle.theory.specs.Back.{sized-opened, read-back, table-good}
 use Rattle.theory.specs.Same.{listed-planned, planned-in-time, listed-in-order, planned-weighs, listed-weighs}
-use Rattle.theory.specs.Sane.{Sane, next-sane, after-sane, answer-is, left-is, run-is}
+use Rattle.theory.specs.Sane.{Sane, next-sane, after-sane, answer-is, run-is}
+use Rattle.theory.specs.Replies.{replies-after, mark-answered, total-answered, taking-answered, asking-leaves, taking-leaves}
 
 -- WHAT HOLDS OF A SOUND ROUND
 pub empty : (xs : List Row) → length xs ≡ 0 → xs ≡ []
@@ -105,9 +105,86 @@ pub at-taken : (k l : ℕ) (xs : List Call) (d w : ℕ) → take-refusal (at k l
 unfolding next-round round-refusal leaves
 at-taken k l xs d w e = at-next k l xs (taking d w) ∙ rw (eq-eqb (take-refusal (at k l xs) d w) 0 e)
 
+-- an accepted taking leaves a sound round
+pub taken-sane : (r : Round) → Sane r → (d w : ℕ) → take-refusal r d w ≡ 0 → Sane (taken r d w)
+unfolding next-round round-refusal leaves
+taken-sane r s d w e =
+    let h = next-sane (taking d w) r s in
+    let c : eqb (take-refusal r d w) 0 ≡ true = eq-eqb (take-refusal r d w) 0 e in rw c at h
+
+-- a mark is answered for a slot ahead
+pub marked-ahead : (r : Round) (s : ℕ) → mark-refusal r s ≡ 0 → (r .slot ≤ s) × (s ≤ r .last)
+unfolding mark-refusal
+marked-ahead r s e =
+    let a = no-refusal (ltb (r .last) (r .slot)) 4 _ e in
+    let b = or-false (ltb s (r .slot)) (ltb (r .last) s) (no-refusal (ltb s (r .slot) || ltb (r .last) s) 6 0 (a .1) .0) in
+    (ltb-false s (r .slot) (b .0), ltb-false (r .last) s (b .1))
+
 pub marks-between : (k l : ℕ) (xs ys : List Call) (s : ℕ) → Sane (at k l xs) → No-opening ys → at k l (xs ++ ys) .slot ≤ s →
     s ≤ at k l (xs ++ ys) .last → mark (at k l xs) s ≤ mark (at k l (xs ++ ys)) s
 marks-between k l xs ys s a n h i =
     let e = at-append k l xs ys in
     let b = after-stays s ys (at k l xs) (a .fine) n in
     rw e (b .2 (rw e at h) (omega (arith, b .0, rw e at i)))
+
+-- TWO MARKS ANSWERED, with no accepted opening between
+pub marks-by-replies : (r : Round) → Sane r → (ys zs : List Call) (qs ts : List Reply) (s m n : ℕ) → No-opening ys → length qs ≡ length ys →
+    replies (marking s ∷ (ys ++ (marking s ∷ zs))) (table r) ≡ amount m ∷ (qs ++ (amount n ∷ ts)) → m ≤ n
+unfolding replies leaves mark-refusal
+marks-by-replies r a ys zs qs ts s m n o h e =
+    let z = after ys r in
+    let b : Sane z = after-sane ys r a in
+    let c : replies (ys ++ (marking s ∷ zs)) (left (marking s) (table r)) ≡ qs ++ (amount n ∷ ts) = cc in
+    let d : replies (marking s ∷ zs) (run ys (table r)) ≡ amount n ∷ ts =
+    replies-after ys (marking s ∷ zs) (table r) qs (amount n ∷ ts) (rw (asking-leaves r a (marking s) refl) at c) h in
+    let f : answer (marking s) (table r) ≡ amount m = cc in
+    let g : answer (marking s) (run ys (table r)) ≡ amount n = cc in
+    let i = mark-answered r a s m f in
+    let j = mark-answered z b s n (rw (run-is ys r a) at g) in
+    let u = marked-ahead z s (j .0) in
+    let v = after-stays s ys r (a .fine) o in
+    omega (arith, i .1, j .1, u .0, u .1, v .0, v .2 (u .0) (omega (arith, v .0, u .1)))
+
+-- A NEWCOMER between two totals answered
+pub newcomer-by-replies : (r : Round) → Sane r → (ys : List Call) (qs : List Reply) (d w k a m b : ℕ) →
+    replies (totalling ∷ marking d ∷ taking d w ∷ totalling ∷ ys) (table r) ≡ amount a ∷ amount m ∷ ticket k ∷ amount b ∷ qs → b ≡ a + (w - m)
+unfolding replies leaves
+newcomer-by-replies r s ys qs d w k a m b e =
+    let e₁ : replies (marking d ∷ taking d w ∷ totalling ∷ ys) (left totalling (table r)) ≡ amount m ∷ ticket k ∷ amount b ∷ qs = cc in
+    let e₂ = (rw (asking-leaves r s totalling refl) at e₁) in
+    let e₃ : replies (taking d w ∷ totalling ∷ ys) (left (marking d) (table r)) ≡ ticket k ∷ amount b ∷ qs = cc in
+    let e₄ = (rw (asking-leaves r s (marking d) refl) at e₃) in
+    let e₅ : replies (totalling ∷ ys) (left (taking d w) (table r)) ≡ amount b ∷ qs = cc in
+    let f : answer totalling (table r) ≡ amount a = cc in
+    let g : answer (marking d) (table r) ≡ amount m = cc in
+    let h : answer (taking d w) (table r) ≡ ticket k = cc in
+    let i : take-refusal r d w ≡ 0 = taking-answered r s d w k h in
+    let j : answer totalling (left (taking d w) (table r)) ≡ amount b = cc in
+    omega (
+      arith,
+      total-answered r s a f,
+      mark-answered r s d m g .1,
+      total-answered (taken r d w) (taken-sane r s d w i) b (rw (taking-leaves r s d w i) at j),
+      newcomer r (s .fine) d w (takes r d w i),
+    )
+
+pub demand-three : Demand-three
+unfolding Demand-three round-refusal
+demand-three t k l cs e h i j =
+    record {
+      opens = opening-answers t k l e h i j;
+      points = λ xs ys _. rw (run-at t k l e h i j xs) (point (at k l xs) (at-sane t k l e h i j xs));
+      marks = λ xs ys zs s _ n a b. marks-between k l xs ys s (at-sane t k l e h i j xs) n a b;
+      newcomers = λ xs ys d w _ a. rw (at-taken k l xs d w a)
+          (newcomer (at k l xs) (at-sane t k l e h i j xs .fine) d w (takes (at k l xs) d w a));
+      marks-answered = λ xs ys zs ps qs ts s m n c o a u v.
+          marks-by-replies (at k l xs) (at-sane t k l e h i j xs) ys zs qs ts s m n o v
+          (after-replies xs (marking s ∷ (ys ++ (marking s ∷ zs))) ps (amount m ∷ (qs ++ (amount n ∷ ts))) c a u);
+      newcomers-answered = λ xs ys ps qs d w k′ a m b c z u.
+          newcomer-by-replies (at k l xs) (at-sane t k l e h i j xs) ys qs d w k′ a m b
+          (after-replies xs (totalling ∷ marking d ∷ taking d w ∷ totalling ∷ ys) ps (amount a ∷ amount m ∷ ticket k′ ∷ amount b ∷ qs) c z u);
+    }
+  where
+    after-replies : (xs ys : List Call) (ps qs : List Reply) → cs ≡ xs ++ ys → replies cs (left (opening l) t) ≡ ps ++ qs → length ps ≡ length xs →
+        replies ys (table (at k l xs)) ≡ qs
+    after-replies xs ys ps qs c a u = rw (run-at t k l e h i j xs) at (replies-after xs ys (left (opening l) t) ps qs (rw c at a) u)

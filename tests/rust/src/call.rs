@@ -43,4 +43,9 @@ impl CallName {
         CallName::Total,
         CallName::Substitute,
     ];
+
+    /// Whether the call needs the plan.
+    pub fn plans(self) -> bool {
+        !matches!(self, CallName::Open | CallName::Take)
+    }
 }

@@ -1,0 +1,119 @@
+//! The bench: one call asked of both, and every difference told.
+
+use crate::call::{Call, CallName};
+use crate::calls::Second;
+use crate::compare::library::{ask, has, Library};
+use crate::compare::store::Store;
+use crate::compare::tally::Tally;
+use std::fmt;
+
+pub struct Bench<'a> {
+    library: &'a mut dyn Library,
+    second: Second,
+    store: Store,
+    before: Vec<u8>,
+    /// Calls that agreed so far.
+    pub agreed: u64,
+    /// Their outcomes.
+    pub tally: Tally,
+}
+
+/// Where the two differ.
+#[derive(Debug)]
+pub struct Difference {
+    pub call: Call,
+    pub library: u64,
+    pub second: u64,
+    pub what: String,
+    pub before: Vec<u8>,
+}
+
+pub type Agreed<T> = Result<T, Box<Difference>>;
+
+impl<'a> Bench<'a> {
+    pub fn new(library: &'a mut dyn Library, second: Second) -> Bench<'a> {
+        Bench {
+            library,
+            second,
+            store: Store::new(),
+            before: Vec::new(),
+            agreed: 0,
+            tally: Tally::default(),
+        }
+    }
+
+    pub fn has(&self, call: CallName) -> bool {
+        has(self.library, call)
+    }
+
+    /// Asks both and compares the reply, each lent byte and the guard bytes.
+    /// A call that the library lacks is made by the second one alone, so that
+    /// the table still moves on.
+    pub fn check(&mut self, call: Call, table: &mut [u8]) -> Agreed<u64> {
+        if !self.has(call.name()) {
+            return Ok(self.second.answer(call, table));
+        }
+        self.before.clear();
+        self.before.extend_from_slice(table);
+        let lent = self.store.lend(table, self.agreed as usize);
+        let library = ask(self.library, call, lent);
+        let second = self.second.answer(call, table);
+        let what = self.difference(library, second, table);
+        if let Some(what) = what {
+            let before = self.before.clone();
+            return Err(Box::new(Difference {
+                call,
+                library,
+                second,
+                what,
+                before,
+            }));
+        }
+        self.agreed += 1;
+        self.tally.add(call.name(), second);
+        Ok(second)
+    }
+
+    /// The same on a copy, for a call whose table is not wanted.
+    pub fn check_aside(&mut self, call: Call, table: &[u8]) -> Agreed<u64> {
+        if !self.has(call.name()) {
+            return Ok(0);
+        }
+        self.check(call, &mut table.to_vec())
+    }
+
+    fn difference(&self, library: u64, second: u64, table: &[u8]) -> Option<String> {
+        if !self.store.guarded() {
+            return Some("bytes outside the table changed".to_string());
+        }
+        if library != second {
+            return Some("the replies differ".to_string());
+        }
+        let lent = self.store.lent();
+        if lent == table {
+            return None;
+        }
+        let at = (0..table.len()).find(|at| lent[*at] != table[*at])?;
+        Some(format!(
+            "byte {at} is {:02X}, not {:02X}",
+            lent[at], table[at]
+        ))
+    }
+}
+
+impl fmt::Display for Difference {
+    fn fmt(&self, out: &mut fmt::Formatter<'_>) -> fmt::Result {
+        writeln!(out, "{:?}: {}", self.call, self.what)?;
+        writeln!(
+            out,
+            "library {:#X}, second {:#X}",
+            self.library, self.second
+        )?;
+        write!(out, "table before, {} bytes:", self.before.len())?;
+        for (at, byte) in self.before.iter().take(16 + 24 * 20).enumerate() {
+            let starts = at == 0 || at >= 16 && (at - 16) % 24 == 0;
+            write!(out, "{}{byte:02X}", if starts { "\n  " } else { " " })?;
+        }
+        Ok(())
+    }
+}

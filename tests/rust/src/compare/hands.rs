@@ -1,0 +1,53 @@
+//! The rounds by hand, with every mark, total and substitute on the way.
+
+use crate::call::Call;
+use crate::compare::bench::{Agreed, Bench};
+use crate::compare::draw::Draw;
+use crate::hand;
+use crate::table::row_at;
+
+/// One case for each round by hand, and one for the tables by hand.
+pub const CASES: u64 = hand::ROUNDS.len() as u64 + 1;
+
+/// Asks everything that leaves the table as it is.
+fn questions(bench: &mut Bench, table: &[u8]) -> Agreed<()> {
+    for slot in 0..=10 {
+        bench.check_aside(Call::Mark { slot }, table)?;
+    }
+    for ticket in 0..=10 {
+        bench.check_aside(Call::Substitute { ticket }, table)?;
+    }
+    bench.check_aside(Call::Total, table)?;
+    Ok(())
+}
+
+pub fn run(bench: &mut Bench, _: &mut Draw, case: u64) -> Agreed<()> {
+    let Some((_, text)) = hand::ROUNDS.get(case as usize) else {
+        return tables(bench);
+    };
+    let mut table = vec![0; row_at(10)];
+    for call in hand::calls(text) {
+        bench.check(call, &mut table)?;
+        questions(bench, &table)?;
+    }
+    Ok(())
+}
+
+/// Kept blanks where no list of calls brings them.
+fn tables(bench: &mut Bench) -> Agreed<()> {
+    let shifted = [
+        (1, 0, 4, false),
+        (2, 1, 20, false),
+        (3, 2, 9, true),
+        (4, 2, 2, false),
+    ];
+    let leaping = [(1, 0, 4, false), (2, 1, 11, true)];
+    for (last, rows) in [(2, shifted.as_slice()), (1, leaping.as_slice())] {
+        let mut table = hand::table(rows.len(), last, rows);
+        for _ in 0..3 {
+            questions(bench, &table)?;
+            bench.check(Call::Send, &mut table)?;
+        }
+    }
+    Ok(())
+}

@@ -1,0 +1,118 @@
+//! The kinds of input, and a run through all of them.
+
+use crate::calls::Second;
+use crate::compare::bench::{Agreed, Bench, Difference};
+use crate::compare::draw::Draw;
+use crate::compare::library::Library;
+use crate::compare::tally::Tally;
+use crate::compare::{bytes, damage, extremes, hands, large, lengths, lists, sound};
+
+pub struct Kind {
+    pub name: &'static str,
+    /// How many cases there are.
+    pub cases: u64,
+    /// Whether the factor makes them more; otherwise they are all there are.
+    pub grows: bool,
+    run: fn(&mut Bench, &mut Draw, u64) -> Agreed<()>,
+}
+
+pub const KINDS: &[Kind] = &[
+    Kind {
+        name: "hand",
+        cases: hands::CASES,
+        grows: false,
+        run: hands::run,
+    },
+    Kind {
+        name: "lengths",
+        cases: lengths::CASES,
+        grows: false,
+        run: lengths::run,
+    },
+    Kind {
+        name: "extremes",
+        cases: extremes::CASES,
+        grows: false,
+        run: extremes::run,
+    },
+    Kind {
+        name: "bytes",
+        cases: bytes::CASES,
+        grows: false,
+        run: bytes::run,
+    },
+    Kind {
+        name: "sound",
+        cases: 120_000,
+        grows: true,
+        run: sound::run,
+    },
+    Kind {
+        name: "damaged",
+        cases: 120_000,
+        grows: true,
+        run: damage::run,
+    },
+    Kind {
+        name: "lists",
+        cases: 4_000,
+        grows: true,
+        run: lists::run,
+    },
+    Kind {
+        name: "large",
+        cases: 200,
+        grows: true,
+        run: large::run,
+    },
+];
+
+/// What a run is told.
+#[derive(Clone, Copy)]
+pub struct Settings {
+    pub seed: u64,
+    pub factor: f64,
+    /// Leave out the kinds that are not drawn.
+    pub drawn_only: bool,
+}
+
+/// A difference, and where it was met.
+pub struct Found {
+    pub kind: &'static str,
+    pub case: u64,
+    pub difference: Box<Difference>,
+}
+
+impl Kind {
+    fn cases(&self, settings: Settings) -> u64 {
+        match self.grows {
+            true => (self.cases as f64 * settings.factor).ceil() as u64,
+            false if settings.drawn_only => 0,
+            false => self.cases,
+        }
+    }
+}
+
+/// Runs every kind, telling the agreed calls of each, up to a difference.
+pub fn run(
+    library: &mut dyn Library,
+    second: Second,
+    settings: Settings,
+    mut tell: impl FnMut(&Kind, u64),
+) -> Result<Tally, Found> {
+    let mut bench = Bench::new(library, second);
+    for (number, kind) in KINDS.iter().enumerate() {
+        let before = bench.agreed;
+        for case in 0..kind.cases(settings) {
+            let mut draw = Draw::for_case(settings.seed, number as u64, case);
+            let ended = (kind.run)(&mut bench, &mut draw, case);
+            ended.map_err(|difference| Found {
+                kind: kind.name,
+                case,
+                difference,
+            })?;
+        }
+        tell(kind, bench.agreed - before);
+    }
+    Ok(bench.tally)
+}

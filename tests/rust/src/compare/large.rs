@@ -1,0 +1,44 @@
+//! Full tables of 1,024 rows, rounds of up to 4,096 slots, and the longest
+//! leaps.
+
+use crate::call::Call;
+use crate::compare::bench::{Agreed, Bench};
+use crate::compare::draw::Draw;
+use crate::compare::tables::{round, table, Size};
+use crate::hand;
+
+pub fn run(bench: &mut Bench, draw: &mut Draw, case: u64) -> Agreed<()> {
+    let mut table = match case % 4 {
+        0 => chain(draw),
+        _ => {
+            let last = *draw.pick(&[300, 1_023, 1_024, 2_000, 4_095]);
+            let round = round(draw, Size { rows: 1_024, last }, 1_024);
+            table(&round, 1_024)
+        }
+    };
+    for _ in 0..4 {
+        let slot = draw.between(0, 4_095);
+        bench.check_aside(Call::Mark { slot }, &table)?;
+        bench.check_aside(Call::Total, &table)?;
+        let ticket = draw.between(0, 1_024);
+        bench.check_aside(Call::Substitute { ticket }, &table)?;
+        let weight = draw.between(1, 1_000);
+        bench.check(Call::Take { due: slot, weight }, &mut table)?;
+        bench.check(Call::Send, &mut table)?;
+        let due = draw.between(0, 4_095);
+        bench.check(Call::Take { due, weight }, &mut table)?;
+    }
+    Ok(())
+}
+
+/// A round whose first sending shifts as many members as can be.
+fn chain(draw: &mut Draw) -> Vec<u8> {
+    let frames = draw.between(4, 1_024);
+    let last = frames - 2;
+    let mut rows = vec![(1, 0, 1, false)];
+    for due in 1..=last {
+        rows.push((due + 1, due, 2, false));
+    }
+    rows.push((frames, last, 1, false));
+    hand::table(1_024, last, &rows)
+}

@@ -39,3 +39,5 @@ pub mod Sender
 pub mod Whole
 pub mod Cover
 pub mod Judge
+pub mod Digits
+pub mod Lines

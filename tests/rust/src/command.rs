@@ -53,7 +53,9 @@ fn command(line: &[u8]) -> Option<Command> {
     }
     let (which, rest) = digits.split_at(2);
     match (which, rest.len()) {
-        (b"00", 4) => Some(Command::Open { last: Slot(number(rest)?) }),
+        (b"00", 4) => Some(Command::Open {
+            last: Slot(number(rest)?),
+        }),
         (b"01", 12..) if is_payload(&rest[12..]) => Some(Command::Take {
             due: Slot(number(&rest[..4])?),
             weight: Weight(number(&rest[4..12])?),

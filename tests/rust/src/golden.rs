@@ -45,7 +45,10 @@ fn plain(score: Score) -> u64 {
 }
 
 fn turned(score: Score) -> Score {
-    Score { own: score.substitute, substitute: score.own }
+    Score {
+        own: score.substitute,
+        substitute: score.own,
+    }
 }
 
 #[cfg(test)]
@@ -53,7 +56,10 @@ mod tests {
     use super::*;
 
     fn score(own: u32, substitute: u32) -> Score {
-        Score { own: Weight(own), substitute: Weight(substitute) }
+        Score {
+            own: Weight(own),
+            substitute: Weight(substitute),
+        }
     }
 
     fn greater(a: Score, b: Score) -> bool {
@@ -67,7 +73,11 @@ mod tests {
             for y in 0..200u32 {
                 let other = x > 0 && x * y + y * y < x * x;
                 assert_eq!(greater(score(x, 0), score(0, y)), other, "{x} {y}");
-                assert_eq!(greater(score(0, y), score(x, 0)), !other && y > 0, "{x} {y}");
+                assert_eq!(
+                    greater(score(0, y), score(x, 0)),
+                    !other && y > 0,
+                    "{x} {y}"
+                );
             }
         }
     }
@@ -80,7 +90,10 @@ mod tests {
                 assert_ne!(found, Ordering::Equal);
             }
         }
-        assert_eq!(compare(score(3, 4), score(3, 4), Mutation::None), Ordering::Equal);
+        assert_eq!(
+            compare(score(3, 4), score(3, 4), Mutation::None),
+            Ordering::Equal
+        );
     }
 
     /// Neighbours in Fibonacci's row come nearest to φ, once above, once below.
@@ -88,7 +101,11 @@ mod tests {
     fn fibonacci_takes_turns() {
         let (mut small, mut large, mut above) = (1u32, 2u32, true);
         while large <= 16_777_216 {
-            assert_eq!(greater(score(large, 0), score(0, small)), above, "{large} {small}");
+            assert_eq!(
+                greater(score(large, 0), score(0, small)),
+                above,
+                "{large} {small}"
+            );
             (small, large, above) = (large, large + small, !above);
         }
     }

@@ -22,7 +22,9 @@ fn shift(round: &mut Round, plan: &Plan, fresh: &mut Fresh, p: Item, r: Item) {
     let g = plan.tight_from(r.due);
     let mut e = plan.tight_from(p.due);
     while e < g {
-        let h = plan.heaviest_between(e, g).expect("each segment has a member");
+        let h = plan
+            .heaviest_between(e, g)
+            .expect("each segment has a member");
         let raised = match plan.mutation {
             Mutation::HNotRaised => h.weight,
             Mutation::HSetToMark => fresh.mark(plan, e),
@@ -52,7 +54,12 @@ fn raise(round: &mut Round, plan: &Plan, p: Item, r: Item, mark: Weight) {
                 _ => r.due,
             };
             let kept = plan.mutation != Mutation::KeptBlankAsFrame;
-            round.rows[place] = Row { ticket, due, weight: mark, kept };
+            round.rows[place] = Row {
+                ticket,
+                due,
+                weight: mark,
+                kept,
+            };
             return;
         }
     }
@@ -88,13 +95,19 @@ struct Fresh {
 impl Fresh {
     fn new(plan: &Plan) -> Fresh {
         let wrong = plan.mutation == Mutation::MarksAfterShift;
-        Fresh { members: wrong.then(|| plan.members.clone()) }
+        Fresh {
+            members: wrong.then(|| plan.members.clone()),
+        }
     }
 
     fn shifted(&mut self, h: Item, due: Slot, weight: Weight) {
         for item in self.members.iter_mut().flatten() {
             if item.ticket == h.ticket {
-                *item = Item { due, weight, ticket: h.ticket };
+                *item = Item {
+                    due,
+                    weight,
+                    ticket: h.ticket,
+                };
             }
         }
     }

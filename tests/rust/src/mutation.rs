@@ -131,7 +131,10 @@ impl Mutation {
     }
 
     pub fn named(name: &str) -> Option<Mutation> {
-        Mutation::ALL.iter().copied().find(|mutation| mutation.name() == name)
+        Mutation::ALL
+            .iter()
+            .copied()
+            .find(|mutation| mutation.name() == name)
     }
 
     /// The fault as the planning calls have it: a fault in judging tables is

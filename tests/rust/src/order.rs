@@ -15,11 +15,19 @@ pub struct Item {
 
 impl Item {
     pub fn of_row(row: &Row) -> Item {
-        Item { due: row.due, weight: row.weight, ticket: Some(row.ticket) }
+        Item {
+            due: row.due,
+            weight: row.weight,
+            ticket: Some(row.ticket),
+        }
     }
 
     pub fn blank(due: Slot) -> Item {
-        Item { due, weight: Weight(0), ticket: None }
+        Item {
+            due,
+            weight: Weight(0),
+            ticket: None,
+        }
     }
 }
 

@@ -2,8 +2,9 @@
 //! the refusal, 0 when accepted; a refusal has every other bit 0.
 
 use crate::call::Call;
-use crate::calls::{Second, Substitute};
+use crate::calls::Second;
 use crate::counts::{Slot, Ticket, Weight};
+use crate::questions::Substitute;
 use crate::refusal::Refusal;
 use crate::send::{Out, Step};
 
@@ -12,11 +13,15 @@ impl Second {
     pub fn answer(&self, call: Call, table: &mut [u8]) -> u64 {
         match call {
             Call::Open { last } => packed(self.open(Slot(last), table), |()| 0),
-            Call::Take { due, weight } => packed(self.take(Slot(due), Weight(weight), table), ticket),
+            Call::Take { due, weight } => {
+                packed(self.take(Slot(due), Weight(weight), table), ticket)
+            }
             Call::Send => packed(self.send(table), step),
             Call::Mark { slot } => packed(self.mark(Slot(slot), table), mark),
             Call::Total => packed(self.total(table), |total| total << 8),
-            Call::Substitute { ticket } => packed(self.substitute(Ticket(ticket), table), substitute),
+            Call::Substitute { ticket } => {
+                packed(self.substitute(Ticket(ticket), table), substitute)
+            }
         }
     }
 }

@@ -1,7 +1,7 @@
 //! The plan: from heaviest to lightest, each row or blank that leaves the set
 //! feasible is kept (document 01; algorithm ComputePlan of the source).
 
-use crate::counts::Slot;
+use crate::counts::{Slot, Ticket};
 use crate::mutation::Mutation;
 use crate::order::{canonical, heaviest_first, Item};
 use crate::round::Round;
@@ -28,22 +28,36 @@ struct Free {
 impl Free {
     fn new(slot: Slot, last: Slot) -> Free {
         let slots = (last.0 + 1).saturating_sub(slot.0) as i16;
-        Free { slot, left: (1..=slots).collect() }
+        Free {
+            slot,
+            left: (1..=slots).collect(),
+        }
     }
 
     fn from(&mut self, due: Slot) -> &mut [i16] {
         &mut self.left[(due.0 - self.slot.0) as usize..]
     }
 
-    /// How many more members due in this slot leave the set feasible.
-    fn bears(&mut self, due: Slot) -> i16 {
-        self.from(due).iter().copied().fold(i16::MAX, i16::min)
+    /// Whether one more member due in this slot leaves the set feasible.
+    fn bears(&mut self, due: Slot) -> bool {
+        self.from(due).iter().copied().fold(i16::MAX, i16::min) > 0
     }
 
-    fn keep(&mut self, due: Slot, members: i16) {
+    /// Takes a member due in this slot into the set.
+    fn keep(&mut self, due: Slot) {
         for left in self.from(due) {
-            *left -= members;
+            *left -= 1;
         }
+    }
+
+    /// For each slot, how many more members due there the set can bear: the
+    /// least that is left there or later.
+    fn bears_from_each(&self) -> Vec<i16> {
+        let mut bears = self.left.clone();
+        for place in (1..bears.len()).rev() {
+            bears[place - 1] = bears[place - 1].min(bears[place]);
+        }
+        bears
     }
 }
 
@@ -74,8 +88,8 @@ impl Plan {
         let mut rows: Vec<Item> = round.rows.iter().map(Item::of_row).collect();
         rows.sort_by(|a, b| heaviest_first(a, b, self.mutation));
         for row in rows {
-            if free.bears(row.due) > 0 {
-                free.keep(row.due, 1);
+            if free.bears(row.due) {
+                free.keep(row.due);
                 self.members.push(row);
             } else {
                 self.outside.push(row);
@@ -84,26 +98,35 @@ impl Plan {
     }
 
     /// Blanks from the earliest due slot to the latest, in each as many as the
-    /// set bears, and one more outside.
+    /// set bears, and one more outside. A blank kept for one slot is due by
+    /// every later one too.
     fn choose_blanks(&mut self, free: &mut Free) {
-        for s in self.slot.0..=self.last.0 {
-            let due = Slot(s);
-            let members = free.bears(due);
-            free.keep(due, members);
-            for _ in 0..members {
-                self.members.push(Item::blank(due));
+        let bears = free.bears_from_each();
+        let mut kept = 0;
+        for (place, s) in (self.slot.0..=self.last.0).enumerate() {
+            let blank = Item::blank(Slot(s));
+            while kept < bears[place] {
+                self.members.push(blank);
+                kept += 1;
             }
-            self.outside.push(Item::blank(due));
+            free.left[place] -= kept;
+            self.outside.push(blank);
         }
     }
 
     /// The sum of the members' weights, kept blanks included.
     pub fn total(&self) -> u64 {
-        self.members.iter().map(|item| u64::from(item.weight.0)).sum()
+        self.members
+            .iter()
+            .map(|item| u64::from(item.weight.0))
+            .sum()
     }
 
     /// The plan member with this ticket.
-    pub fn member(&self, ticket: crate::counts::Ticket) -> Option<Item> {
-        self.members.iter().copied().find(|item| item.ticket == Some(ticket))
+    pub fn member(&self, ticket: Ticket) -> Option<Item> {
+        self.members
+            .iter()
+            .copied()
+            .find(|item| item.ticket == Some(ticket))
     }
 }

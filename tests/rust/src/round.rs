@@ -33,7 +33,12 @@ impl Round {
 
     /// The round just after opening.
     pub fn opened(last: Slot) -> Round {
-        Round { slot: Slot(0), last, next: Ticket(1), rows: Vec::new() }
+        Round {
+            slot: Slot(0),
+            last,
+            next: Ticket(1),
+            rows: Vec::new(),
+        }
     }
 
     /// The place of the row with this ticket.

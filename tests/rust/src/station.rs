@@ -26,16 +26,24 @@ impl Default for Station {
 impl Station {
     /// A table of 1,024 rows, all zero at first.
     pub fn new() -> Station {
-        Station { table: vec![0; row_at(Round::ROWS)] }
+        Station {
+            table: vec![0; row_at(Round::ROWS)],
+        }
     }
 
     /// The reply to one line. The last line may lack its 0A.
     pub fn reply(&mut self, line: &[u8]) -> Reply {
         let Ok(command) = read(line) else {
-            return Reply { text: refused(Refusal::Line), goes_on: false };
+            return Reply {
+                text: refused(Refusal::Line),
+                goes_on: false,
+            };
         };
         let text = self.answer(command).unwrap_or_else(refused);
-        Reply { text, goes_on: true }
+        Reply {
+            text,
+            goes_on: true,
+        }
     }
 
     fn answer(&mut self, command: Command) -> Result<String, Refusal> {

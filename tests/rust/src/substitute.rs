@@ -57,7 +57,11 @@ fn heaviest_from(plan: &Plan) -> Vec<Item> {
         .collect();
     let heavier = |a: &Item, b: &Item| heaviest_first(a, b, plan.mutation).is_lt();
     let blanks_only = plan.mutation == Mutation::SubstituteAlwaysBlank;
-    for item in plan.outside.iter().filter(|item| !blanks_only || item.ticket.is_none()) {
+    for item in plan
+        .outside
+        .iter()
+        .filter(|item| !blanks_only || item.ticket.is_none())
+    {
         let best = &mut heaviest[(item.due.0 - plan.slot.0) as usize];
         if heavier(item, best) {
             *best = *item;

@@ -25,10 +25,14 @@ fn heaviest_set(round: &Round) -> u64 {
     let sets = 0..1u32 << round.rows.len();
     let chosen = |set: u32| -> Vec<Row> {
         let rows = round.rows.iter().enumerate();
-        rows.filter(|(place, _)| set >> place & 1 == 1).map(|(_, row)| *row).collect()
+        rows.filter(|(place, _)| set >> place & 1 == 1)
+            .map(|(_, row)| *row)
+            .collect()
     };
     let weighs = |rows: &[Row]| rows.iter().map(|row| u64::from(row.weight.0)).sum();
-    let good = sets.map(chosen).filter(|rows| in_time(rows, round.slot.0, 0));
+    let good = sets
+        .map(chosen)
+        .filter(|rows| in_time(rows, round.slot.0, 0));
     good.map(|rows| weighs(&rows)).max().expect("the empty set")
 }
 
@@ -36,7 +40,9 @@ fn heaviest_set(round: &Round) -> u64 {
 fn marks(table: &[u8]) -> Vec<(u32, u32)> {
     let round = decode(table, Mutation::None);
     let ahead = round.slot.0..=round.last.0;
-    ahead.map(|s| (s, Second::PLAIN.mark(Slot(s), table).expect("a mark").0)).collect()
+    ahead
+        .map(|s| (s, Second::PLAIN.mark(Slot(s), table).expect("a mark").0))
+        .collect()
 }
 
 /// The plan's rows could all go out in time and weigh the total, and no set
@@ -45,7 +51,9 @@ fn plan_is_best(table: &[u8]) {
     let round = decode(table, Mutation::None);
     let plan = Plan::of(&round, Mutation::None);
     let tickets = plan.members.iter().filter_map(|item| item.ticket);
-    let rows: Vec<Row> = tickets.map(|ticket| round.rows[round.place(ticket).unwrap()]).collect();
+    let rows: Vec<Row> = tickets
+        .map(|ticket| round.rows[round.place(ticket).unwrap()])
+        .collect();
     assert!(in_time(&rows, round.slot.0, 0), "{round:?}");
     assert_eq!(plan.total(), heaviest_set(&round), "{round:?}");
     let ahead = (round.last.0 + 1).saturating_sub(round.slot.0) as usize;
@@ -59,8 +67,15 @@ fn plan_is_best(table: &[u8]) {
 /// No mark of a slot still ahead sinks over an accepted call.
 fn marks_hold(before: &[(u32, u32)], after: &[(u32, u32)], call: Call) {
     for (slot, mark) in after {
-        let old = before.iter().find(|(s, _)| s == slot).expect("it was ahead");
-        assert!(*mark >= old.1, "{call:?}: slot {slot} from {} to {mark}", old.1);
+        let old = before
+            .iter()
+            .find(|(s, _)| s == slot)
+            .expect("it was ahead");
+        assert!(
+            *mark >= old.1,
+            "{call:?}: slot {slot} from {} to {mark}",
+            old.1
+        );
     }
 }
 
@@ -75,11 +90,15 @@ fn newcomer_adds(before: &[u8], after: &[u8], due: u32, weight: u32) {
 /// A call with arguments mostly good, sometimes not.
 fn drawn(draw: &mut Draw, most: u64, table: &[u8]) -> Call {
     let round = decode(table, Mutation::None);
-    let due = round.slot.0 + draw.below(u64::from(round.last.0 - round.slot.0.min(round.last.0)) + 2) as u32;
-    match draw.below(9) {
-        0..=4 => Call::Take { due, weight: draw.below(most + 1) as u32 },
+    let due = draw.between(round.slot.0.min(round.last.0), round.last.0 + 1);
+    match draw.below(10) {
+        0..=4 => Call::Take {
+            due,
+            weight: draw.below(most + 1) as u32,
+        },
         5 => Call::Mark { slot: due },
         6 => Call::Total,
+        7 => Call::Open { last: 4_096 },
         _ => Call::Send,
     }
 }

@@ -8,7 +8,10 @@ use second::refusal::Refusal;
 use second::writer::write;
 
 fn take(due: u32, weight: u32) -> Command {
-    Command::Take { due: Slot(due), weight: Weight(weight) }
+    Command::Take {
+        due: Slot(due),
+        weight: Weight(weight),
+    }
 }
 
 #[test]
@@ -25,8 +28,21 @@ fn good_lines() {
 fn broken_lines() {
     let too_long = format!("010001000000FF{}\n", "A5".repeat(25));
     let lines: [&[u8]; 16] = [
-        b"", b"\n", b"0\n", b"02", b"02\n\n", b"02\n0", b"02 \n", b"2\n", b"03\n", b"00000\n",
-        b"0000000\n", b"0100010000000\n", b"01000100000001A\n", b"01000100000001ab\n", b"00\n0001\n",
+        b"",
+        b"\n",
+        b"0\n",
+        b"02",
+        b"02\n\n",
+        b"02\n0",
+        b"02 \n",
+        b"2\n",
+        b"03\n",
+        b"00000\n",
+        b"0000000\n",
+        b"0100010000000\n",
+        b"01000100000001A\n",
+        b"01000100000001ab\n",
+        b"00\n0001\n",
         too_long.as_bytes(),
     ];
     for line in lines {
@@ -51,7 +67,12 @@ fn the_writer_refuses_1_before_12() {
     let mut buffer = [7; 63];
     let long = [b'A'; 50];
     let refused: [(Command, &[u8]); 7] = [
-        (Command::Open { last: Slot(0x10000) }, b""),
+        (
+            Command::Open {
+                last: Slot(0x10000),
+            },
+            b"",
+        ),
         (take(0x10000, 1), b""),
         (Command::Open { last: Slot(1) }, b"00"),
         (Command::Send, b"00"),
@@ -63,8 +84,14 @@ fn the_writer_refuses_1_before_12() {
         assert_eq!(write(command, digits, &mut buffer), Err(Refusal::Line));
         assert_eq!(write(command, digits, &mut []), Err(Refusal::Line));
     }
-    assert_eq!(write(take(1, 0), b"", &mut buffer[..14]), Err(Refusal::Short));
-    assert_eq!(write(Command::Send, b"", &mut buffer[..2]), Err(Refusal::Short));
+    assert_eq!(
+        write(take(1, 0), b"", &mut buffer[..14]),
+        Err(Refusal::Short)
+    );
+    assert_eq!(
+        write(Command::Send, b"", &mut buffer[..2]),
+        Err(Refusal::Short)
+    );
     assert_eq!(buffer, [7; 63]);
 }
 
@@ -72,11 +99,19 @@ fn the_writer_refuses_1_before_12() {
 fn drawn(draw: &mut Draw) -> (Command, Vec<u8>) {
     let slot = Slot(draw.below(0x10000) as u32);
     let bytes = draw.below(25);
-    let digits = (0..2 * bytes).map(|_| *draw.pick(b"0123456789ABCDEF")).collect();
+    let digits = (0..2 * bytes)
+        .map(|_| *draw.pick(b"0123456789ABCDEF"))
+        .collect();
     match draw.below(3) {
         0 => (Command::Open { last: slot }, Vec::new()),
         1 => (Command::Send, Vec::new()),
-        _ => (Command::Take { due: slot, weight: Weight(draw.number() as u32) }, digits),
+        _ => (
+            Command::Take {
+                due: slot,
+                weight: Weight(draw.number() as u32),
+            },
+            digits,
+        ),
     }
 }
 

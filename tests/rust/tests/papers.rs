@@ -14,7 +14,11 @@ use second::table::{decode, row_at};
 fn after(text: &str) -> Vec<u8> {
     let mut table = vec![0xEE; row_at(6)];
     for call in calls(text) {
-        assert_eq!(Second::PLAIN.answer(call, &mut table) & 0xFF, 0, "{text}: {call:?}");
+        assert_eq!(
+            Second::PLAIN.answer(call, &mut table) & 0xFF,
+            0,
+            "{text}: {call:?}"
+        );
     }
     table
 }
@@ -37,11 +41,18 @@ fn frame(ticket: u32) -> Out {
 
 /// The tickets of the plan's rows.
 fn plan(table: &[u8]) -> Vec<u32> {
-    let none = Entry { ticket: Ticket(0), due: Slot(0), weight: Weight(0) };
+    let none = Entry {
+        ticket: Ticket(0),
+        due: Slot(0),
+        weight: Weight(0),
+    };
     let mut entries = [none; 6];
     let count = Second::PLAIN.list(table, &mut entries).expect("a plan");
     assert!(entries[count..].iter().all(|entry| *entry == none));
-    entries[..count].iter().map(|entry| entry.ticket.0).collect()
+    entries[..count]
+        .iter()
+        .map(|entry| entry.ticket.0)
+        .collect()
 }
 
 #[test]
@@ -89,7 +100,10 @@ fn p6_and_p7_newcomers() {
     let alone = after("0; 0:5");
     let equal = after("0; 0:5 0:5");
     let heavier = after("0; 0:5 0:6");
-    assert_eq!((plan(&alone), plan(&equal), plan(&heavier)), (vec![1], vec![1], vec![2]));
+    assert_eq!(
+        (plan(&alone), plan(&equal), plan(&heavier)),
+        (vec![1], vec![1], vec![2])
+    );
     assert_eq!(waits(&equal), "0:5 (t1) 0:5 (t2)");
     assert_eq!((total(&alone), total(&equal), total(&heavier)), (5, 5, 6));
 }
@@ -118,5 +132,8 @@ fn limits() {
     let take = |weight| Call::Take { due: 0, weight };
     assert_eq!(Second::PLAIN.answer(take(16_777_217), &mut table), 6);
     assert_eq!(Second::PLAIN.answer(take(16_777_216), &mut table), 1 << 8);
-    assert_eq!(Second::PLAIN.open(Slot(4_096), &mut table), Err(Refusal::LastTooLate));
+    assert_eq!(
+        Second::PLAIN.open(Slot(4_096), &mut table),
+        Err(Refusal::LastTooLate)
+    );
 }

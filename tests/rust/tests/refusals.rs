@@ -18,7 +18,13 @@ fn refused(call: Call, table: &[u8], number: u64) {
 /// Every call with arguments that no number but 2, 3 and 5 speaks against.
 fn every_call() -> [Call; 5] {
     let take = Call::Take { due: 0, weight: 1 };
-    [take, Call::Send, Call::Mark { slot: 0 }, Call::Total, Call::Substitute { ticket: 1 }]
+    [
+        take,
+        Call::Send,
+        Call::Mark { slot: 0 },
+        Call::Total,
+        Call::Substitute { ticket: 1 },
+    ]
 }
 
 #[test]
@@ -63,18 +69,32 @@ fn ten_and_eleven() {
     }
     refused(Call::Substitute { ticket: 4 }, &lent, 11);
     let mut same = lent.clone();
-    assert_eq!(Second::PLAIN.answer(Call::Substitute { ticket: 2 }, &mut same), 2 << 8);
+    assert_eq!(
+        Second::PLAIN.answer(Call::Substitute { ticket: 2 }, &mut same),
+        2 << 8
+    );
 }
 
 #[test]
 fn twelve_in_listing() {
     let lent = table(3, 3, &[(2, 0, 5, false), (4, 1, 5, true), (6, 0, 4, false)]);
-    let none = Entry { ticket: Ticket(9), due: Slot(9), weight: Weight(9) };
+    let none = Entry {
+        ticket: Ticket(9),
+        due: Slot(9),
+        weight: Weight(9),
+    };
     let mut entries = [none; 3];
-    assert_eq!(Second::PLAIN.list(&lent, &mut entries[..1]), Err(Refusal::Short));
+    assert_eq!(
+        Second::PLAIN.list(&lent, &mut entries[..1]),
+        Err(Refusal::Short)
+    );
     assert_eq!(entries, [none; 3]);
     assert_eq!(Second::PLAIN.list(&lent, &mut entries), Ok(2));
-    let entry = |ticket, due| Entry { ticket: Ticket(ticket), due: Slot(due), weight: Weight(5) };
+    let entry = |ticket, due| Entry {
+        ticket: Ticket(ticket),
+        due: Slot(due),
+        weight: Weight(5),
+    };
     assert_eq!(entries, [entry(2, 0), entry(4, 1), none]);
 }
 
@@ -95,7 +115,9 @@ fn layout() {
     let row = (0x01_0203, 0x0405, 0x06_0708, true);
     let mut lent = table(2, 0x0908, &[row]);
     lent[0..2].copy_from_slice(&[0x02, 0x01]);
-    let mut bytes = vec![0x02, 0x01, 0x08, 0x09, 0x04, 0x02, 0x01, 0, 1, 0, 0, 0, 0, 0, 0, 0];
+    let mut bytes = vec![
+        0x02, 0x01, 0x08, 0x09, 0x04, 0x02, 0x01, 0, 1, 0, 0, 0, 0, 0, 0, 0,
+    ];
     bytes.extend([0x03, 0x02, 0x01, 0, 0x05, 0x04, 0x08, 0x07, 0x06, 0, 1]);
     bytes.resize(row_at(2), 0);
     assert_eq!(lent, bytes);

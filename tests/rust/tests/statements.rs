@@ -2,11 +2,12 @@
 //! that wait; for the first of them the plan and its substitutes.
 
 use second::call::Call;
-use second::calls::{Second, Substitute};
+use second::calls::Second;
 use second::counts::{Slot, Ticket, Weight};
 use second::hand::{calls, shown, table};
 use second::listing::Entry;
 use second::mutation::Mutation;
+use second::questions::Substitute;
 use second::send::{Out, Step};
 use second::table::{decode, row_at};
 
@@ -45,14 +46,22 @@ fn one(text: &str, step: Step, rows: &str) {
 fn plan_and_substitutes_of_the_first() {
     let text = "4; 4:2 1:1 4:20 3:9 0:9 2:2 1:2 3:4";
     let (table, _) = play(text);
-    let none = Entry { ticket: Ticket(0), due: Slot(0), weight: Weight(0) };
+    let none = Entry {
+        ticket: Ticket(0),
+        due: Slot(0),
+        weight: Weight(0),
+    };
     let mut entries = [none; 8];
     assert_eq!(Second::PLAIN.list(&table, &mut entries), Ok(5));
     let listed: Vec<u32> = entries[..5].iter().map(|entry| entry.ticket.0).collect();
     assert_eq!(listed, [5, 7, 4, 8, 3]);
     for (ticket, substitute) in [(3, 1), (4, 6), (5, 5), (7, 6), (8, 6)] {
         let found = Second::PLAIN.substitute(Ticket(ticket), &table);
-        assert_eq!(found, Ok(Substitute::Ticket(Ticket(substitute))), "ticket {ticket}");
+        assert_eq!(
+            found,
+            Ok(Substitute::Ticket(Ticket(substitute))),
+            "ticket {ticket}"
+        );
     }
     let rows = "4:2 (t1) 1:1 (t2) 4:20 (t3) 3:9 (t4) 2:2 (t6) 1:2 (t7) 3:4 (t8)";
     one(text, ordinary(5), rows);
@@ -74,12 +83,28 @@ fn a_sending_between_takings() {
 
 #[test]
 fn shifts_and_raises() {
-    one("4; 0:3 4:3 2:2 3:5 1:9 4:5", leap(5), "4:3 (t2) 2:3 (t3) 1:5 (t4) 4:5 (t6)");
-    one("4; 3:2 2:2 0:4 1:20 3:1 0:5 0:1", leap(4), "2:2 (t1) 1:5 (t2) 3:2 (t5)");
-    one("3; 1:20 2:5 3:3 0:9 3:20 2:1", leap(1), "2:5 (t2) 3:5 (t3) 1:20 (t5) 2:1 (t6)");
+    one(
+        "4; 0:3 4:3 2:2 3:5 1:9 4:5",
+        leap(5),
+        "4:3 (t2) 2:3 (t3) 1:5 (t4) 4:5 (t6)",
+    );
+    one(
+        "4; 3:2 2:2 0:4 1:20 3:1 0:5 0:1",
+        leap(4),
+        "2:2 (t1) 1:5 (t2) 3:2 (t5)",
+    );
+    one(
+        "3; 1:20 2:5 3:3 0:9 3:20 2:1",
+        leap(1),
+        "2:5 (t2) 3:5 (t3) 1:20 (t5) 2:1 (t6)",
+    );
     let heavy = "2:20 (t2) 1:4 (t3) 1:4 (t4) 4:2 (t5) 4:4 (t6) 4:20 (t7)";
     one("4; 0:3 4:20 1:4 1:4 4:2 4:3 4:20 2:20", leap(8), heavy);
-    one("3; 0:8 1:40 2:5 3:4 3:3", leap(2), "1:8 (t3) 2:5 (t4) 3:4 (t5)");
+    one(
+        "3; 0:8 1:40 2:5 3:4 3:3",
+        leap(2),
+        "1:8 (t3) 2:5 (t4) 3:4 (t5)",
+    );
 }
 
 #[test]
@@ -89,7 +114,11 @@ fn equals_and_idle_slots() {
         let found = Second::PLAIN.substitute(Ticket(ticket), &table);
         assert_eq!(found, Ok(Substitute::Ticket(Ticket(3))), "ticket {ticket}");
     }
-    one("3; 3:9 3:9 3:9 2:9", ordinary(4), "3:9 (t1) 3:9 (t2) 3:9 (t3)");
+    one(
+        "3; 3:9 3:9 3:9 2:9",
+        ordinary(4),
+        "3:9 (t1) 3:9 (t2) 3:9 (t3)",
+    );
     assert_eq!(play("3; 1:11 3:20 1:2 S").1[0].0, leap(2));
     assert_eq!(play("3; 3:9 3:5 S").1[0].0, leap(1));
 }
@@ -97,7 +126,12 @@ fn equals_and_idle_slots() {
 /// Sound tables that no list of calls reaches: kept blanks anywhere.
 #[test]
 fn kept_blanks_anywhere() {
-    let rows = [(1, 0, 4, false), (2, 1, 20, false), (3, 2, 9, true), (4, 2, 2, false)];
+    let rows = [
+        (1, 0, 4, false),
+        (2, 1, 20, false),
+        (3, 2, 9, true),
+        (4, 2, 2, false),
+    ];
     let mut lent = table(4, 2, &rows);
     assert_eq!(Second::PLAIN.send(&mut lent), Ok(leap(2)));
     let left = shown(&decode(&lent, Mutation::None));

@@ -4,6 +4,7 @@ use crate::call::{Call, CallName};
 use crate::calls::Second;
 use crate::compare::library::{ask, has, Library};
 use crate::compare::store::Store;
+use crate::compare::tally::Tally;
 use std::fmt;
 
 pub struct Bench<'a> {
@@ -13,6 +14,8 @@ pub struct Bench<'a> {
     before: Vec<u8>,
     /// Calls that agreed so far.
     pub agreed: u64,
+    /// Their outcomes.
+    pub tally: Tally,
 }
 
 /// Where the two differ.
@@ -29,7 +32,14 @@ pub type Agreed<T> = Result<T, Box<Difference>>;
 
 impl<'a> Bench<'a> {
     pub fn new(library: &'a mut dyn Library, second: Second) -> Bench<'a> {
-        Bench { library, second, store: Store::new(), before: Vec::new(), agreed: 0 }
+        Bench {
+            library,
+            second,
+            store: Store::new(),
+            before: Vec::new(),
+            agreed: 0,
+            tally: Tally::default(),
+        }
     }
 
     pub fn has(&self, call: CallName) -> bool {
@@ -51,9 +61,16 @@ impl<'a> Bench<'a> {
         let what = self.difference(library, second, table);
         if let Some(what) = what {
             let before = self.before.clone();
-            return Err(Box::new(Difference { call, library, second, what, before }));
+            return Err(Box::new(Difference {
+                call,
+                library,
+                second,
+                what,
+                before,
+            }));
         }
         self.agreed += 1;
+        self.tally.add(call.name(), second);
         Ok(second)
     }
 
@@ -77,14 +94,21 @@ impl<'a> Bench<'a> {
             return None;
         }
         let at = (0..table.len()).find(|at| lent[*at] != table[*at])?;
-        Some(format!("byte {at} is {:02X}, not {:02X}", lent[at], table[at]))
+        Some(format!(
+            "byte {at} is {:02X}, not {:02X}",
+            lent[at], table[at]
+        ))
     }
 }
 
 impl fmt::Display for Difference {
     fn fmt(&self, out: &mut fmt::Formatter<'_>) -> fmt::Result {
         writeln!(out, "{:?}: {}", self.call, self.what)?;
-        writeln!(out, "library {:#X}, second {:#X}", self.library, self.second)?;
+        writeln!(
+            out,
+            "library {:#X}, second {:#X}",
+            self.library, self.second
+        )?;
         write!(out, "table before, {} bytes:", self.before.len())?;
         for (at, byte) in self.before.iter().take(16 + 24 * 20).enumerate() {
             let starts = at == 0 || at >= 16 && (at - 16) % 24 == 0;

@@ -15,7 +15,10 @@ fn base(which: u64) -> Vec<u8> {
     if which == 0 {
         return hand::table(4, 3, &[(2, 1, 7, false), (5, 2, 9, true)]);
     }
-    let rows = [(0x01_0203, 0x0304, 0x10_0203, true), (0x01_0305, 0x0405, 0x0304, false)];
+    let rows = [
+        (0x01_0203, 0x0304, 0x10_0203, true),
+        (0x01_0305, 0x0405, 0x0304, false),
+    ];
     let mut table = hand::table(4, 0x0506, &rows);
     table[0..2].copy_from_slice(&[0x03, 0x02]);
     table

@@ -27,7 +27,16 @@ const DAMAGES: &[Damage] = &[
     ("rows in use", 0, |target, draw| {
         let used = target.round.rows.len() as u32;
         let rows = target.rows();
-        let values = [0, used.wrapping_sub(1), used + 1, rows, rows + 1, 256, 1_025, 65_535];
+        let values = [
+            0,
+            used.wrapping_sub(1),
+            used + 1,
+            rows,
+            rows + 1,
+            256,
+            1_025,
+            65_535,
+        ];
         target.head(8, 2, *draw.pick(&values));
     }),
     ("last slot", 0, |target, draw| {
@@ -39,12 +48,30 @@ const DAMAGES: &[Damage] = &[
     }),
     ("current slot", 0, |target, draw| {
         let (slot, last) = (target.round.slot.0, target.round.last.0);
-        let values = [0, slot.wrapping_sub(1), slot + 1, last, last + 1, last + 2, 4_096, 65_535];
+        let values = [
+            0,
+            slot.wrapping_sub(1),
+            slot + 1,
+            last,
+            last + 1,
+            last + 2,
+            4_096,
+            65_535,
+        ];
         target.head(0, 2, *draw.pick(&values));
     }),
     ("next ticket", 0, |target, draw| {
         let top = target.round.rows.last().map_or(0, |row| row.ticket.0);
-        let values = [0, 1, top, top + 1, 1 << 24, (1 << 24) + 1, 1 << 31, u32::MAX];
+        let values = [
+            0,
+            1,
+            top,
+            top + 1,
+            1 << 24,
+            (1 << 24) + 1,
+            1 << 31,
+            u32::MAX,
+        ];
         target.head(4, 4, *draw.pick(&values));
     }),
     ("ticket", 1, |target, draw| {
@@ -64,13 +91,25 @@ const DAMAGES: &[Damage] = &[
     }),
     ("falling tickets", 2, |target, draw| {
         let place = draw.between(1, target.round.rows.len() as u32 - 1) as usize;
-        let (low, high) = (target.round.rows[place - 1].ticket.0, target.round.rows[place].ticket.0);
+        let (low, high) = (
+            target.round.rows[place - 1].ticket.0,
+            target.round.rows[place].ticket.0,
+        );
         target.row(place - 1, 0, 4, high);
         target.row(place, 0, 4, low);
     }),
     ("due slot", 1, |target, draw| {
         let (slot, last) = (target.round.slot.0, target.round.last.0);
-        let values = [0, slot.wrapping_sub(1), slot, last, last + 1, 256, 4_096, 65_535];
+        let values = [
+            0,
+            slot.wrapping_sub(1),
+            slot,
+            last,
+            last + 1,
+            256,
+            4_096,
+            65_535,
+        ];
         let place = target.place(draw);
         target.row(place, 4, 2, *draw.pick(&values));
     }),
@@ -128,7 +167,13 @@ impl Target {
     }
 
     fn row(&mut self, place: usize, at: usize, size: usize, number: u32) {
-        put(&mut self.table, row_at(place) + at, size, number, Mutation::None);
+        put(
+            &mut self.table,
+            row_at(place) + at,
+            size,
+            number,
+            Mutation::None,
+        );
     }
 }
 
@@ -137,7 +182,11 @@ pub fn run(bench: &mut Bench, draw: &mut Draw, case: u64) -> Agreed<()> {
     let size = size(draw);
     let (table, round) = drawn(draw, size);
     let mut target = Target { table, round };
-    let times = if draw.once_in(4) { draw.between(2, 4) } else { 1 };
+    let times = if draw.once_in(4) {
+        draw.between(2, 4)
+    } else {
+        1
+    };
     for time in 0..times {
         let chosen = match time {
             0 => &DAMAGES[case as usize % DAMAGES.len()],
@@ -147,11 +196,20 @@ pub fn run(bench: &mut Bench, draw: &mut Draw, case: u64) -> Agreed<()> {
             chosen.2(&mut target, draw);
         }
     }
-    let due = draw.between(target.round.slot.0.min(target.round.last.0), target.round.last.0);
+    let due = draw.between(
+        target.round.slot.0.min(target.round.last.0),
+        target.round.last.0,
+    );
     let weight = draw.between(1, Round::WEIGHT.0);
     let ticket = target.round.rows.first().map_or(1, |row| row.ticket.0);
     bench.check_aside(Call::Take { due, weight }, &target.table)?;
-    bench.check_aside(Call::Take { due: 65_535, weight: 0 }, &target.table)?;
+    bench.check_aside(
+        Call::Take {
+            due: 65_535,
+            weight: 0,
+        },
+        &target.table,
+    )?;
     bench.check_aside(Call::Mark { slot: due }, &target.table)?;
     bench.check_aside(Call::Total, &target.table)?;
     bench.check_aside(Call::Substitute { ticket }, &target.table)?;

@@ -8,8 +8,26 @@ use crate::counts::{Slot, Ticket, Weight};
 use crate::round::{Round, Row};
 
 const NUMBERS: &[u32] = &[
-    0, 1, 2, 255, 256, 4_094, 4_095, 4_096, 4_097, 65_535, 65_536, 65_537, 69_631, 16_777_214,
-    16_777_215, 16_777_216, 16_777_217, 33_554_432, 2_147_483_648, 4_294_967_295,
+    0,
+    1,
+    2,
+    255,
+    256,
+    4_094,
+    4_095,
+    4_096,
+    4_097,
+    65_535,
+    65_536,
+    65_537,
+    69_631,
+    16_777_214,
+    16_777_215,
+    16_777_216,
+    16_777_217,
+    33_554_432,
+    2_147_483_648,
+    4_294_967_295,
 ];
 
 /// Every choice of the four below.
@@ -21,7 +39,11 @@ fn round(case: u64) -> Round {
     let last = [0, 3, 4_094, 4_095][(case % 4) as usize];
     let slot = [0, last / 2, last, last + 1][(case / 4 % 4) as usize];
     let next = [4, 1_000, 16_777_215, 16_777_216][(case / 16 % 4) as usize];
-    let used = if slot > last { 0 } else { [0, 2, 3][(case / 64 % 3) as usize] };
+    let used = if slot > last {
+        0
+    } else {
+        [0, 2, 3][(case / 64 % 3) as usize]
+    };
     let row = |place: u32| Row {
         ticket: Ticket(next - 3 + place),
         due: Slot(if place == 1 { slot } else { last }),
@@ -29,14 +51,29 @@ fn round(case: u64) -> Round {
         kept: place == 2,
     };
     let rows = (0..used).map(row).collect();
-    Round { slot: Slot(slot), last: Slot(last), next: Ticket(next), rows }
+    Round {
+        slot: Slot(slot),
+        last: Slot(last),
+        next: Ticket(next),
+        rows,
+    }
 }
 
 pub fn run(bench: &mut Bench, _: &mut Draw, case: u64) -> Agreed<()> {
     let round = round(case);
     let table = table(&round, 3);
-    let own = [round.slot.0, round.slot.0 + 1, round.last.0, round.last.0 + 1];
-    let tickets = [round.next.0, round.next.0 - 1, round.next.0 - 2, round.next.0 - 3];
+    let own = [
+        round.slot.0,
+        round.slot.0 + 1,
+        round.last.0,
+        round.last.0 + 1,
+    ];
+    let tickets = [
+        round.next.0,
+        round.next.0 - 1,
+        round.next.0 - 2,
+        round.next.0 - 3,
+    ];
     bench.check_aside(Call::Send, &table)?;
     bench.check_aside(Call::Total, &table)?;
     for first in NUMBERS.iter().chain(&own).copied() {

@@ -4,6 +4,7 @@ use crate::calls::Second;
 use crate::compare::bench::{Agreed, Bench, Difference};
 use crate::compare::draw::Draw;
 use crate::compare::library::Library;
+use crate::compare::tally::Tally;
 use crate::compare::{bytes, damage, extremes, hands, large, lengths, lists, sound};
 
 pub struct Kind {
@@ -16,14 +17,54 @@ pub struct Kind {
 }
 
 pub const KINDS: &[Kind] = &[
-    Kind { name: "hand", cases: hands::CASES, grows: false, run: hands::run },
-    Kind { name: "lengths", cases: lengths::CASES, grows: false, run: lengths::run },
-    Kind { name: "extremes", cases: extremes::CASES, grows: false, run: extremes::run },
-    Kind { name: "bytes", cases: bytes::CASES, grows: false, run: bytes::run },
-    Kind { name: "sound", cases: 60_000, grows: true, run: sound::run },
-    Kind { name: "damaged", cases: 60_000, grows: true, run: damage::run },
-    Kind { name: "lists", cases: 2_000, grows: true, run: lists::run },
-    Kind { name: "large", cases: 60, grows: true, run: large::run },
+    Kind {
+        name: "hand",
+        cases: hands::CASES,
+        grows: false,
+        run: hands::run,
+    },
+    Kind {
+        name: "lengths",
+        cases: lengths::CASES,
+        grows: false,
+        run: lengths::run,
+    },
+    Kind {
+        name: "extremes",
+        cases: extremes::CASES,
+        grows: false,
+        run: extremes::run,
+    },
+    Kind {
+        name: "bytes",
+        cases: bytes::CASES,
+        grows: false,
+        run: bytes::run,
+    },
+    Kind {
+        name: "sound",
+        cases: 120_000,
+        grows: true,
+        run: sound::run,
+    },
+    Kind {
+        name: "damaged",
+        cases: 120_000,
+        grows: true,
+        run: damage::run,
+    },
+    Kind {
+        name: "lists",
+        cases: 4_000,
+        grows: true,
+        run: lists::run,
+    },
+    Kind {
+        name: "large",
+        cases: 200,
+        grows: true,
+        run: large::run,
+    },
 ];
 
 /// What a run is told.
@@ -31,6 +72,8 @@ pub const KINDS: &[Kind] = &[
 pub struct Settings {
     pub seed: u64,
     pub factor: f64,
+    /// Leave out the kinds that are not drawn.
+    pub drawn_only: bool,
 }
 
 /// A difference, and where it was met.
@@ -40,23 +83,36 @@ pub struct Found {
     pub difference: Box<Difference>,
 }
 
-/// Runs every kind and tells the agreed calls of each, or the first difference.
+impl Kind {
+    fn cases(&self, settings: Settings) -> u64 {
+        match self.grows {
+            true => (self.cases as f64 * settings.factor).ceil() as u64,
+            false if settings.drawn_only => 0,
+            false => self.cases,
+        }
+    }
+}
+
+/// Runs every kind, telling the agreed calls of each, up to a difference.
 pub fn run(
     library: &mut dyn Library,
     second: Second,
     settings: Settings,
     mut tell: impl FnMut(&Kind, u64),
-) -> Result<u64, Found> {
+) -> Result<Tally, Found> {
     let mut bench = Bench::new(library, second);
     for (number, kind) in KINDS.iter().enumerate() {
         let before = bench.agreed;
-        let cases = if kind.grows { (kind.cases as f64 * settings.factor).ceil() as u64 } else { kind.cases };
-        for case in 0..cases {
+        for case in 0..kind.cases(settings) {
             let mut draw = Draw::for_case(settings.seed, number as u64, case);
             let ended = (kind.run)(&mut bench, &mut draw, case);
-            ended.map_err(|difference| Found { kind: kind.name, case, difference })?;
+            ended.map_err(|difference| Found {
+                kind: kind.name,
+                case,
+                difference,
+            })?;
         }
         tell(kind, bench.agreed - before);
     }
-    Ok(bench.agreed)
+    Ok(bench.tally)
 }

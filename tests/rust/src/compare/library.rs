@@ -38,7 +38,10 @@ pub struct Itself {
 
 impl Itself {
     /// Without a fault and with all calls.
-    pub const PLAIN: Itself = Itself { second: Second::PLAIN, calls: CallName::ALL };
+    pub const PLAIN: Itself = Itself {
+        second: Second::PLAIN,
+        calls: CallName::ALL,
+    };
 }
 
 impl Library for Itself {
@@ -67,6 +70,7 @@ impl Library for Itself {
     }
 
     fn substitute(&mut self, ticket: u32, table: &[u8]) -> u64 {
-        self.second.answer(Call::Substitute { ticket }, &mut table.to_vec())
+        self.second
+            .answer(Call::Substitute { ticket }, &mut table.to_vec())
     }
 }

@@ -23,7 +23,12 @@ fn list(draw: &mut Draw) -> List {
         _ => draw.between(0, 12),
     };
     let reach = *draw.pick(&[1, 3, 8, last.max(1)]);
-    List { last, reach, weights: weights(draw), takes: *draw.pick(&[20, 40, 60, 80]) }
+    List {
+        last,
+        reach,
+        weights: weights(draw),
+        takes: *draw.pick(&[20, 40, 60, 80]),
+    }
 }
 
 /// A due slot within the list's reach, at times a bad one.
@@ -40,16 +45,29 @@ fn call(draw: &mut Draw, list: &List, round: &Round) -> Call {
     let chance = draw.below(100);
     if chance < list.takes {
         let bad = draw.once_in(50);
-        let weight = if bad { *draw.pick(&[0, 16_777_217, u32::MAX]) } else { weight(draw, list.weights) };
-        return Call::Take { due: due(draw, list, round), weight };
+        let weight = if bad {
+            *draw.pick(&[0, 16_777_217, u32::MAX])
+        } else {
+            weight(draw, list.weights)
+        };
+        return Call::Take {
+            due: due(draw, list, round),
+            weight,
+        };
     }
     let over = round.slot > round.last;
     match draw.below(20) {
-        0..=5 => Call::Mark { slot: due(draw, list, round) },
+        0..=5 => Call::Mark {
+            slot: due(draw, list, round),
+        },
         6..=8 => Call::Total,
-        9..=11 => Call::Substitute { ticket: draw.below(u64::from(round.next.0) + 2) as u32 },
+        9..=11 => Call::Substitute {
+            ticket: draw.below(u64::from(round.next.0) + 2) as u32,
+        },
         12 if over || draw.once_in(6) => Call::Open { last: list.last },
-        13 if draw.once_in(8) => Call::Open { last: draw.number() as u32 },
+        13 if draw.once_in(8) => Call::Open {
+            last: draw.number() as u32,
+        },
         _ => Call::Send,
     }
 }
@@ -61,7 +79,9 @@ pub fn run(bench: &mut Bench, draw: &mut Draw, _: u64) -> Agreed<()> {
         _ => draw.between(1, 8),
     };
     let list = list(draw);
-    let mut table: Vec<u8> = (0..row_at(rows as usize)).map(|_| draw.number() as u8).collect();
+    let mut table: Vec<u8> = (0..row_at(rows as usize))
+        .map(|_| draw.number() as u8)
+        .collect();
     bench.check(Call::Take { due: 0, weight: 1 }, &mut table)?;
     bench.check(Call::Open { last: list.last }, &mut table)?;
     for _ in 0..draw.between(20, 400) {

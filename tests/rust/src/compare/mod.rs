@@ -15,3 +15,4 @@ pub mod lists;
 pub mod sound;
 pub mod store;
 pub mod tables;
+pub mod tally;

@@ -23,9 +23,17 @@ pub fn run(bench: &mut Bench, draw: &mut Draw, _: u64) -> Agreed<()> {
     let (table, round) = drawn(draw, size);
     for _ in 0..2 {
         let weights = weights(draw);
-        let take = Call::Take { due: near(draw, &round), weight: weight(draw, weights) };
+        let take = Call::Take {
+            due: near(draw, &round),
+            weight: weight(draw, weights),
+        };
         bench.check_aside(take, &table)?;
-        bench.check_aside(Call::Mark { slot: near(draw, &round) }, &table)?;
+        bench.check_aside(
+            Call::Mark {
+                slot: near(draw, &round),
+            },
+            &table,
+        )?;
         let ticket = match round.rows.len() {
             0 => 1,
             used => round.rows[draw.below(used as u64) as usize].ticket.0,
@@ -33,7 +41,12 @@ pub fn run(bench: &mut Bench, draw: &mut Draw, _: u64) -> Agreed<()> {
         bench.check_aside(Call::Substitute { ticket }, &table)?;
     }
     bench.check_aside(Call::Total, &table)?;
-    bench.check_aside(Call::Open { last: near(draw, &round) }, &table)?;
+    bench.check_aside(
+        Call::Open {
+            last: near(draw, &round),
+        },
+        &table,
+    )?;
     bench.check_aside(Call::Send, &table)?;
     Ok(())
 }

@@ -23,7 +23,11 @@ impl Default for Store {
 impl Store {
     pub fn new() -> Store {
         let most = row_at(Round::ROWS) + 4_096;
-        Store { bytes: vec![SEAL; most + 2 * GUARD], start: GUARD, length: 0 }
+        Store {
+            bytes: vec![SEAL; most + 2 * GUARD],
+            start: GUARD,
+            length: 0,
+        }
     }
 
     /// Lends a copy of the table, up to 7 bytes off any alignment.

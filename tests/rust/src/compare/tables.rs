@@ -16,8 +16,14 @@ pub struct Size {
 /// Small ones for the most part, as their plans show every kind of leap.
 pub fn size(draw: &mut Draw) -> Size {
     match draw.below(200) {
-        0 => Size { rows: 1_024, last: 4_095 },
-        1..=3 => Size { rows: 200, last: 4_095 },
+        0 => Size {
+            rows: 1_024,
+            last: 4_095,
+        },
+        1..=3 => Size {
+            rows: 200,
+            last: 4_095,
+        },
         4..=20 => Size { rows: 60, last: 80 },
         21..=80 => Size { rows: 16, last: 14 },
         _ => Size { rows: 9, last: 7 },
@@ -78,7 +84,12 @@ pub fn round(draw: &mut Draw, size: Size, most_rows: u32) -> Round {
     };
     let (next, tickets) = tickets(draw, used);
     let rows = rows(draw, Slot(slot), Slot(last), tickets);
-    Round { slot: Slot(slot), last: Slot(last), next, rows }
+    Round {
+        slot: Slot(slot),
+        last: Slot(last),
+        next,
+        rows,
+    }
 }
 
 /// Rising tickets, and the next ticket above them.

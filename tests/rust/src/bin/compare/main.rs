@@ -54,13 +54,19 @@ fn library_for(options: Options, mutation: Mutation) -> (Box<dyn Library>, &'sta
 fn compare(options: Options, mutation: Mutation) -> bool {
     let (mut library, name) = library_for(options, mutation);
     let settings = options.settings;
-    println!("compare: with {name}, seed {}, factor {}", settings.seed, settings.factor);
+    println!(
+        "compare: with {name}, seed {}, factor {}",
+        settings.seed, settings.factor
+    );
     let second = Second { mutation };
     let ended = run(library.as_mut(), second, settings, |kind, agreed| {
         println!("  {}: {agreed} cases", kind.name);
     });
     match ended {
-        Ok(agreed) => println!("compare: {agreed} cases agreed"),
+        Ok(tally) => {
+            tally.lines().iter().for_each(|line| println!("  {line}"));
+            println!("compare: {} cases agreed", tally.all());
+        }
         Err(found) => {
             show(&found, settings);
             return false;
@@ -71,22 +77,34 @@ fn compare(options: Options, mutation: Mutation) -> bool {
 
 fn show(found: &Found, settings: Settings) {
     println!("{}", found.difference);
-    println!("compare: a difference in kind {}, case {}, seed {}", found.kind, found.case, settings.seed);
+    println!(
+        "compare: a difference in kind {}, case {}, seed {}",
+        found.kind, found.case, settings.seed
+    );
 }
 
-/// Every fault must be caught; one line for each.
+/// Every fault must be caught, and by drawn inputs alone too; one line each.
 fn mutations(options: Options) -> bool {
     let mut caught = 0;
     for mutation in Mutation::ALL.iter().copied() {
         let (mut library, name) = library_for(options, mutation);
-        let ended = run(library.as_mut(), Second { mutation }, options.settings, |_, _| ());
-        match ended {
-            Ok(_) => println!("NOT CAUGHT {mutation:?}: {}", mutation.says()),
-            Err(found) => {
+        let mut place = |drawn_only| {
+            let settings = Settings {
+                drawn_only,
+                ..options.settings
+            };
+            let ended = run(library.as_mut(), Second { mutation }, settings, |_, _| ());
+            ended
+                .err()
+                .map(|found| format!("{} {}", found.kind, found.case))
+        };
+        match (place(false), place(true)) {
+            (Some(first), Some(drawn)) => {
                 caught += 1;
-                let place = format!("{} {}", found.kind, found.case);
-                println!("caught {mutation:?} (with {name}, {place}): {}", mutation.says());
+                println!("caught {mutation:?} (with {name}; {first}, drawn {drawn})");
             }
+            (None, _) => println!("NOT CAUGHT {mutation:?}: {}", mutation.says()),
+            (_, None) => println!("NOT CAUGHT when drawn, {mutation:?}: {}", mutation.says()),
         }
     }
     let all = Mutation::ALL.len();

@@ -24,9 +24,17 @@ pub struct Options {
 
 impl Options {
     pub fn read() -> Result<Options, String> {
-        let settings = Settings { seed: setting("LIRVEDD_SEED", 1)?, factor: setting("LIRVEDD_FACTOR", 1.0)? };
+        let settings = Settings {
+            seed: setting("LIRVEDD_SEED", 1)?,
+            factor: setting("LIRVEDD_FACTOR", 1.0)?,
+            drawn_only: false,
+        };
         let itself = cfg!(not(archive));
-        let mut options = Options { job: Job::Compare, itself, settings };
+        let mut options = Options {
+            job: Job::Compare,
+            itself,
+            settings,
+        };
         let mut asked = false;
         let mut words = env::args().skip(1);
         while let Some(word) = words.next() {

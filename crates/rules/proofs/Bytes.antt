@@ -1,0 +1,29 @@
+-- THE LAYOUT, byte for byte: one table with a value above 255 in every field wider than a byte. Assumes nothing.
+use mathlib.Core.Path.{_≡_, refl}
+use mathlib.Core.List.{List, [], _∷_, _++_}
+use Prim.Native.Nat.{ℕ, _*_}
+use lib.ListN.{take, replicate}
+use Rattle.rules.specs.Rows.{Round, row, round}
+use Rattle.rules.specs.Table.{low, row-bytes, rows-bytes, table}
+
+-- slot 0102, last slot 0304, next ticket 00060608, one frame and one kept blank in 259 rows (hexadecimal)
+abbrev pub vector-round : Round
+vector-round = round 258 772 394760 259 (row 66051 515 16777216 0 ∷ row 394759 772 197121 1 ∷ [])
+
+abbrev pub vector-bytes : List ℕ
+vector-bytes =
+    -- current slot, last slot, next ticket, rows in use, zeros
+    2 ∷ 1 ∷ 4 ∷ 3 ∷ 8 ∷ 6 ∷ 6 ∷ 0 ∷ 2 ∷ 0 ∷ 0 ∷ 0 ∷ 0 ∷ 0 ∷ 0 ∷ 0 ∷
+    -- ticket, due slot, weight, kind, zeros
+    3 ∷ 2 ∷ 1 ∷ 0 ∷ 3 ∷ 2 ∷ 0 ∷ 0 ∷ 0 ∷ 1 ∷ 0 ∷ 0 ∷ 0 ∷ 0 ∷ 0 ∷ 0 ∷ 0 ∷ 0 ∷ 0 ∷ 0 ∷ 0 ∷ 0 ∷ 0 ∷ 0 ∷
+    7 ∷ 6 ∷ 6 ∷ 0 ∷ 4 ∷ 3 ∷ 1 ∷ 2 ∷ 3 ∷ 0 ∷ 1 ∷ 0 ∷ 0 ∷ 0 ∷ 0 ∷ 0 ∷ 0 ∷ 0 ∷ 0 ∷ 0 ∷ 0 ∷ 0 ∷ 0 ∷ 0 ∷
+    replicate (24 * 257) 0
+
+pub vector-written : table vector-round ≡ vector-bytes
+unfolding row round low row-bytes rows-bytes table
+vector-written = refl
+
+-- and the head alone with 0102 rows in use
+pub vector-head : take 16 (table (round 258 772 394760 259 (replicate 258 (row 1 515 1 0)))) ≡ 2 ∷ 1 ∷ 4 ∷ 3 ∷ 8 ∷ 6 ∷ 6 ∷ 0 ∷ 2 ∷ 1 ∷ replicate 6 0
+unfolding row round low row-bytes rows-bytes table
+vector-head = refl

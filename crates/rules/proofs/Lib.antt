@@ -1,0 +1,4 @@
+pub mod Played
+pub mod Rounds
+pub mod Bytes
+pub mod Text

@@ -1,0 +1,53 @@
+-- How a round by hand is written, and how the definitions play it on bytes. Assumes nothing.
+use mathlib.Core.List.{List, [], _∷_, map}
+use Prim.Native.Nat.{ℕ, zero, suc, _+_, _*_}
+use lib.ListN.{replicate}
+use Rattle.rules.specs.Limits.{head-size, row-size}
+use Rattle.rules.specs.Rows.{Row, Round, row, slots-left}
+use Rattle.rules.specs.Plan.{mark, listed}
+use Rattle.rules.specs.Table.{round-in}
+use Rattle.rules.specs.Calls.{Call, Reply, answer, left, substitute-answer}
+
+-- a waiting frame and a kept blank: ticket, due slot, weight
+abbrev pub waits : (ticket due weight : ℕ) → Row
+waits k d w = row k d w 0
+
+abbrev pub keeps : (ticket due weight : ℕ) → Row
+keeps k d w = row k d w 1
+
+-- A TURN: a call with its reply, then the waiting rows and the marks from the current slot to the last;
+-- or the tickets of the plan in canonical order with the substitute of each
+pub data Turn : Type 0 where
+  turn : Call → Reply → (rows : List Row) → (marks : List ℕ) → Turn
+  listing : (tickets : List ℕ) → (substitutes : List Reply) → Turn
+
+-- A ROUND BY HAND: a table and turns on it
+pub record Hand : Type 0 where
+  pub start : List ℕ
+  pub turns : List Turn
+
+-- a table of 8 rows with something else in it
+abbrev pub found : List ℕ
+found = replicate (head-size + row-size * 8) 7
+
+abbrev pub marks-from : (left s : ℕ) → Round → List ℕ
+marks-from zero s r = []
+marks-from (suc n) s r = mark r s ∷ marks-from n (suc s) r
+
+abbrev pub marks-of : Round → List ℕ
+marks-of r = marks-from (slots-left r) (r .slot) r
+
+abbrev pub tickets-of : List Row → List ℕ
+tickets-of xs = map (λ (x : Row). x .ticket) xs
+
+-- the same calls by the definitions
+abbrev pub replayed : List ℕ → List Turn → List Turn
+replayed t [] = []
+replayed t (turn c a xs ms ∷ ts) =
+    let z = left c t in turn c (answer c t) (round-in z .rows) (marks-of (round-in z)) ∷ replayed z ts
+replayed t (listing ks ss ∷ ts) =
+    let is = tickets-of (listed (round-in t)) in listing is (map (λ (k : ℕ). substitute-answer k t) is) ∷ replayed t ts
+
+abbrev pub played : List Hand → List Hand
+played [] = []
+played (h ∷ hs) = record { start = h .start; turns = replayed (h .start) (h .turns) } ∷ played hs

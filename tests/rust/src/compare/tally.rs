@@ -1,0 +1,82 @@
+//! How often each outcome of each call was met, so that one sees what the
+//! comparison went through.
+
+use crate::call::CallName;
+use std::collections::BTreeMap;
+
+#[derive(Default, Clone)]
+pub struct Tally {
+    counts: BTreeMap<(usize, Outcome), u64>,
+}
+
+/// What a packed reply says, without its numbers.
+#[derive(Clone, Copy, PartialEq, Eq, PartialOrd, Ord, Debug)]
+pub enum Outcome {
+    Accepted,
+    /// What went out, and whether in a leap.
+    Sent(u8, bool),
+    /// A substitute that is a blank.
+    Blank,
+    Refused(u8),
+}
+
+impl Tally {
+    pub fn add(&mut self, call: CallName, reply: u64) {
+        *self
+            .counts
+            .entry((call as usize, outcome(call, reply)))
+            .or_default() += 1;
+    }
+
+    /// Calls in all.
+    pub fn all(&self) -> u64 {
+        self.counts.values().sum()
+    }
+
+    pub fn met(&self, call: CallName, outcome: Outcome) -> u64 {
+        self.counts
+            .get(&(call as usize, outcome))
+            .copied()
+            .unwrap_or(0)
+    }
+
+    /// One line for each call that was asked.
+    pub fn lines(&self) -> Vec<String> {
+        let mut lines = Vec::new();
+        for call in CallName::ALL {
+            let own = self
+                .counts
+                .iter()
+                .filter(|((place, _), _)| *place == *call as usize);
+            let told: Vec<String> = own
+                .map(|((_, outcome), count)| format!("{} {count}", said(*outcome)))
+                .collect();
+            if !told.is_empty() {
+                lines.push(format!("{call:?}: {}", told.join(", ")));
+            }
+        }
+        lines
+    }
+}
+
+fn outcome(call: CallName, reply: u64) -> Outcome {
+    let refusal = (reply & 0xFF) as u8;
+    match call {
+        _ if refusal != 0 => Outcome::Refused(refusal),
+        CallName::Send => Outcome::Sent((reply >> 32 & 3) as u8, reply >> 34 & 1 == 1),
+        CallName::Substitute if reply >> 8 & 0xFF_FFFF == 0 => Outcome::Blank,
+        _ => Outcome::Accepted,
+    }
+}
+
+fn said(outcome: Outcome) -> String {
+    match outcome {
+        Outcome::Accepted => "accepted".to_string(),
+        Outcome::Blank => "blank".to_string(),
+        Outcome::Refused(number) => format!("refused by {number}"),
+        Outcome::Sent(what, leap) => {
+            let what = ["silence", "frame", "kept blank", "?"][usize::from(what)];
+            format!("{what}{}", if leap { " in a leap" } else { "" })
+        }
+    }
+}

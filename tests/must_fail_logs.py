@@ -6,25 +6,27 @@ fits the text of a proof, or does not even parse, and such a refusal shows nothi
 said (target/must-fail/CRATE/LABEL/.log) and accepts a refusal only when
 
   - a tactic was left with a goal that it could not prove (search, omega, cc, simp, rw, or a function that needs no proof
-    file), or a comparison came down to two different values, as `true` and `false`, or `255` and `256`; and
+    file), or a comparison came down to two different values, as `true` and `false`, or `255` and `256`, or a statement without
+    variables that was proved by `refl`, by computing both sides, is so no more; and
   - no message says that the proof does not fit: a name, a field or a `Need-..` that is not there, one need in the place
     of another, text that does not parse.
 
 A comparison of two terms that are not values is not enough: terms that are equal can be refused so, for the way they are
 written. (`a + 1` for `1 + a` is refused where a proof cites a law about the other.) End such a proof in omega or search,
-or write the arguments out in place of `_`, and the log shows what no longer holds.
+or write the arguments out in place of `_`, and the log shows what no longer holds. Likewise a `refl` counts only if all that
+the edit uses is opened by the statement's `unfolding` line: otherwise the two sides may just not have been computed.
 
 That a goal was not proved does not yet say that it is false. That an edit changes what the code means is for its author
 to see; this script only rules out the refusals that cannot show it.
 
   must_fail_logs.py              reads the logs of the last `rt ci`; one line each, then 'N passed, M failed'
   must_fail_logs.py --self-test  tries the rules on samples of logs
-  must_fail_logs.py --show LOG   the verdict on one log
 """
 import glob
 import os
 import re
 import sys
+import tempfile
 
 # Said of a declaration that uses a refused one: tells nothing by itself.
 KNOCK_ON = re.compile(r'was not admitted|it calls `[^`]*`, which is not proved')
@@ -55,6 +57,9 @@ GOAL = [
 DIFFER = re.compile(r'one has `([^`]*)`\s*\((?:expected|left)\)[^`]*?(?:, right after `[^`]*`)?,?\s+and the other has `([^`]*)`\s*\((?:found|right)\)')
 VALUE_WORD = re.compile(r'\d+|true|false|\[\]|∷|zero|suc|none|some|refused|done|ticket|step|amount|blank-due|silence|frame|kept-blank|ordinary|leap')
 
+# `refl` where the two sides are not the same.
+REFL = re.compile(r'expected type `([^`]*) ≡ ([^`]*)`,?\s+but this has type `([^`]*) ≡ ([^`]*)`')
+
 
 def blocks(log):
     """The messages of a log, each with its continuation lines."""
@@ -84,6 +89,32 @@ def values_differ(block):
     return None
 
 
+def read(path):
+    with open(path, encoding='utf-8', errors='replace') as f:
+        return f.read()
+
+
+def kept_shut(folder):
+    """The definitions of an edited crate that are computed only where an `unfolding` line opens them."""
+    specs = glob.glob(os.path.join(folder, 'specs', '*.antt'))
+    return {name for path in specs for name in re.findall(r'^(?:unfoldable )?pub (\S+) :', read(path), re.M)}
+
+
+def no_longer_computes(block, folder, edit):
+    """Whether a message refuses the `refl` of a statement without variables, with all that the edit uses opened."""
+    types = REFL.search(block)
+    at = re.match(r'\S*/must-fail/[^/]+/[^/]+/(\S+?):\d+:\d+: error: `([^`]*)`', block)
+    if not types or not at or types[3] != types[4] or types[3] not in (types[1], types[2]):
+        return None
+    name = re.escape(at[2])
+    said = re.search(rf'^(?:pub )?{name} : (.*)\n(?:unfolding (.*)\n)?{name} = refl$', read(os.path.join(folder, at[1])), re.M)
+    if not said or '→' in said[1]:
+        return None
+    used = {word for line in re.findall(r'^new:(.*)', edit, re.M) for word in re.split(r'[\s()]+', line)}
+    shut = (used & kept_shut(folder)) - set((said[2] or '').split())
+    return None if shut else f'{types[1]} ≡ {types[2]} does not hold by computation'
+
+
 def first_match(rules, block):
     return next((meaning for pattern, meaning in rules if pattern.search(block)), None)
 
@@ -96,8 +127,8 @@ def place_of(block):
     return f'{named.group(1)} at {where}' if named else where
 
 
-def classify(log):
-    """(accepted, reason) for the text of a log."""
+def classify(log, folder='', edit=''):
+    """(accepted, reason) for the text of a log, the folder of the edited crate and the text of the edit."""
     if re.search(r'^logic=proved', log, re.M):
         return False, 'the crate is still proved'
     if not re.search(r'^logic=not-proved', log, re.M):
@@ -108,7 +139,7 @@ def classify(log):
         if fit:
             return False, f'only the fit is broken: {fit} ({place_of(b)})'
     for b in told:
-        fact = values_differ(b) or first_match(GOAL, b)
+        fact = values_differ(b) or first_match(GOAL, b) or no_longer_computes(b, folder, edit)
         if fact:
             return True, f'{fact} ({place_of(b)})'
     if told:
@@ -116,21 +147,28 @@ def classify(log):
     return False, 'the log names no error'
 
 
+def judge(top, crate, label):
+    folder = os.path.join(top, 'target', 'must-fail', crate, label)
+    log = os.path.join(folder, '.log')
+    if not os.path.isfile(log):
+        return False, 'it has no log'
+    return classify(read(log), folder, read(os.path.join(top, 'crates', crate, 'must-fail', label + '.edit')))
+
+
 def report(top):
     passed = failed = 0
     for edit in sorted(glob.glob(os.path.join(top, 'crates', '*', 'must-fail', '*.edit'))):
         crate = edit.split(os.sep)[-3]
         label = os.path.basename(edit)[:-len('.edit')]
-        log = os.path.join(top, 'target', 'must-fail', crate, label, '.log')
-        if os.path.isfile(log):
-            with open(log, encoding='utf-8', errors='replace') as f:
-                accepted, reason = classify(f.read())
-        else:
-            accepted, reason = False, 'it has no log'
-        print(f'must-fail {crate}/{label}: {"a fact" if accepted else "NOT A FACT"}: {reason}')
+        accepted, reason = judge(top, crate, label)
+        print(f'must-fail {crate}/{label}: {"a fact" if accepted else "NOT A FACT"}: {shortened(reason)}')
         passed, failed = passed + accepted, failed + (not accepted)
     print(f'{passed} passed, {failed} failed')
     return failed == 0
+
+
+def shortened(reason, most=160):
+    return reason if len(reason) <= most else reason[:most // 2] + ' … ' + reason[-most // 2:]
 
 
 END = '\nlogic=not-proved\n'
@@ -159,11 +197,30 @@ SAMPLES = [
     (False, 'empty', ''),
 ]
 
+# The same refusal of a `refl`, under four declarations and two edits.
+REFUSED_REFL = 'a/must-fail/b/c/proofs/Facts.antt:3:1: error: `fact`: expected type `played all ≡ all`, but this has type `played all ≡ played all`\n  what the two types compute to is not shown' + END
+REFL_SAMPLES = [
+    (True, 'computed', 'pub fact : played all ≡ all\nunfolding played step\nfact = refl\n', 'new: step a + 1'),
+    (False, 'not opened', 'pub fact : played all ≡ all\nunfolding played\nfact = refl\n', 'new: (step a)'),
+    (False, 'with a variable', 'pub fact : (n : ℕ) → played n ≡ n\nunfolding played step\nfact n = refl\n', 'new: step a'),
+    (False, 'not refl', 'pub fact : played all ≡ all\nunfolding played step\nfact = other\n', 'new: step a'),
+]
+
+
+def try_refl_samples():
+    for accepted, name, proofs, edit in REFL_SAMPLES:
+        with tempfile.TemporaryDirectory() as folder:
+            for part, text in (('specs', 'unfoldable pub step : ℕ → ℕ\nabbrev pub all : ℕ\n'), ('proofs', proofs)):
+                os.mkdir(os.path.join(folder, part))
+                with open(os.path.join(folder, part, 'Facts.antt'), 'w', encoding='utf-8') as f:
+                    f.write(text)
+            yield accepted, f'refl, {name}', classify(REFUSED_REFL, folder, edit)
+
 
 def self_test():
     passed = failed = 0
-    for accepted, name, log in SAMPLES:
-        said, reason = classify(log)
+    tried = [(accepted, name, classify(log)) for accepted, name, log in SAMPLES] + list(try_refl_samples())
+    for accepted, name, (said, reason) in tried:
         if said == accepted:
             passed += 1
         else:
@@ -176,11 +233,6 @@ def self_test():
 def main(words):
     if words[:1] == ['--self-test']:
         return self_test()
-    if words[:1] == ['--show'] and len(words) == 2:
-        with open(words[1], encoding='utf-8', errors='replace') as f:
-            accepted, reason = classify(f.read())
-        print(f'{"a fact" if accepted else "NOT A FACT"}: {reason}')
-        return accepted
     return report(os.path.join(os.path.dirname(os.path.abspath(__file__)), '..'))
 
 

@@ -31,6 +31,9 @@ import tempfile
 # Said of a declaration that uses a refused one: tells nothing by itself.
 KNOCK_ON = re.compile(r'was not admitted|it calls `[^`]*`, which is not proved')
 
+# Said where the prover tried a proof with more definitions opened, and it went through.
+ADMITTED = re.compile(r'a trial run of this declaration was admitted')
+
 # The edit broke the fit of a proof or of a file.
 FIT = [
     (re.compile(r'has no `Need-'), 'a need of the proof file is not there'),
@@ -133,6 +136,8 @@ def classify(log, folder='', edit=''):
         return False, 'the crate is still proved'
     if not re.search(r'^logic=not-proved', log, re.M):
         return False, 'it did not reach the prover'
+    if ADMITTED.search(log):
+        return False, 'the prover says that the statement holds with another `unfolding` line'
     told = [b for b in blocks(log) if not KNOCK_ON.search(b.splitlines()[0])]
     for b in told:
         fit = first_match(FIT, b)
@@ -191,6 +196,7 @@ SAMPLES = [
     (False, 'a definition of another type', 'x/specs/Def.antt:7:15: error: `heavier`: expected type `Bool`, but this has type `ℕ`\nx/proofs/Facts.antt:9:11: error: `ties`: `heavier` was not admitted (it has holes), so this cannot be checked' + END),
     (False, 'written another way', 'x/proofs/f/Proof.antt:39:13: error: `returns`: computed as far as they go, the two types differ only where one has `256` (expected) and the other has `256 % 256` (found)\n  expected type `p`\n  but this has type `q`' + END),
     (False, 'no occurrence', 'x/proofs/f/Proof.antt:32:2: error: `returns`: `rw`: no occurrence of the path\'s left endpoint in the goal' + END),
+    (False, 'a trial run', 'x/proofs/f/Proof.antt:15:13: error: `returns`: `search`: no proof of `p`\n  was found.\nx/proofs/f/Proof.antt:14:1: note: a trial run of this declaration was admitted by the kernel. That run had the line `unfolding f g`' + END),
     (False, 'knock-on alone', 'x/proofs/f/Proof.antt:59:5: error: `f-spec`: `returns` was not admitted (it has holes or undetermined implicits, or was rejected), so this cannot be checked' + END),
     (False, 'the compiler', 'x/src/lib.rt:42:14: error[mismatched-types]: expected `usize`, found `bool`\n'),
     (False, 'still proved', 'fn a::f: proved\nlogic=proved functions=1\n'),

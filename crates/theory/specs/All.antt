@@ -1,15 +1,14 @@
 -- Facts of every row of a list, rows in a list, falling weights. Assumes nothing.
-use mathlib.Core.Path.{_≡_, refl, sym, ap, _∙_, subst}
+use mathlib.Core.Path.{_≡_, sym, subst}
 use mathlib.Core.Logic.{_⊎_, inl, inr}
-use mathlib.Core.Bool.{Bool, true, false, _&&_, _||_, not, cond}
+use mathlib.Core.Bool.{Bool, true, false}
 use mathlib.Core.List.{List, [], _∷_, _++_}
-use Prim.Native.Nat.{ℕ, zero, suc, _+_, _*_, _-_, _≤_, _<_}
+use Prim.Native.Nat.{ℕ, zero, suc, _≤_}
 use native.Mathlib.Omega.{arith}
-use lib.Dec.{ltb, leb, eqb}
-use lib.ListN.{length, replicate}
+use lib.ListN.{replicate}
 use Rattle.rules.specs.Rows.{Row, Round, blank, heavier, into, sorted}
 use Rattle.rules.specs.Plan.{feasible, kept, blanks-from}
-use Rattle.theory.specs.Tests.{either, leb?, ltb?, eqb?, one-if}
+use Rattle.theory.specs.Tests.{either, ltb?, eqb?}
 use Rattle.theory.specs.Sum.{rejected}
 
 abbrev pub All : (Row → Type 0) → List Row → Type 0

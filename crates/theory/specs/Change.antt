@@ -1,22 +1,21 @@
 -- A row changed or gone by its ticket; rows still due; rows in the plan and outside. Assumes nothing.
-use mathlib.Core.Path.{_≡_, refl, sym, ap, _∙_, subst}
+use mathlib.Core.Path.{_≡_, refl, sym, ap, _∙_}
 use mathlib.Core.Logic.{_⊎_, inl, inr}
-use mathlib.Core.Bool.{Bool, true, false, _&&_, _||_, not, cond, true≢false, false≢true}
+use mathlib.Core.Bool.{Bool, true, false, true≢false}
 use mathlib.Core.List.{List, [], _∷_, _++_}
-use Prim.Native.Nat.{ℕ, zero, suc, _+_, _*_, _-_, _≤_, _<_, min, max}
+use Prim.Native.Nat.{ℕ, zero, suc, _+_, _≤_, _<_}
 use native.Mathlib.Omega.{arith}
-use lib.Dec.{ltb, leb, eqb}
+use lib.Dec.{leb, eqb}
 use borrow.Author.Tests.{eq-eqb, ne-eqb}
-use lib.ListN.{length, replicate}
+use lib.ListN.{replicate}
 use Rattle.rules.specs.Rows.{Row, Round, blank, heavier, into, sorted, All, In}
 use Rattle.rules.specs.Plan.{feasible, kept, blanks-from, plan, same-row, in-plan}
 use Rattle.rules.specs.Steps.{changed, without, still-due}
-use Rattle.theory.specs.Tests.{either, leb?, ltb?, eqb?}
-use Rattle.theory.specs.Sum.{sum, sum-append, sum-sorted, sum-kept, rejected}
-use Rattle.theory.specs.All.{all-map, all-in, all-append, all-sorted, all-kept, all-replicate, light-blanks}
-use Rattle.theory.specs.Feas.{below, below?, num, below-yes, below-late, below-mono, below-light, num-mono, num-weight}
+use Rattle.theory.specs.Tests.{either, leb?, eqb?}
+use Rattle.theory.specs.Sum.{sum, rejected}
+use Rattle.theory.specs.All.{all-map, all-append, all-sorted, all-kept, all-replicate}
+use Rattle.theory.specs.Full.{Rising, blanks, pool, outside}
 use Rattle.theory.specs.Marks.{box, box?}
-use Rattle.theory.specs.Full.{Fine, Row-fine, Rising, blanks, pool, outside, plan-sum}
 
 -- the first row with its ticket
 abbrev pub First : Row → List Row → Type 0

@@ -1,18 +1,17 @@
 -- Counts by weight and due slot; feasible sets; what a greedy run keeps and rejects. Assumes nothing.
-use mathlib.Core.Path.{_≡_, refl, sym, ap, _∙_, subst}
+use mathlib.Core.Path.{_≡_, refl}
 use mathlib.Core.Logic.{_⊎_, inl, inr}
-use mathlib.Core.Bool.{Bool, true, false, _&&_, _||_, not, cond, true≢false, false≢true}
-use mathlib.Core.List.{List, [], _∷_, _++_}
-use Prim.Native.Nat.{ℕ, zero, suc, _+_, _*_, _-_, _≤_, _<_}
+use mathlib.Core.Bool.{true, false, _&&_, true≢false, false≢true}
+use mathlib.Core.List.{List, [], _∷_}
+use Prim.Native.Nat.{ℕ, zero, suc, _+_, _-_, _≤_, _<_}
 use native.Mathlib.Omega.{arith}
-use lib.Dec.{ltb, leb, eqb}
-use borrow.Author.Tests.{le-leb, leb-false}
-use lib.ListN.{length, replicate}
-use Rattle.rules.specs.Rows.{Row, Round, blank, slots-left, All, In}
+use lib.Dec.{ltb, leb}
+use borrow.Author.Tests.{le-leb}
+use Rattle.rules.specs.Rows.{Row, Round, slots-left, All}
 use Rattle.rules.specs.Plan.{due-by, fits-from, feasible, kept}
-use Rattle.theory.specs.Tests.{either, leb?, ltb?, eqb?, one-if}
-use Rattle.theory.specs.Sum.{sum, sum-le, sum-kept, rejected, due-at, due-by-sum}
-use Rattle.theory.specs.All.{Falling, all-map, all-in, all-kept, all-rejected}
+use Rattle.theory.specs.Tests.{either, leb?, ltb?, one-if}
+use Rattle.theory.specs.Sum.{sum, sum-le, sum-kept, rejected}
+use Rattle.theory.specs.All.{Falling, all-map, all-rejected}
 
 -- 1 for a row of weight w or more that is due before e
 unfoldable pub below : (w e : ℕ) → Row → ℕ

@@ -1,17 +1,16 @@
 -- Sound rounds, their plan and what stays outside: the plan fills every slot. Assumes nothing.
-use mathlib.Core.Path.{_≡_, refl, sym, ap, _∙_, subst}
-use mathlib.Core.Logic.{_⊎_, inl, inr}
-use mathlib.Core.Bool.{Bool, true, false, _&&_, _||_, not, cond}
+use mathlib.Core.Path.{_≡_, refl}
+use mathlib.Core.Logic.{inl, inr}
+use mathlib.Core.Bool.{true}
 use mathlib.Core.List.{List, [], _∷_, _++_}
-use Prim.Native.Nat.{ℕ, zero, suc, _+_, _*_, _-_, _≤_, _<_}
+use Prim.Native.Nat.{ℕ, zero, suc, _+_, _-_, _≤_, _<_}
 use native.Mathlib.Omega.{arith}
-use lib.Dec.{ltb, leb, eqb}
 use lib.ListN.{length, replicate}
-use Rattle.rules.specs.Rows.{Row, Round, blank, slots-left, heavier, sorted, All, In}
-use Rattle.rules.specs.Plan.{feasible, kept, blanks-from, plan}
-use Rattle.theory.specs.Tests.{either, leb?, ltb?, eqb?}
+use Rattle.rules.specs.Rows.{Row, Round, blank, slots-left, heavier, sorted, All}
+use Rattle.rules.specs.Plan.{feasible, blanks-from, plan}
+use Rattle.theory.specs.Tests.{leb?, ltb?}
 use Rattle.theory.specs.Sum.{sum, sum-append, sum-sorted, sum-kept, rejected}
-use Rattle.theory.specs.All.{Falling, all-map, all-append, all-sorted, all-kept, all-replicate, falling-sorted, falling-append, light-blanks}
+use Rattle.theory.specs.All.{all-map, all-append, all-sorted, all-kept, all-replicate, falling-sorted, falling-append, light-blanks}
 use Rattle.theory.specs.Feas.{below, num, below-yes, below-late, num-mono, num-light, num-early, Feas, feas-made, kept-feas, Edge, run}
 
 -- tickets rise, from a number on, below another

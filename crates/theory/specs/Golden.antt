@@ -1,14 +1,14 @@
 -- The golden ratio in whole numbers: what `beats-golden` tests, and the same order by one score of two Fibonacci numbers. Assumes nothing.
-use mathlib.Core.Path.{_≡_, refl, sym, ap, _∙_}
-use mathlib.Core.Logic.{_⊎_, inl, inr}
-use mathlib.Core.Bool.{Bool, true, false, _&&_, _||_, not, cond, true≢false, false≢true}
+use mathlib.Core.Path.{_≡_, sym, ap, _∙_}
+use mathlib.Core.Logic.{inl, inr}
+use mathlib.Core.Bool.{true, _||_, not}
 use Prim.Native.Nat.{ℕ, zero, suc, _+_, _*_, _-_, _≤_, _<_}
 use native.Mathlib.Omega.{arith}
-use native.Mathlib.Nat.{mul-add, mul-comm, mul-assoc, mul-le-mul, add-mul}
-use lib.Dec.{ltb, leb, eqb}
-use borrow.Author.Tests.{ltb-true, ltb-false, leb-true, leb-false, lt-ltb, le-ltb, le-leb}
+use native.Mathlib.Nat.{mul-add, mul-comm, mul-assoc, mul-le-mul}
+use lib.Dec.{ltb}
+use borrow.Author.Tests.{ltb-true, lt-ltb, le-ltb}
 use Rattle.rules.specs.Plan.{beats-golden, golden-more}
-use Rattle.theory.specs.Tests.{either, leb?, ltb?}
+use Rattle.theory.specs.Tests.{leb?, ltb?}
 
 pub mul-mono : (a b c d : ℕ) → a ≤ c → b ≤ d → a * b ≤ c * d
 mul-mono a b c d h k = mul-le-mul h k

@@ -1,24 +1,23 @@
 -- A leap: its shifts, its substitute, and that the rows after fill as far. Assumes nothing.
-use mathlib.Core.Path.{_≡_, refl, sym, ap, _∙_, subst}
+use mathlib.Core.Path.{_≡_, refl, sym, ap}
 use mathlib.Core.Logic.{_⊎_, inl, inr}
-use mathlib.Core.Bool.{Bool, true, false, _&&_, _||_, not, cond, true≢false, false≢true}
-use mathlib.Core.List.{List, [], _∷_, _++_}
-use Prim.Native.Nat.{ℕ, zero, suc, _+_, _*_, _-_, _≤_, _<_, min, max}
+use mathlib.Core.Bool.{false}
+use mathlib.Core.List.{List, []}
+use Prim.Native.Nat.{ℕ, zero, suc, _+_, _-_, _≤_, _<_, max}
 use native.Mathlib.Omega.{arith}
-use lib.Dec.{ltb, leb, eqb}
-use borrow.Author.Tests.{lt-ltb, le-ltb, le-leb, lt-leb, ltb-true, ltb-false, leb-true, eq-eqb, ne-eqb}
-use lib.ListN.{length, replicate}
-use Rattle.rules.specs.Rows.{Row, Round, blank, heavier, row, All, In}
-use Rattle.rules.specs.Plan.{plan, in-plan, tight-after, segment-start, mark-in, mark, first-end, heaviest-outside, substitute}
-use Rattle.rules.specs.Steps.{changed, without, still-due, heaviest-between, shifted, replaced, leapt}
-use Rattle.theory.specs.Tests.{either, leb?, ltb?, eqb?, pick}
+use lib.Dec.{ltb}
+use borrow.Author.Tests.{le-ltb, lt-leb, ltb-true, ltb-false, ne-eqb}
+use Rattle.rules.specs.Rows.{Row, Round, blank, row, All, In}
+use Rattle.rules.specs.Plan.{plan, in-plan, tight-after, segment-start, mark-in, first-end, heaviest-outside, substitute}
+use Rattle.rules.specs.Steps.{changed, without, heaviest-between, shifted, replaced, leapt}
+use Rattle.theory.specs.Tests.{leb?, ltb?, pick}
 use Rattle.theory.specs.Sum.{sum}
 use Rattle.theory.specs.All.{all-map, all-in}
-use Rattle.theory.specs.Feas.{num, Feas, Edge}
+use Rattle.theory.specs.Feas.{num}
 use Rattle.theory.specs.Full.{Fine, Row-fine, Rising, outside, plan-feas, plan-edge, plan-full, plan-due}
 use Rattle.theory.specs.Marks.{Tight, Next, next, Start, start, box, box?, box-yes, filled, Marked, mark-above, mark-all, mark-limit}
 use Rattle.theory.specs.Change.{First, changed-sum, without-sum, changed-first, rising-above, rising-first, rising-same, all-of-in, Member, plan-rows, in-sum, not-in-plan, row-outside, without-none, changed-none, all-changed, all-without, rising-changed, rising-without}
-use Rattle.theory.specs.Send.{Stand-in, outside-in, Between, between-finds, between-count, next-by, point, point?, point-yes}
+use Rattle.theory.specs.Send.{outside-in, Between, between-finds, between-count, next-by, point, point?, point-yes}
 
 abbrev pub Row-ok : Round → Row → Type 0
 Row-ok r x = (x .due ≤ r .last) × (1 ≤ x .weight) × (x .weight ≤ 16777216)

@@ -1,19 +1,17 @@
 -- Tight slots, segments and marks, without tests; a mark is w or more where rows of weight w fill the slots up to a later one. Assumes nothing.
-use mathlib.Core.Path.{_≡_, refl, sym, ap, _∙_, subst}
+use mathlib.Core.Path.{_≡_, refl}
 use mathlib.Core.Logic.{_⊎_, inl, inr}
-use mathlib.Core.Bool.{Bool, true, false, _&&_, _||_, not, cond}
-use mathlib.Core.List.{List, [], _∷_, _++_}
-use Prim.Native.Nat.{ℕ, zero, suc, _+_, _*_, _-_, _≤_, _<_, min}
+use mathlib.Core.Bool.{true, false}
+use mathlib.Core.List.{List, [], _∷_}
+use Prim.Native.Nat.{ℕ, zero, suc, _+_, _-_, _≤_, _<_, min}
 use native.Mathlib.Omega.{arith}
-use lib.Dec.{ltb, leb, eqb}
-use lib.ListN.{length, replicate}
-use Rattle.rules.specs.Rows.{Row, Round, All, In}
+use Rattle.rules.specs.Rows.{Row, Round, All}
 use Rattle.rules.specs.Plan.{due-by, plan, tight, tight-from, tight-after, segment-from, segment-start, least-weight, mark-in, mark}
-use Rattle.theory.specs.Tests.{either, leb?, ltb?, eqb?}
-use Rattle.theory.specs.Sum.{sum, sum-append, sum-sorted, sum-kept, rejected}
-use Rattle.theory.specs.All.{all-map, all-in}
-use Rattle.theory.specs.Feas.{below, below?, num, below-yes, below-late, below-mono, below-weight, num-mono, num-weight, num-early, due-below, Feas, Edge}
-use Rattle.theory.specs.Full.{Fine, blanks, outside, plan-feas, plan-edge, plan-sum, no-blanks, plan-full}
+use Rattle.theory.specs.Tests.{leb?, ltb?, eqb?}
+use Rattle.theory.specs.Sum.{sum}
+use Rattle.theory.specs.All.{all-map}
+use Rattle.theory.specs.Feas.{below, below?, num, below-yes, below-late, below-mono, below-weight, num-weight, num-early, due-below, Feas}
+use Rattle.theory.specs.Full.{Fine, outside, plan-feas, plan-edge, plan-sum, no-blanks, plan-full}
 
 abbrev pub Tight : Round → List Row → ℕ → Type 0
 Tight r ps s = num 0 (suc s) ps ≡ suc s - r .slot

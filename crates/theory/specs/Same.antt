@@ -1,24 +1,23 @@
 -- Lists with the same rows in any order, told by sums; sorting forgets the order; the plan's rows are the waiting rows in the plan. Assumes nothing.
 use mathlib.Core.Path.{_≡_, refl, sym, ap, ap₂, _∙_, subst}
 use mathlib.Core.Logic.{_⊎_, inl, inr, _≢_}
-use mathlib.Core.Bool.{Bool, true, false, _&&_, _||_, not, cond, true≢false, false≢true}
-use mathlib.Core.List.{List, [], _∷_, _++_}
-use Prim.Native.Nat.{ℕ, zero, suc, _+_, _*_, _-_, _≤_, _<_}
+use mathlib.Core.Bool.{Bool, true, false, cond, false≢true}
+use mathlib.Core.List.{List, [], _∷_}
+use Prim.Native.Nat.{ℕ, suc, _+_, _-_, _≤_, _<_}
 use native.Mathlib.Omega.{arith}
-use lib.Dec.{ltb, leb, eqb}
+use lib.Dec.{eqb}
 use borrow.Author.Tests.{le-leb, ne-eqb}
-use lib.ListN.{length}
-use Rattle.rules.specs.Rows.{Row, Round, heavier, canonical, into, sorted, chosen, rows-only, All, In, Heavier}
+use Rattle.rules.specs.Rows.{Row, Round, canonical, into, sorted, chosen, rows-only, All, In}
 use Rattle.rules.specs.Plan.{plan, same-row, in-plan, total, total-weight, flags, planned, listed}
 use Rattle.rules.specs.Demands.{member, in-time, turns}
-use Rattle.theory.specs.Tests.{either, leb?, ltb?, eqb?}
-use Rattle.theory.specs.Sum.{sum, sum-sorted, sum-kept, total-sum}
-use Rattle.theory.specs.All.{all-map, all-in, all-append, all-into, all-sorted}
+use Rattle.theory.specs.Tests.{either, ltb?, eqb?}
+use Rattle.theory.specs.Sum.{sum, sum-sorted, total-sum}
+use Rattle.theory.specs.All.{all-map, all-in, all-into, all-sorted}
 use Rattle.theory.specs.Feas.{below, num, below-yes, Feas}
 use Rattle.theory.specs.Full.{Fine, Row-fine, Rising, blanks, outside, plan-feas, plan-sum, plan-due}
-use Rattle.theory.specs.Change.{Member, plan-rows, rising-same, rising-above, in-sum, ticketless, all-of-in, in-sorted, not-in-plan}
-use Rattle.theory.specs.Times.{is, is?, ticks, no-ticks, rising-ticks, Apart, apart-of, rank-due, in-slots, slots-of, rank, all-chosen, sum-rows-only, all-rows-only, plan-ticks}
-use Rattle.theory.specs.Order.{Not-over, heavier?, not-over-trans, over-not, over-absurd}
+use Rattle.theory.specs.Change.{Member, plan-rows, rising-same, rising-above, in-sum, ticketless, all-of-in, not-in-plan}
+use Rattle.theory.specs.Times.{is?, ticks, no-ticks, rising-ticks, apart-of, rank-due, in-slots, slots-of, rank, all-chosen, sum-rows-only, all-rows-only, plan-ticks}
+use Rattle.theory.specs.Order.{Not-over, heavier?, not-over-trans, over-not}
 
 -- THE SAME ROWS in any order
 abbrev pub Same : List Row → List Row → Type 0

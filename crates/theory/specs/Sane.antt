@@ -1,15 +1,15 @@
 -- Sound rounds and their tables: calls on a sound round's table refuse, answer and leave what the model says. Assumes nothing.
-use mathlib.Core.Path.{_≡_, refl, sym, ap, ap₂, _∙_}
+use mathlib.Core.Path.{_≡_, refl, ap₂}
 use mathlib.Core.Bool.{Bool, true, false, _&&_, not, cond, true≢false, false≢true}
-use mathlib.Core.List.{List, [], _∷_, _++_}
-use Prim.Native.Nat.{ℕ, suc, _+_, _*_, _-_, _/_, _%_, _≤_, _<_}
+use mathlib.Core.List.{List, [], _∷_}
+use Prim.Native.Nat.{ℕ, suc, _-_, _/_, _%_, _≤_, _<_}
 use native.Mathlib.Omega.{arith}
 use lib.Dec.{ltb, leb, eqb}
 use borrow.Author.Tests.{ltb-true, leb-true, eqb-true}
 use lib.ListN.{length}
 use Rattle.rules.specs.Rows.{Row, Round, round, All}
 use Rattle.rules.specs.Table.{table, rows-of, round-in, length-good, rows-good, round-good, same, table-refusal}
-use Rattle.rules.specs.Calls.{Call, opening, taking, sending, marking, totalling, Reply, refused, first, open-refusal, round-refusal, table-first, refusal, says, leaves, answer, left, run, next-round, after}
+use Rattle.rules.specs.Calls.{Call, opening, taking, sending, marking, totalling, refused, first, round-refusal, table-first, refusal, says, leaves, answer, left, run, next-round, after}
 use Rattle.theory.specs.Tests.{and-true}
 use Rattle.theory.specs.Full.{Fine, Row-fine, Rising}
 use Rattle.theory.specs.Calls.{no-refusal, next-fine}

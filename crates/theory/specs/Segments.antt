@@ -19,8 +19,8 @@ use Rattle.theory.specs.Members.{Rows, found-member}
 use Rattle.theory.specs.Substitute.{later-row, later-none, score-first, score-sub, score-none}
 use Rattle.theory.specs.Best.{first-same, later-same, heaviest-beats}
 use Rattle.theory.specs.Chain.{Chain, chain-extend}
-use Rattle.theory.specs.Count.{under, Sweep, kept-counts}
 use Rattle.theory.specs.Near.{Near, near-is-tight, near-next, near-start, near-mark-least}
+use Rattle.theory.specs.Count.{under, Sweep, kept-counts}
 
 -- A SEGMENT from b to e: no slack before b and by e, some by each slot between
 pub record Segment (r : Round) (rs : List Row) (b e : ℕ) : Type 0 where

@@ -1,25 +1,22 @@
 -- Full selections of rows and blanks, certified by their next tight slots, have the plan's rows. Assumes nothing.
-use mathlib.Core.Path.{_≡_, refl, sym, ap, ap₂, _∙_, subst}
-use mathlib.Core.Logic.{_⊎_, inl, inr, _≢_}
-use mathlib.Core.Bool.{Bool, true, false, _&&_, _||_, not, cond, true≢false, false≢true}
-use mathlib.Core.List.{List, [], _∷_, _++_}
-use Prim.Native.Nat.{ℕ, zero, suc, _+_, _*_, _-_, _≤_, _<_}
+use mathlib.Core.Path.{_≡_, refl, sym, ap, _∙_, subst}
+use mathlib.Core.Logic.{inl, inr, _≢_}
+use mathlib.Core.Bool.{Bool, true, false, _||_, true≢false, false≢true}
+use mathlib.Core.List.{List, [], _∷_}
+use Prim.Native.Nat.{ℕ, suc, _+_, _-_, _≤_, _<_}
 use native.Mathlib.Omega.{arith}
-use lib.Dec.{ltb, leb, eqb}
-use borrow.Author.Tests.{eq-eqb, ne-eqb}
-use lib.ListN.{length}
-use Rattle.rules.specs.Rows.{Row, Round, heavier, slots-left, chosen, rows-only, All, In}
+use Rattle.rules.specs.Rows.{Row, Round, heavier, slots-left, rows-only, All, In}
 use Rattle.rules.specs.Plan.{due-by, feasible, plan, same-row, in-plan, tight-after}
-use Rattle.theory.specs.Tests.{either, leb?, ltb?, eqb?}
+use Rattle.theory.specs.Tests.{leb?, eqb?}
 use Rattle.theory.specs.Sum.{sum, sum-le}
 use Rattle.theory.specs.All.{all-map, all-in}
-use Rattle.theory.specs.Feas.{below, num, below-yes, below-late, due-below, Feas, feas-yes, feas-made}
+use Rattle.theory.specs.Feas.{below, num, below-late, due-below, Feas, feas-yes, feas-made}
 use Rattle.theory.specs.Full.{Fine, Row-fine, Rising, plan-feas, plan-full, plan-due}
-use Rattle.theory.specs.Marks.{Next, next}
+use Rattle.theory.specs.Marks.{next}
 use Rattle.theory.specs.Change.{Member, plan-rows, row-outside, not-in-plan, rising-above, all-of-in, in-sum}
 use Rattle.theory.specs.Times.{ticks, sum-rows-only, all-rows-only}
-use Rattle.theory.specs.Order.{heavier?, over-absurd, over-light, within, from-row, outside-by-order}
-use Rattle.theory.specs.Same.{in-plan?, of-plan, of-yes, of-no, row-ticket, tick-self, tick-once, sum-none, sum-of-rows, not-over-both}
+use Rattle.theory.specs.Order.{heavier?, over-absurd, within, from-row, outside-by-order}
+use Rattle.theory.specs.Same.{of-plan, of-yes, of-no, row-ticket, tick-self, tick-once, sum-none, sum-of-rows, not-over-both}
 use Rattle.theory.specs.Unique.{Left-out, in-plan-other, in-plan-self, rising-other, not-there, plan-selected, within-below, all-within}
 
 -- A FULL SELECTION: rows, each at most once, and blanks, feasible and filling every slot; a row left out is lighter than every member due by its next tight slot

@@ -1,23 +1,23 @@
 -- Sending: what leaves and what is shifted, and that the rows after fill as far. Assumes nothing.
-use mathlib.Core.Path.{_≡_, refl, sym, ap, _∙_, subst}
+use mathlib.Core.Path.{_≡_, refl, sym, _∙_}
 use mathlib.Core.Logic.{_⊎_, inl, inr}
-use mathlib.Core.Bool.{Bool, true, false, _&&_, _||_, not, cond, true≢false, false≢true}
-use mathlib.Core.List.{List, [], _∷_, _++_}
-use Prim.Native.Nat.{ℕ, zero, suc, _+_, _*_, _-_, _≤_, _<_, min, max}
+use mathlib.Core.Bool.{true, false, _&&_, not, cond, true≢false}
+use mathlib.Core.List.{List, [], _∷_}
+use Prim.Native.Nat.{ℕ, zero, suc, _+_, _-_, _≤_, _<_}
 use native.Mathlib.Omega.{arith}
-use lib.Dec.{ltb, leb, eqb}
-use borrow.Author.Tests.{lt-ltb, le-ltb, le-leb, ltb-true, leb-true}
-use lib.ListN.{length, replicate}
-use Rattle.rules.specs.Rows.{Row, Round, blank, heavier, row, All, In}
-use Rattle.rules.specs.Plan.{plan, in-plan, tight-after, segment-start, mark-in, mark, first-end, heaviest-outside, substitute, sends-before, best-from, best}
-use Rattle.rules.specs.Steps.{changed, without, still-due, heaviest-between, shifted, replaced, leapt}
-use Rattle.theory.specs.Tests.{either, leb?, ltb?, eqb?, and-true, not-true′, pick, one-if}
+use lib.Dec.{ltb, leb}
+use borrow.Author.Tests.{lt-ltb, le-leb, ltb-true, leb-true}
+use lib.ListN.{length}
+use Rattle.rules.specs.Rows.{Row, Round, heavier, All, In}
+use Rattle.rules.specs.Plan.{plan, in-plan, first-end, heaviest-outside, sends-before, best-from, best}
+use Rattle.rules.specs.Steps.{without, heaviest-between}
+use Rattle.theory.specs.Tests.{either, leb?, ltb?, and-true, not-true′, pick, one-if}
 use Rattle.theory.specs.Sum.{sum}
-use Rattle.theory.specs.All.{all-map, all-in}
-use Rattle.theory.specs.Feas.{below, below?, num, below-yes, below-late, below-mono, below-light, num-mono, num-weight, Feas, Edge}
-use Rattle.theory.specs.Full.{Fine, Row-fine, Rising, outside, plan-feas, plan-edge, plan-full, plan-due}
-use Rattle.theory.specs.Marks.{Tight, Next, next, Start, start, box, box?, box-yes, box-num, filled, Marked, mark-above, mark-all, mark-limit}
-use Rattle.theory.specs.Change.{First, changed-sum, without-sum, changed-first, rising-first, rising-same, all-of-in, Member, plan-rows, in-sum, not-in-plan, row-outside, without-none, changed-none, still-box, all-changed, all-without, rising-changed, rising-without}
+use Rattle.theory.specs.All.{all-in}
+use Rattle.theory.specs.Feas.{num, below-yes, below-late}
+use Rattle.theory.specs.Full.{Fine, plan-feas, plan-full}
+use Rattle.theory.specs.Marks.{Tight, Next, next, box, box?, filled, Marked}
+use Rattle.theory.specs.Change.{without-sum, rising-first, all-of-in, Member, plan-rows, without-none}
 
 -- choices from a list
 pub best-from-in : (r : Round) (ps xs : List Row) (b : Row) (all : List Row) → In b all → All (λ x. In x all) xs → In (best-from r ps xs b) all

@@ -1,22 +1,21 @@
 -- Blanks as suffix minima: tight slots and marks from the plan's rows alone. Assumes nothing.
-use mathlib.Core.Path.{_≡_, refl, sym, ap, ap₂, _∙_, subst}
+use mathlib.Core.Path.{_≡_, refl, sym, ap, _∙_}
 use mathlib.Core.Logic.{_⊎_, inl, inr, _≢_}
-use mathlib.Core.Bool.{Bool, true, false, _&&_, _||_, not, cond, true≢false, false≢true}
+use mathlib.Core.Bool.{Bool, true, false, cond, true≢false}
 use mathlib.Core.List.{List, [], _∷_, _++_}
-use Prim.Native.Nat.{ℕ, zero, suc, _+_, _*_, _-_, _≤_, _<_, min}
+use Prim.Native.Nat.{ℕ, zero, suc, _+_, _-_, _≤_, _<_, min}
 use native.Mathlib.Omega.{arith}
 use lib.Dec.{ltb, leb, eqb}
-use lib.ListN.{length, replicate}
+use lib.ListN.{replicate}
 use Rattle.rules.specs.Rows.{Row, Round, blank, slots-left, heavier, sorted, rows-only, All, In}
-use Rattle.rules.specs.Plan.{due-by, kept, blanks-from, plan, tight, tight-from, tight-after, segment-from, segment-start, least-weight, mark-in, mark, planned}
+use Rattle.rules.specs.Plan.{due-by, blanks-from, plan, tight, tight-from, tight-after, segment-from, segment-start, least-weight, mark-in, mark, planned}
 use Rattle.theory.specs.Tests.{either, leb?, ltb?, eqb?}
-use Rattle.theory.specs.Sum.{sum, sum-le, rejected}
+use Rattle.theory.specs.Sum.{sum, sum-le}
 use Rattle.theory.specs.All.{all-map, all-in, all-append, all-sorted, all-replicate}
-use Rattle.theory.specs.Feas.{below, below?, num, below-yes, below-late, below-light, below-mono, below-weight, num-mono, num-weight, due-below, Feas}
-use Rattle.theory.specs.Full.{Fine, Row-fine, blanks, pool, outside, pool-from, feas-none, plan-feas, plan-sum, plan-full, blanks-at, blanks-due}
+use Rattle.theory.specs.Feas.{below, num, below-yes, below-late, below-mono, below-weight, num-mono, due-below}
+use Rattle.theory.specs.Full.{Fine, blanks, pool, outside, pool-from, feas-none, plan-feas, plan-sum, plan-full, blanks-at}
 use Rattle.theory.specs.Marks.{Tight, tight?, Next, next, next-later, least-above, least-below, least-all, all-heavy, heavy-num, mark-all}
-use Rattle.theory.specs.Change.{Member, plan-rows, all-of-in}
-use Rattle.theory.specs.Times.{sum-rows-only}
+use Rattle.theory.specs.Change.{Member, plan-rows}
 use Rattle.theory.specs.Order.{Of, Not, Downward, Border, border, within, within-yes, within-no, many}
 use Rattle.theory.specs.Same.{Same, row-ticket, planned-same}
 

@@ -18,8 +18,8 @@ use Rattle.theory.specs.Send.{next-by}
 use Rattle.theory.specs.Times.{sum-less}
 use Rattle.theory.specs.Order.{Not-over, over-absurd}
 use Rattle.theory.specs.Same.{not-over-both, row-ticket}
-use Rattle.theory.specs.Select.{plan-selection}
 use Rattle.theory.specs.Score.{Bounded, plan-bounded, score-of}
+use Rattle.theory.specs.Select.{plan-selection}
 use Rattle.theory.specs.Slack.{slack, slack-all, tight-is, least-from, idle, idle-le, idlers, idlers-mono, with-blank, rows-num, slack-is, idlers-most, idlers-least, idlers-is}
 use Rattle.theory.specs.Members.{Is-blank, blank-ticket, blank-weight, blank-is, heavier-yes, heavier-no, not-over-heavier, Rows, of-rows-in, of-rows-ticket, of-rows-fine, found-member, member?, in-plan-is}
 use Rattle.theory.specs.Top.{lightest, Left-from, outside-top}

@@ -1,23 +1,21 @@
 -- Going out in time: slots for a feasible set, and a set with slots is feasible; the plan is best. Assumes nothing.
-use mathlib.Core.Path.{_≡_, refl, sym, ap, _∙_, subst}
+use mathlib.Core.Path.{_≡_, refl, subst}
 use mathlib.Core.Logic.{_⊎_, inl, inr, _≢_}
-use mathlib.Core.Bool.{Bool, true, false, _&&_, _||_, not, cond, true≢false, false≢true}
-use mathlib.Core.List.{List, [], _∷_, _++_}
-use Prim.Native.Nat.{ℕ, zero, suc, _+_, _*_, _-_, _≤_, _<_, min, max}
+use mathlib.Core.Bool.{Bool, true, false, _&&_, _||_, not, true≢false, false≢true}
+use mathlib.Core.List.{List, [], _∷_}
+use Prim.Native.Nat.{ℕ, zero, suc, _+_, _-_, _≤_, _<_}
 use native.Mathlib.Omega.{arith}
 use lib.Dec.{ltb, leb, eqb}
-use borrow.Author.Tests.{ltb-true, ltb-false, leb-true, leb-false, eqb-true, eqb-false, le-leb, lt-ltb, le-ltb, eq-eqb, ne-eqb}
-use lib.ListN.{length, replicate}
+use borrow.Author.Tests.{leb-true, le-leb, ne-eqb}
 use Rattle.rules.specs.Rows.{Row, Round, chosen, rows-only, All, In}
-use Rattle.rules.specs.Plan.{plan, total, total-weight}
+use Rattle.rules.specs.Plan.{plan}
 use Rattle.rules.specs.Demands.{member, in-time}
-use Rattle.theory.specs.Tests.{either, leb?, ltb?, eqb?, and-true, not-true′, pick, one-if}
-use Rattle.theory.specs.Sum.{sum, sum-append, sum-chosen, sum-le}
-use Rattle.theory.specs.All.{all-map, all-in, all-append}
-use Rattle.theory.specs.Feas.{below, below?, num, below-yes, below-late, num-mono, Feas}
-use Rattle.theory.specs.Full.{Fine, Row-fine, Rising, blanks, outside, plan-feas, plan-sum, plan-due}
-use Rattle.theory.specs.Change.{Member, plan-rows, rising-above, in-sum, ticketless, all-of-in}
-use Rattle.theory.specs.Totals.{best-weight}
+use Rattle.theory.specs.Tests.{either, ltb?, eqb?, and-true, not-true′, one-if}
+use Rattle.theory.specs.Sum.{sum, sum-le}
+use Rattle.theory.specs.All.{all-map, all-in}
+use Rattle.theory.specs.Feas.{below, below?, num, below-yes, Feas}
+use Rattle.theory.specs.Full.{Fine, Rising, blanks, plan-feas, plan-sum, plan-due}
+use Rattle.theory.specs.Change.{in-sum, ticketless, all-of-in}
 
 -- SLOTS, NO TWO THE SAME
 abbrev pub Each : (ℕ → Type 0) → List ℕ → Type 0

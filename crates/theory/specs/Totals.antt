@@ -1,23 +1,21 @@
 -- Totals as sums of counts over weights; the best set; the newcomer. Assumes nothing.
-use mathlib.Core.Path.{_≡_, refl, sym, ap, _∙_, subst}
+use mathlib.Core.Path.{_≡_, refl, sym, _∙_}
 use mathlib.Core.Logic.{_⊎_, inl, inr, _≢_}
-use mathlib.Core.Bool.{Bool, true, false, _&&_, _||_, not, cond, true≢false, false≢true}
-use mathlib.Core.List.{List, [], _∷_, _++_}
-use Prim.Native.Nat.{ℕ, zero, suc, _+_, _*_, _-_, _≤_, _<_, min, max}
+use mathlib.Core.Bool.{cond}
+use mathlib.Core.List.{List, [], _∷_}
+use Prim.Native.Nat.{ℕ, zero, suc, _+_, _-_, _≤_, _<_, min}
 use native.Mathlib.Omega.{arith}
-use lib.Dec.{ltb, leb, eqb}
-use lib.ListN.{length, replicate}
-use Rattle.rules.specs.Rows.{Row, Round, heavier, sorted, round, row, All, In}
+use lib.Dec.{ltb, leb}
+use Rattle.rules.specs.Rows.{Row, Round, heavier, sorted, round, row, All}
 use Rattle.rules.specs.Plan.{kept, plan, total, total-weight, mark, mark-in, tight-after}
 use Rattle.rules.specs.Steps.{taken}
-use Rattle.rules.specs.Calls.{take-refusal}
-use Rattle.theory.specs.Tests.{either, leb?, ltb?, eqb?}
+use Rattle.theory.specs.Tests.{leb?, ltb?}
 use Rattle.theory.specs.Sum.{sum, sum-append, total-sum}
-use Rattle.theory.specs.All.{all-map, all-in, all-append, all-sorted, all-kept, light-blanks}
-use Rattle.theory.specs.Feas.{below, below?, num, below-yes, below-late, below-light, num-mono, num-weight, num-early, Feas, Edge}
+use Rattle.theory.specs.All.{all-map, all-append, all-sorted, all-kept, light-blanks}
+use Rattle.theory.specs.Feas.{below, num, below-yes, below-light, num-weight, num-early, Feas, Edge}
 use Rattle.theory.specs.Full.{Fine, Row-fine, blanks, pool, outside, plan-feas, plan-edge, plan-sum, no-blanks, plan-full, plan-due}
-use Rattle.theory.specs.Marks.{Next, box, box?, box-yes, box-num, Marked, marked, mark-above}
-use Rattle.theory.specs.Calls.{Takes, takes, taken-fine}
+use Rattle.theory.specs.Marks.{box, box?, box-yes, box-num, marked, mark-above}
+use Rattle.theory.specs.Calls.{Takes, taken-fine}
 
 -- g 1 + .. + g n; shut, so that no numeral is counted through
 unfoldable pub sum-to : ℕ → (ℕ → ℕ) → ℕ

@@ -1,24 +1,24 @@
 -- A selection of the rows is the plan's exactly if it is feasible and each row left out has a filled stretch of heavier members past its due slot. Assumes nothing.
 use mathlib.Core.Path.{_≡_, refl, sym, ap, ap₂, _∙_, subst}
 use mathlib.Core.Logic.{_⊎_, inl, inr, _≢_}
-use mathlib.Core.Bool.{Bool, true, false, _&&_, _||_, not, cond, true≢false, false≢true}
+use mathlib.Core.Bool.{Bool, true, false, _||_, cond, true≢false, false≢true}
 use mathlib.Core.List.{List, [], _∷_, _++_}
-use Prim.Native.Nat.{ℕ, zero, suc, _+_, _*_, _-_, _≤_, _<_}
+use Prim.Native.Nat.{ℕ, zero, suc, _+_, _-_, _≤_, _<_}
 use native.Mathlib.Omega.{arith}
-use lib.Dec.{ltb, leb, eqb}
+use lib.Dec.{eqb}
 use borrow.Author.Tests.{eq-eqb, ne-eqb}
 use lib.ListN.{length, getD}
-use Rattle.rules.specs.Rows.{Row, Round, heavier, sorted, chosen, rows-only, All, In, Heavier}
+use Rattle.rules.specs.Rows.{Row, Round, heavier, sorted, chosen, rows-only, All, In}
 use Rattle.rules.specs.Plan.{due-by, feasible, kept, plan, same-row, in-plan, flags, planned}
-use Rattle.theory.specs.Tests.{either, leb?, ltb?, eqb?}
+use Rattle.theory.specs.Tests.{either, leb?}
 use Rattle.theory.specs.Sum.{sum, sum-le, sum-sorted}
-use Rattle.theory.specs.All.{all-map, all-in, all-append, all-sorted, all-kept}
-use Rattle.theory.specs.Feas.{below, below?, num, below-yes, below-late, below-1, due-below, Feas, feas-yes, feas-made}
-use Rattle.theory.specs.Full.{Fine, Row-fine, Rising, blanks, pool, outside}
+use Rattle.theory.specs.All.{all-map, all-in, all-sorted, all-kept}
+use Rattle.theory.specs.Feas.{below, num, below-yes, below-late, due-below, Feas, feas-yes, feas-made}
+use Rattle.theory.specs.Full.{Fine, Row-fine, Rising, blanks}
 use Rattle.theory.specs.Change.{Member, plan-rows, rising-same, rising-above, all-of-in, kept-keeps, row-outside, ticketless, in-sorted}
 use Rattle.theory.specs.Times.{all-chosen}
 use Rattle.theory.specs.Order.{Not-over, heavier?, over-absurd, Ordered, ordered-sorted, within, within-yes, within-no, many, from-row, over-light, outside-by-order}
-use Rattle.theory.specs.Same.{Same, in-plan?, of-plan, of-none, of-yes, of-no, of-chosen, sum-none, row-ticket, planned-same, planned-in, planned-feas, not-over-both, chosen-in, sum-of-rows}
+use Rattle.theory.specs.Same.{Same, in-plan?, of-plan, of-yes, of-no, of-chosen, row-ticket, planned-same, planned-feas, not-over-both, chosen-in, sum-of-rows}
 
 -- THE CERTIFICATE of a row left out: a slot from its due slot on, filled up to it by members that are heavier
 pub record Left-out (r : Round) (rs : List Row) (x : Row) : Type 0 where

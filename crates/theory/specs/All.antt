@@ -1,23 +1,15 @@
 -- Facts of every row of a list, rows in a list, falling weights. Assumes nothing.
-use mathlib.Core.Path.{_≡_, sym, subst}
-use mathlib.Core.Logic.{_⊎_, inl, inr}
-use mathlib.Core.Bool.{Bool, true, false}
+use mathlib.Core.Path.{sym, subst}
+use mathlib.Core.Logic.{inl, inr}
+use mathlib.Core.Bool.{Bool}
 use mathlib.Core.List.{List, [], _∷_, _++_}
 use Prim.Native.Nat.{ℕ, zero, suc, _≤_}
 use native.Mathlib.Omega.{arith}
 use lib.ListN.{replicate}
-use Rattle.rules.specs.Rows.{Row, Round, blank, heavier, into, sorted}
+use Rattle.rules.specs.Rows.{Row, Round, blank, into, sorted, All, In}
 use Rattle.rules.specs.Plan.{feasible, kept, blanks-from}
-use Rattle.theory.specs.Tests.{either, ltb?, eqb?}
+use Rattle.theory.specs.Tests.{either}
 use Rattle.theory.specs.Sum.{rejected}
-
-abbrev pub All : (Row → Type 0) → List Row → Type 0
-All P [] = Unit {0}
-All P (x ∷ xs) = P x × All P xs
-
-abbrev pub In : Row → List Row → Type 0
-In x [] = ⊥
-In x (y ∷ ys) = (x ≡ y) ⊎ In x ys
 
 pub all-map : {P Q : Row → Type 0} → ((x : Row) → P x → Q x) → (xs : List Row) → All P xs → All Q xs
 all-map h [] a = tt
@@ -69,40 +61,6 @@ all-replicate P (suc n) x p = (p, all-replicate P n x p)
 abbrev pub Falling : List Row → Type 0
 Falling [] = Unit {0}
 Falling (x ∷ xs) = All (λ y. y .weight ≤ x .weight) xs × Falling xs
-
-pub heavier-true : (a b : Row) → heavier a b ≡ true → b .weight ≤ a .weight
-unfolding heavier
-heavier-true a b e =
-    elim (ltb? (b .weight) (a .weight)) [
-      | inl h ↦ omega arith
-      | inr h ↦ elim (eqb? (a .weight) (b .weight)) [
-        | inl k ↦ omega arith
-        | inr k ↦ let z : false ≡ true = (rw (h .0, k .0) at e) in absurd (mathlib.Core.Bool.false≢true z)
-      ]
-    ]
-
-pub heavier-false : (a b : Row) → heavier a b ≡ false → a .weight ≤ b .weight
-unfolding heavier
-heavier-false a b e =
-    elim (ltb? (b .weight) (a .weight)) [
-      | inl h ↦ let z : true ≡ false = (rw (h .0) at e) in absurd (mathlib.Core.Bool.true≢false z)
-      | inr h ↦ omega arith
-    ]
-
-pub falling-into : (x : Row) (ys : List Row) → Falling ys → Falling (into heavier x ys)
-unfolding into
-falling-into x [] f = (tt, tt)
-falling-into x (y ∷ ys) f =
-    elim (either (heavier x y)) [
-      | inl e ↦ rw e
-          ((heavier-true x y e, all-map (λ z (h : z .weight ≤ y .weight). omega (arith, heavier-true x y e)) ys (f .0)), f)
-      | inr e ↦ rw e (all-into (λ z. z .weight ≤ y .weight) heavier x ys (heavier-false x y e) (f .0), falling-into x ys (f .1))
-    ]
-
-pub falling-sorted : (xs : List Row) → Falling (sorted heavier xs)
-unfolding sorted
-falling-sorted [] = tt
-falling-sorted (x ∷ xs) = falling-into x (sorted heavier xs) (falling-sorted xs)
 
 -- rows without weight may follow
 abbrev pub Light : List Row → Type 0

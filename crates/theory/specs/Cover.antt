@@ -10,14 +10,14 @@ use Rattle.rules.specs.Plan.{plan, in-plan, tight-after, segment-start, first-e
 use Rattle.theory.specs.Tests.{ltb?}
 use Rattle.theory.specs.Sum.{sum}
 use Rattle.theory.specs.All.{all-in}
+use Rattle.theory.specs.Order.{Not-over, not-over-weight, not-before-canonical}
 use Rattle.theory.specs.Feas.{num}
 use Rattle.theory.specs.Full.{Fine, Row-fine, plan-feas, plan-full}
 use Rattle.theory.specs.Marks.{Tight, next, Start, start}
-use Rattle.theory.specs.Order.{Not-over}
 use Rattle.theory.specs.Members.{Rows, blank-weight, blank-is, of-rows-fine, found-member, in-plan-is}
 use Rattle.theory.specs.Top.{lightest, Left-from, outside-top}
-use Rattle.theory.specs.Substitute.{not-over-weight, later-is, later?, Later-sub}
-use Rattle.theory.specs.Best.{Beaten, Goes, best-goes, best-row, canonical-no}
+use Rattle.theory.specs.Substitute.{later-is, later?, Later-sub}
+use Rattle.theory.specs.Best.{Beaten, Goes, best-goes, best-row}
 use Rattle.theory.specs.Chain.{some-chain}
 use Rattle.theory.specs.Near.{Near, near-out, near-after, near-tight-is, near-is-tight, rows-feas}
 use Rattle.theory.specs.Count.{under, counts-next, Sweep, sweep-start, sweep-more, sweep-idle, sweep-near}
@@ -56,7 +56,7 @@ module _ (r : Round) (f : Fine r) (o : r .slot ≤ r .last) (rs : List Row) (c :
     where
       behind : (q : Row) → Beaten r q (best r (plan r)) → Behind r q (best r (plan r))
       behind q (inl a) = inl a
-      behind q (inr a) = inr (a .0, canonical-no q (best r (plan r)) (a .1))
+      behind q (inr a) = inr (a .0, not-before-canonical q (best r (plan r)) (a .1))
 
   -- a lightest row due by a slot
   pub some-least : (e : ℕ) (y : Row) → In y rs → y .due ≤ e → (x : Row) × (In x rs) × (x .due ≤ e) × ((w : Row) → In w rs → w .due ≤ e → x .weight ≤ w .weight)

@@ -10,7 +10,8 @@ use Rattle.rules.specs.Rows.{Row, Round, blank, slots-left, heavier, sorted, Al
 use Rattle.rules.specs.Plan.{feasible, blanks-from, plan}
 use Rattle.theory.specs.Tests.{leb?, ltb?}
 use Rattle.theory.specs.Sum.{sum, sum-append, sum-sorted, sum-kept, rejected}
-use Rattle.theory.specs.All.{all-map, all-append, all-sorted, all-kept, all-replicate, falling-sorted, falling-append, light-blanks}
+use Rattle.theory.specs.All.{all-map, all-append, all-sorted, all-kept, all-replicate, falling-append, light-blanks}
+use Rattle.theory.specs.Order.{ordered-sorted, ordered-falling}
 use Rattle.theory.specs.Feas.{below, num, below-yes, below-late, num-mono, num-light, num-early, Feas, feas-made, kept-feas, Edge, run}
 
 -- tickets rise, from a number on, below another
@@ -68,7 +69,7 @@ plan-feas r g = kept-feas r (pool r) [] (pool-from r g) tt (feas-none r)
 pub plan-edge : (r : Round) → Fine r → (w : ℕ) → Edge r w (r .slot) (plan r) (outside r)
 unfolding plan outside
 plan-edge r g w =
-    run r w (pool r) [] (falling-append (sorted heavier (r .rows)) (blanks r) (falling-sorted (r .rows)) (light-blanks _ _ _))
+    run r w (pool r) [] (falling-append (sorted heavier (r .rows)) (blanks r) (ordered-falling (sorted heavier (r .rows)) (ordered-sorted (r .rows))) (light-blanks _ _ _))
     (pool-from r g) tt tt (feas-none r) (r .slot) (omega arith) (g .time) (omega arith)
 
 pub plan-sum : (μ : Row → ℕ) (r : Round) → sum μ (plan r) + sum μ (outside r) ≡ sum μ (r .rows) + sum μ (blanks r)

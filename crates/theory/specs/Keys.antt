@@ -10,9 +10,9 @@ use borrow.Author.Tests.{lt-ltb, le-ltb, ltb-true, ltb-false}
 use lib.ListN.{length, getD}
 use Rattle.rules.specs.Rows.{Row, heavier, In, Heavier}
 use Rattle.theory.specs.Tests.{ltb?, eqb?}
+use Rattle.theory.specs.Order.{Not-over, heavier?}
 use Rattle.theory.specs.Full.{Rising}
 use Rattle.theory.specs.Change.{rising-above}
-use Rattle.theory.specs.Order.{Not-over, heavier?}
 
 -- THE KEY of a row at an index
 unfoldable pub key : (weight due index : ℕ) → ℕ

@@ -1,6 +1,7 @@
 pub mod Tests
 pub mod Sum
 pub mod All
+pub mod Order
 pub mod Feas
 pub mod Full
 pub mod Marks
@@ -11,7 +12,7 @@ pub mod Calls
 pub mod Totals
 pub mod Times
 pub mod Back
-pub mod Order
+pub mod Border
 pub mod Same
 pub mod Sane
 pub mod Replies

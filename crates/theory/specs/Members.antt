@@ -1,11 +1,11 @@
 -- The plan's members by the rows that a computation has: each is a blank or one of these. Assumes nothing.
 use mathlib.Core.Path.{_≡_, refl, sym, ap, _∙_, subst}
 use mathlib.Core.Logic.{_⊎_, inl, inr}
-use mathlib.Core.Bool.{Bool, true, false, true≢false}
+use mathlib.Core.Bool.{Bool, false, true≢false}
 use mathlib.Core.List.{List, [], _∷_}
 use Prim.Native.Nat.{ℕ, _≤_}
 use native.Mathlib.Omega.{arith}
-use Rattle.rules.specs.Rows.{Row, Round, blank, heavier, sorted, canonical, chosen, rows-only, All, In, Heavier}
+use Rattle.rules.specs.Rows.{Row, Round, blank, heavier, sorted, canonical, chosen, rows-only, All, In}
 use Rattle.rules.specs.Plan.{plan, in-plan, total, total-weight, planned, listed}
 use Rattle.theory.specs.Tests.{eqb?}
 use Rattle.theory.specs.Sum.{total-sum}
@@ -14,7 +14,6 @@ use Rattle.theory.specs.Full.{Fine, Row-fine, blanks, pool}
 use Rattle.theory.specs.Change.{rising-same, all-of-in, in-sum}
 use Rattle.theory.specs.Times.{ticks}
 use Rattle.theory.specs.Back.{all-blanks}
-use Rattle.theory.specs.Order.{Not-over, heavier?, over-absurd}
 use Rattle.theory.specs.Same.{Same, in-plan?, with-tick, tick-self, row-ticket, planned-same, planned-in, chosen-in, planned-weighs, sorted-same, plan-rows-in}
 use Rattle.theory.specs.Unique.{Certified, certified-rows}
 
@@ -68,19 +67,6 @@ rows-only-in x (y ∷ ys) i = elim (eqb? (y .ticket) 0) [
   where
     the-case : In x (y ∷ rows-only ys) → (x ≡ y) ⊎ In x (rows-only ys)
     the-case j = j
-
--- the order, from its test
-pub heavier-yes : (a b : Row) → heavier a b ≡ true → Heavier a b
-heavier-yes a b e = elim (heavier? a b) [ inl h ↦ h .1 | inr h ↦ absurd (true≢false (sym e ∙ h .0)) ]
-
-pub heavier-no : (a b : Row) → heavier a b ≡ false → Not-over a b
-heavier-no a b e = elim (heavier? a b) [ inl h ↦ absurd (true≢false (sym (h .0) ∙ e)) | inr h ↦ h .1 ]
-
-pub over-heavier : (a b : Row) → Heavier a b → heavier a b ≡ true
-over-heavier a b o = elim (heavier? a b) [ inl h ↦ h .0 | inr h ↦ absurd (over-absurd a b o (h .1)) ]
-
-pub not-over-heavier : (a b : Row) → Not-over a b → heavier a b ≡ false
-not-over-heavier a b o = elim (heavier? a b) [ inl h ↦ absurd (over-absurd a b (h .1) o) | inr h ↦ h .0 ]
 
 -- THE ROWS that a computation found: the plan's, in any order
 pub record Rows (r : Round) (rs : List Row) : Type 0 where

@@ -10,13 +10,14 @@ use Rattle.rules.specs.Plan.{due-by, feasible, plan, same-row, in-plan, tight-a
 use Rattle.theory.specs.Tests.{leb?, eqb?}
 use Rattle.theory.specs.Sum.{sum, sum-le}
 use Rattle.theory.specs.All.{all-map, all-in}
+use Rattle.theory.specs.Order.{heavier?, over-absurd, not-over-both}
 use Rattle.theory.specs.Feas.{below, num, below-late, due-below, Feas, feas-yes, feas-made}
 use Rattle.theory.specs.Full.{Fine, Row-fine, Rising, plan-feas, plan-full, plan-due}
 use Rattle.theory.specs.Marks.{next}
 use Rattle.theory.specs.Change.{Member, plan-rows, row-outside, not-in-plan, rising-above, all-of-in, in-sum}
 use Rattle.theory.specs.Times.{ticks, sum-rows-only, all-rows-only}
-use Rattle.theory.specs.Order.{heavier?, over-absurd, within, from-row, outside-by-order}
-use Rattle.theory.specs.Same.{of-plan, of-yes, of-no, row-ticket, tick-self, tick-once, sum-none, sum-of-rows, not-over-both}
+use Rattle.theory.specs.Border.{within, from-row, outside-by-order}
+use Rattle.theory.specs.Same.{of-plan, of-yes, of-no, row-ticket, tick-self, tick-once, sum-none, sum-of-rows}
 use Rattle.theory.specs.Unique.{Left-out, in-plan-other, in-plan-self, rising-other, not-there, plan-selected, within-below, all-within}
 
 -- A FULL SELECTION: rows, each at most once, and blanks, feasible and filling every slot; a row left out is lighter than every member due by its next tight slot

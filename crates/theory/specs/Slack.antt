@@ -16,7 +16,7 @@ use Rattle.theory.specs.Feas.{below, num, below-yes, below-late, below-m
 use Rattle.theory.specs.Full.{Fine, blanks, pool, outside, pool-from, feas-none, plan-feas, plan-sum, plan-full, blanks-at}
 use Rattle.theory.specs.Marks.{Tight, tight?, Next, next, next-later, least-above, least-below, least-all, all-heavy, heavy-num, mark-all}
 use Rattle.theory.specs.Change.{Member, plan-rows}
-use Rattle.theory.specs.Order.{Of, Not, Downward, Border, border, within, within-yes, within-no, many}
+use Rattle.theory.specs.Border.{Of, Not, Downward, Border, border, within, within-yes, within-no, many}
 use Rattle.theory.specs.Same.{Same, row-ticket, planned-same}
 
 -- slots up to one that the rows leave free

@@ -13,12 +13,13 @@ use Rattle.rules.specs.Plan.{due-by, feasible, kept, plan, same-row, in-plan, f
 use Rattle.theory.specs.Tests.{either, leb?}
 use Rattle.theory.specs.Sum.{sum, sum-le, sum-sorted}
 use Rattle.theory.specs.All.{all-map, all-in, all-sorted, all-kept}
+use Rattle.theory.specs.Order.{Not-over, heavier?, over-absurd, Ordered, ordered-sorted, not-over-both}
 use Rattle.theory.specs.Feas.{below, num, below-yes, below-late, due-below, Feas, feas-yes, feas-made}
 use Rattle.theory.specs.Full.{Fine, Row-fine, Rising, blanks}
 use Rattle.theory.specs.Change.{Member, plan-rows, rising-same, rising-above, all-of-in, kept-keeps, row-outside, ticketless, in-sorted}
 use Rattle.theory.specs.Times.{all-chosen}
-use Rattle.theory.specs.Order.{Not-over, heavier?, over-absurd, Ordered, ordered-sorted, within, within-yes, within-no, many, from-row, over-light, outside-by-order}
-use Rattle.theory.specs.Same.{Same, in-plan?, of-plan, of-yes, of-no, of-chosen, row-ticket, planned-same, planned-feas, not-over-both, chosen-in, sum-of-rows}
+use Rattle.theory.specs.Border.{within, within-yes, within-no, many, from-row, over-light, outside-by-order}
+use Rattle.theory.specs.Same.{Same, in-plan?, of-plan, of-yes, of-no, of-chosen, row-ticket, planned-same, planned-feas, chosen-in, sum-of-rows}
 
 -- THE CERTIFICATE of a row left out: a slot from its due slot on, filled up to it by members that are heavier
 pub record Left-out (r : Round) (rs : List Row) (x : Row) : Type 0 where

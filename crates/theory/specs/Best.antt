@@ -144,8 +144,8 @@ module _ (r : Round) (f : Fine r) (o : r .slot ≤ r .last) (rs : List Row) (c :
       (z .0, member-found r f rs c (z .0) (found-member r f (planned r) d (z .0) (z .1)) (of-rows-ticket r f (planned r) d (z .0) (z .1)))
 
   -- SILENCE without rows
-  pub silence : r .rows ≡ [] → best r (plan r) ≡ blank (r .slot)
-  silence e =
+  pub silent-best : r .rows ≡ [] → best r (plan r) ≡ blank (r .slot)
+  silent-best e =
       let p = best r (plan r) in
       let g : Goes r p = best-goes r f o in
       let none : (x : Row) → In x (plan r) → Is-blank x = λ x i. elim (member? r f rs c x i) [
@@ -286,14 +286,14 @@ module _ (r : Round) (f : Fine r) (o : r .slot ≤ r .last) (rs : List Row) (c :
 
   pub silence-ordinary : r .rows ≡ [] → is-ordinary r ≡ true
   unfolding blank
-  silence-ordinary e = ordinary-is (blank (r .slot)) (silence e) ∙ le-leb (r .slot) (first-end r (plan r)) (first-from r f o)
+  silence-ordinary e = ordinary-is (blank (r .slot)) (silent-best e) ∙ le-leb (r .slot) (first-end r (plan r)) (first-from r f o)
 
   -- silence just where there are no rows
   pub silence-is : eqb (best r (plan r) .ticket) 0 ≡ eqb (length (r .rows)) 0
   silence-is = of-rows (r .rows) refl
     where
       of-rows : (xs : List Row) → r .rows ≡ xs → eqb (best r (plan r) .ticket) 0 ≡ eqb (length xs) 0
-      of-rows [] e = eq-eqb (best r (plan r) .ticket) 0 (ap (λ (x : Row). x .ticket) (silence e) ∙ blank-ticket (blank (r .slot)) (blank-is (r .slot))) ∙ sym (eq-eqb 0 0 refl)
+      of-rows [] e = eq-eqb (best r (plan r) .ticket) 0 (ap (λ (x : Row). x .ticket) (silent-best e) ∙ blank-ticket (blank (r .slot)) (blank-is (r .slot))) ∙ sym (eq-eqb 0 0 refl)
       of-rows (x ∷ xs) e =
           let i : In (best r (plan r)) rs = best-row x (subst (λ (zs : List Row). In x zs) (sym e) (inl refl)) in
           let t = of-rows-ticket r f rs c (best r (plan r)) i in

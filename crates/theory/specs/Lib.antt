@@ -15,6 +15,7 @@ pub mod Back
 pub mod Border
 pub mod Same
 pub mod Sane
+pub mod Listed
 pub mod Replies
 pub mod Third
 pub mod Golden
@@ -27,6 +28,7 @@ pub mod Members
 pub mod Top
 pub mod Substitute
 pub mod Best
+pub mod Opened
 pub mod Chain
 pub mod Leaping
 pub mod Close

@@ -15,7 +15,7 @@ use Rattle.rules.specs.Calls.{step, sending, ordinary, leap, out-of, answer}
 use Rattle.theory.specs.Full.{Fine}
 use Rattle.theory.specs.Back.{length-changed}
 use Rattle.theory.specs.Members.{Rows, of-rows-fine, found-member}
-use Rattle.theory.specs.Best.{silence, silence-ordinary, ordinary-is}
+use Rattle.theory.specs.Best.{silent-best, silence-ordinary, ordinary-is}
 use Rattle.theory.specs.Chain.{Chain, moves, moved-to}
 use Rattle.theory.specs.Close.{after-slot, closed, sent-ordinary, sent-none, sent-row, sent-kept}
 use Rattle.theory.specs.Near.{Near, far-sent}
@@ -41,7 +41,7 @@ module _ (r : Round) (f : Fine r) (o : r .slot ≤ r .last) (rs : List Row) (c :
   pub sends-silence : r .rows ≡ [] → Sends r (blank (r .slot)) true 0 []
   unfolding closed
   sends-silence e =
-      let g = silence r f o rs c e in
+      let g = silent-best r f o rs c e in
       let t = silence-ordinary r f o rs c e in
       record {
         goes = g;

@@ -217,7 +217,7 @@ module _ (r : Round) (f : Fine r) (o : r .slot ≤ r .last) (rs : List Row) (c :
   pub same-due : (p q : Row) → In p rs → In q rs → p .due ≡ q .due → substitute r (plan r) p .weight ≡ substitute r (plan r) q .weight
   same-due p q i j e = elim (leb? (p .due) (first-end r (plan r))) [
     | inl h ↦ first-weight r f p (found-member r f rs c p i) (h .1) ∙ sym (first-weight r f q (found-member r f rs c q j) (omega (arith, h .1, e)))
-    | inr h ↦ ap (λ (z : Row). z .weight) (later-is r f rs c p (h .1) ∙ ap (λ d. heaviest-outside (segment-start r (plan r) d) (r .rows) (plan r) (blank (segment-start r (plan r) d))) e ∙ sym (later-is r f rs c q (omega (arith, h .1, e))))
+    | inr h ↦ ap (λ (z : Row). z .weight) (later-is r p (h .1) ∙ ap (λ d. heaviest-outside (segment-start r (plan r) d) (r .rows) (plan r) (blank (segment-start r (plan r) d))) e ∙ sym (later-is r q (omega (arith, h .1, e))))
   ]
 
   -- BY ONE KEY: the score, then the earlier due slot; of equal keys the smaller ticket
@@ -261,7 +261,7 @@ module _ (r : Round) (f : Fine r) (o : r .slot ≤ r .last) (rs : List Row) (c :
   pub later-same : (p q : Row) → first-end r (plan r) < p .due → first-end r (plan r) < q .due → segment-start r (plan r) (p .due) ≡ segment-start r (plan r) (q .due) →
       substitute r (plan r) q ≡ substitute r (plan r) p
   later-same p q h k e =
-      later-is r f rs c q k ∙ ap (λ b. heaviest-outside b (r .rows) (plan r) (blank b)) (sym e) ∙ sym (later-is r f rs c p h)
+      later-is r q k ∙ ap (λ b. heaviest-outside b (r .rows) (plan r) (blank b)) (sym e) ∙ sym (later-is r p h)
 
   -- of rows due in different slots the earlier one, if its score is no less
   pub earlier-beats : (p q : Row) → p .due < q .due → score-of r q ≤ score-of r p →

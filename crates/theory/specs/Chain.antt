@@ -15,7 +15,7 @@ use Rattle.theory.specs.All.{all-map, all-in}
 use Rattle.theory.specs.Order.{Not-over, over-absurd, over-not, over-over, not-over-both, heavier-yes, heavier-no, over-heavier, not-over-heavier, not-over-weight}
 use Rattle.theory.specs.Feas.{below, num, below-yes, below-late, below-mono, num-mono}
 use Rattle.theory.specs.Full.{Fine, Row-fine, plan-full}
-use Rattle.theory.specs.Marks.{Tight, Next, next}
+use Rattle.theory.specs.Marks.{Tight-in, Next, next}
 use Rattle.theory.specs.Change.{rising-same}
 use Rattle.theory.specs.Send.{between-count, next-by}
 use Rattle.theory.specs.Leap.{no-shift}
@@ -130,7 +130,7 @@ module _ (r : Round) (f : Fine r) (rs : List Row) (c : Rows r rs) where
       (chain-after (tight-after r (plan r) (h .due)) g hs (k .1))
 
   -- A NEW STRETCH: the rows lighter than its heaviest leave the chain's end, and it is added
-  pub chain-extend : (e g g2 : ℕ) (ks ls : List Row) (m : Row) → e ≤ g → Tight r (plan r) g → Chain r rs e g (ks ++ ls) → Heaviest-in rs g g2 m →
+  pub chain-extend : (e g g2 : ℕ) (ks ls : List Row) (m : Row) → e ≤ g → Tight-in r (plan r) g → Chain r rs e g (ks ++ ls) → Heaviest-in rs g g2 m →
       tight-after r (plan r) (m .due) ≡ g2 → All (λ h. heavier h m ≡ true) ks → All (λ h. heavier m h ≡ true) ls → Chain r rs e g2 (ks ++ (m ∷ []))
   chain-extend e g g2 [] [] m l t k p q a b = (
     record {
@@ -216,7 +216,7 @@ module _ (r : Round) (f : Fine r) (rs : List Row) (c : Rows r rs) where
   ]
 
   pub stretch-row : (s : Row) → In s (r .rows) → in-plan s rs ≡ false → (e g : ℕ) → r .slot ≤ e → e < g → g ≤ tight-after r (plan r) (s .due) →
-      Tight r (plan r) e → Tight r (plan r) g → (y : Row) × (In y rs) × (e < y .due) × (y .due ≤ g)
+      Tight-in r (plan r) e → Tight-in r (plan r) g → (y : Row) × (In y rs) × (e < y .due) × (y .due ≤ g)
   stretch-row s i n e g l h k t u =
       let y = between-count (suc e) (suc g) (plan r) (omega (arith, t, u, l, h)) in
       (y .0, no-blank-by s i n (y .0) (y .1) (omega (arith, y .3, k)), y .2, omega (arith, y .3))
@@ -236,7 +236,7 @@ module _ (r : Round) (f : Fine r) (rs : List Row) (c : Rows r rs) where
       )
 
   -- THERE IS A CHAIN
-  pub some-chain : (s : Row) → In s (r .rows) → in-plan s rs ≡ false → (n e : ℕ) → r .slot ≤ e → Tight r (plan r) e → tight-after r (plan r) (s .due) ≤ e + n →
+  pub some-chain : (s : Row) → In s (r .rows) → in-plan s rs ≡ false → (n e : ℕ) → r .slot ≤ e → Tight-in r (plan r) e → tight-after r (plan r) (s .due) ≤ e + n →
       (hs : List Row) × Chain r rs e (tight-after r (plan r) (s .due)) hs
   some-chain s i k zero e l t h = ([], omega arith)
   some-chain s i k (suc n) e l t h =
@@ -253,7 +253,7 @@ module _ (r : Round) (f : Fine r) (rs : List Row) (c : Rows r rs) where
       ]
 
   -- HOW MANY SHIFTS
-  pub chain-count : (e g : ℕ) (hs : List Row) → e ≤ g → Tight r (plan r) g → Chain r rs e g hs → num 0 (suc e) rs + length hs ≤ num 0 (suc g) rs
+  pub chain-count : (e g : ℕ) (hs : List Row) → e ≤ g → Tight-in r (plan r) g → Chain r rs e g hs → num 0 (suc e) rs + length hs ≤ num 0 (suc g) rs
   chain-count e g [] l t k = omega (arith, num-mono 0 (suc e) (suc g) (omega arith) rs)
   chain-count e g (h ∷ hs) l t k =
       let m = tight-after r (plan r) (h .due) in

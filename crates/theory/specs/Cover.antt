@@ -13,7 +13,7 @@ use Rattle.theory.specs.All.{all-in}
 use Rattle.theory.specs.Order.{Not-over, not-over-weight, not-before-canonical}
 use Rattle.theory.specs.Feas.{num}
 use Rattle.theory.specs.Full.{Fine, Row-fine, plan-feas, plan-full}
-use Rattle.theory.specs.Marks.{Tight, next, Start, start}
+use Rattle.theory.specs.Marks.{Tight-in, next, Start, start}
 use Rattle.theory.specs.Members.{Rows, blank-weight, blank-is, of-rows-fine, found-member, in-plan-is}
 use Rattle.theory.specs.Top.{lightest, Left-from, outside-top}
 use Rattle.theory.specs.Substitute.{later-is, later?, Later-sub}
@@ -82,7 +82,7 @@ module _ (r : Round) (f : Fine r) (o : r .slot ≤ r .last) (rs : List Row) (c :
           arith,
           all-in (Row-fine r) y (r .rows) (f .fine) i .2,
           not-over-weight y v (all-in (λ y. Left-from b (plan r) y → Not-over y v) y (r .rows) (t .most) i (a .1, in-plan-is r f rs c y i ∙ n)),
-          ap (λ (x : Row). x .weight) (sym (later-is r f rs c p h) ∙ e),
+          ap (λ (x : Row). x .weight) (sym (later-is r p h) ∙ e),
           blank-weight (blank b) (blank-is b),
         ))
       ]
@@ -102,7 +102,7 @@ module _ (r : Round) (f : Fine r) (o : r .slot ≤ r .last) (rs : List Row) (c :
           edge = elim (ltb? (r .slot) b) [
             | inl g ↦
                 let q : suc (b - 1) ≡ b = omega (arith, g .1) in
-                let t : Tight r (plan r) (b - 1) = omega (arith, st .edge, q, ap (λ v. num 0 v (plan r)) q) in
+                let t : Tight-in r (plan r) (b - 1) = omega (arith, st .edge, q, ap (λ v. num 0 v (plan r)) q) in
                 omega (arith, near-tight-is r f rs c z k (b - 1) (omega (arith, g .1)) (omega (arith, g .1, st .by, i)) t, q, ap (λ v. num 0 v rs) q)
             | inr g ↦ omega (arith, g .1, st .low, rows-feas r f rs c b (st .low) (omega (arith, st .by, i, k .by)))
           ];

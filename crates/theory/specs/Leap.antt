@@ -15,7 +15,7 @@ use Rattle.theory.specs.Sum.{sum}
 use Rattle.theory.specs.All.{all-map, all-in}
 use Rattle.theory.specs.Feas.{num}
 use Rattle.theory.specs.Full.{Fine, Row-fine, Rising, outside, plan-feas, plan-edge, plan-full, plan-due}
-use Rattle.theory.specs.Marks.{Tight, Next, next, Start, start, box, box?, box-yes, filled, Marked, mark-above, mark-all, mark-limit}
+use Rattle.theory.specs.Marks.{Tight-in, Next, next, Start, start, box, box?, box-yes, filled, Marked, mark-above, mark-all, mark-limit}
 use Rattle.theory.specs.Change.{First, changed-sum, without-sum, changed-first, rising-above, rising-first, rising-same, all-of-in, Member, plan-rows, in-sum, not-in-plan, row-outside, without-none, changed-none, all-changed, all-without, rising-changed, rising-without}
 use Rattle.theory.specs.Send.{outside-in, Between, between-finds, between-count, next-by, point, point?, point-yes}
 
@@ -38,7 +38,7 @@ pub record Step (r : Round) (e g : ℕ) (h : Row) (e′ : ℕ) : Type 0 where
 abbrev pub moved : Round → ℕ → Row → List Row → List Row
 moved r e h xs = changed (h .ticket) (row (h .ticket) e (max (h .weight) (mark-in r (plan r) e)) (h .kind)) xs
 
-pub step : (r : Round) → Fine r → (e g : ℕ) → r .slot ≤ e → e < g → g ≤ r .last → Tight r (plan r) e → Tight r (plan r) g → Heavy-to r g →
+pub step : (r : Round) → Fine r → (e g : ℕ) → r .slot ≤ e → e < g → g ≤ r .last → Tight-in r (plan r) e → Tight-in r (plan r) g → Heavy-to r g →
     (let h = heaviest-between e g (plan r) (blank (suc g)) in Step r e g h (tight-after r (plan r) (h .due)))
 unfolding blank
 step r f e g l k b t u hv =
@@ -59,9 +59,9 @@ step r f e g l k b t u hv =
     }
 
 -- what every shift keeps, all shifts keep
-pub shift-ind : (r : Round) → Fine r → (g : ℕ) → g ≤ r .last → Tight r (plan r) g → Heavy-to r g → (Q : ℕ → List Row → Type 0) →
+pub shift-ind : (r : Round) → Fine r → (g : ℕ) → g ≤ r .last → Tight-in r (plan r) g → Heavy-to r g → (Q : ℕ → List Row → Type 0) →
     ((e : ℕ) (xs : List Row) (h : Row) (e′ : ℕ) → Step r e g h e′ → Q e xs → Q e′ (moved r e h xs)) →
-    (n e : ℕ) (xs : List Row) → r .slot ≤ e → e ≤ g → g ≤ e + n → Tight r (plan r) e → Q e xs → Q g (shifted n r (plan r) e g xs)
+    (n e : ℕ) (xs : List Row) → r .slot ≤ e → e ≤ g → g ≤ e + n → Tight-in r (plan r) e → Q e xs → Q g (shifted n r (plan r) e g xs)
 unfolding shifted
 shift-ind r f g b u hv Q s zero e xs l k c t q = let z : e ≡ g = omega arith in rw z at q
 shift-ind r f g b u hv Q s (suc n) e xs l k c t q =

@@ -5,6 +5,7 @@ pub mod Order
 pub mod Feas
 pub mod Full
 pub mod Marks
+pub mod Tights
 pub mod Change
 pub mod Send
 pub mod Leap
@@ -29,6 +30,8 @@ pub mod Top
 pub mod Substitute
 pub mod Best
 pub mod Opened
+pub mod Picks
+pub mod PlanM
 pub mod Chain
 pub mod Leaping
 pub mod Close

@@ -16,7 +16,7 @@ use Rattle.theory.specs.Sum.{sum}
 use Rattle.theory.specs.All.{all-in}
 use Rattle.theory.specs.Feas.{num, below-yes, below-late}
 use Rattle.theory.specs.Full.{Fine, plan-feas, plan-full}
-use Rattle.theory.specs.Marks.{Tight, Next, next, box, box?, filled, Marked}
+use Rattle.theory.specs.Marks.{Tight-in, Next, next, box, box?, filled, Marked}
 use Rattle.theory.specs.Change.{without-sum, rising-first, all-of-in, Member, plan-rows, without-none}
 
 -- choices from a list
@@ -108,7 +108,7 @@ between-count v e (x ∷ xs) h =
     ]
 
 -- tight slots
-pub next-by : (r : Round) (ps : List Row) (s e u : ℕ) → Next r ps s e → s ≤ u → Tight r ps u → e ≤ u
+pub next-by : (r : Round) (ps : List Row) (s e u : ℕ) → Next r ps s e → s ≤ u → Tight-in r ps u → e ≤ u
 next-by r ps s e u n h t = elim (leb? e u) [ inl a ↦ a .1 | inr a ↦ absurd (n .first u h (a .1) t) ]
 
 -- 1 for a slot from v on and before e

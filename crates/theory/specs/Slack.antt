@@ -14,7 +14,7 @@ use Rattle.theory.specs.Sum.{sum, sum-le}
 use Rattle.theory.specs.All.{all-map, all-in, all-append, all-sorted, all-replicate}
 use Rattle.theory.specs.Feas.{below, num, below-yes, below-late, below-mono, below-weight, num-mono, due-below}
 use Rattle.theory.specs.Full.{Fine, blanks, pool, outside, pool-from, feas-none, plan-feas, plan-sum, plan-full, blanks-at}
-use Rattle.theory.specs.Marks.{Tight, tight?, Next, next, next-later, least-above, least-below, least-all, all-heavy, heavy-num, mark-all}
+use Rattle.theory.specs.Marks.{Tight-in, tight?, Next, next, next-later, least-above, least-below, least-all, all-heavy, heavy-num, mark-all}
 use Rattle.theory.specs.Change.{Member, plan-rows}
 use Rattle.theory.specs.Border.{Of, Not, Downward, Border, border, within, within-yes, within-no, many}
 use Rattle.theory.specs.Same.{Same, row-ticket, planned-same}
@@ -51,7 +51,7 @@ slack-some (suc n) r rs s =
 
 -- the first slot without slack, as the first tight slot of the rows alone; one past the last if there is none
 pub search : (n s : ℕ) (r : Round) (ps : List Row) → s + n ≡ suc (r .last) →
-    Next r ps s (tight-from n s r ps) ⊎ ((u : ℕ) → s ≤ u → u ≤ r .last → Tight r ps u → ⊥)
+    Next r ps s (tight-from n s r ps) ⊎ ((u : ℕ) → s ≤ u → u ≤ r .last → Tight-in r ps u → ⊥)
 unfolding tight-from
 search zero s r ps e = inr (λ u a b. absurd (omega arith))
 search (suc n) s r ps e = elim (tight? r ps s) [
@@ -306,7 +306,7 @@ module _ (r : Round) (f : Fine r) (rs : List Row) (same : Same (rows-only (plan 
   mark-rows s z h i k e g =
       let n = next r (plan r) s (omega arith) (plan-full r f) in
       let c : sum (idle (below 0 (suc z))) (plan r) ≡ 0 = omega (arith, idlers-most z z (omega arith) (omega arith) k) in
-      let t : Tight r (plan r) z = omega (arith, slack-is z (omega arith) k, rows-num 0 (suc z)) in
+      let t : Tight-in r (plan r) z = omega (arith, slack-is z (omega arith) k, rows-num 0 (suc z)) in
       let a : tight-after r (plan r) s ≤ z = elim (leb? (tight-after r (plan r) s) z) [
         | inl l ↦ l .1
         | inr l ↦ absurd (n .first z i (l .1) t)
@@ -372,7 +372,7 @@ module _ (r : Round) (f : Fine r) (rs : List Row) (same : Same (rows-only (plan 
         ])
   ]
     where
-      some-slack : (u : ℕ) → r .slot ≤ u → u ≤ r .last → (Tight r rs u → ⊥) → 1 ≤ slack r rs u
+      some-slack : (u : ℕ) → r .slot ≤ u → u ≤ r .last → (Tight-in r rs u → ⊥) → 1 ≤ slack r rs u
       some-slack u a b t = elim (eqb? (slack r rs u) 0) [
         | inl c ↦ absurd (t (omega (arith, c .1, slack-is u a b)))
         | inr c ↦ let d = c .1 in omega arith

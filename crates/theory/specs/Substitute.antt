@@ -63,6 +63,12 @@ first-weight r f p i h =
           (all-of-in (λ y. y .due ≤ tight-after r (plan r) (r .slot) → x .weight ≤ y .weight) (plan r) (λ y j k. not-over-weight x y (l .least y j k))),
     )
 
+-- of a member due later, the heaviest outside the plan
+pub later-is : (r : Round) (p : Row) → first-end r (plan r) < p .due →
+    substitute r (plan r) p ≡ heaviest-outside (segment-start r (plan r) (p .due)) (r .rows) (plan r) (blank (segment-start r (plan r) (p .due)))
+unfolding substitute
+later-is r p h = rw (lt-leb (p .due) (first-end r (plan r)) h)
+
 module _ (r : Round) (f : Fine r) (rs : List Row) (c : Rows r rs) where
   -- no blanks are due after a slot and by its next tight one
   pub idlers-level : (s : ℕ) → r .slot ≤ s → s ≤ r .last → idlers r (suc (tight-after r (plan r) s)) ≡ idlers r (suc s)
@@ -191,11 +197,6 @@ module _ (r : Round) (f : Fine r) (rs : List Row) (c : Rows r rs) where
       positive n h = omega arith
 
   -- DUE LATER: the heaviest row outside the plan that is due from the segment's start on
-  pub later-is : (p : Row) → first-end r (plan r) < p .due →
-      substitute r (plan r) p ≡ heaviest-outside (segment-start r (plan r) (p .due)) (r .rows) (plan r) (blank (segment-start r (plan r) (p .due)))
-  unfolding substitute
-  later-is p h = rw (lt-leb (p .due) (first-end r (plan r)) h)
-
   pub later-row : (p : Row) → first-end r (plan r) < p .due → (x : Row) → In x (r .rows) → in-plan x rs ≡ false → segment-start r (plan r) (p .due) ≤ x .due →
       ((y : Row) → In y (r .rows) → in-plan y rs ≡ false → segment-start r (plan r) (p .due) ≤ y .due → heavier y x ≡ false) →
       substitute r (plan r) p ≡ x
@@ -204,7 +205,7 @@ module _ (r : Round) (f : Fine r) (rs : List Row) (c : Rows r rs) where
       let z = heaviest-outside b (r .rows) (plan r) (blank b) in
       let t = outside-top b (plan r) (r .rows) (blank b) in
       let o : Not-over x z = all-in (λ y. Left-from b (plan r) y → Not-over y z) x (r .rows) (t .most) i (k, in-plan-is r f rs c x i ∙ n) in
-      later-is p h
+      later-is r p h
       ∙ (elim (t .found) [
         | inl e ↦ absurd (omega (
           arith,
@@ -225,7 +226,7 @@ module _ (r : Round) (f : Fine r) (rs : List Row) (c : Rows r rs) where
       let b = segment-start r (plan r) (p .due) in
       let z = heaviest-outside b (r .rows) (plan r) (blank b) in
       let t = outside-top b (plan r) (r .rows) (blank b) in
-      later-is p h
+      later-is r p h
       ∙ (elim (t .found) [
         | inl e ↦ e
         | inr j ↦ absurd (omega (arith, j .1 .0, m z (j .0) (sym (in-plan-is r f rs c z (j .0)) ∙ j .1 .1)))
@@ -245,8 +246,8 @@ module _ (r : Round) (f : Fine r) (rs : List Row) (c : Rows r rs) where
       let z = heaviest-outside b (r .rows) (plan r) (blank b) in
       let t = outside-top b (plan r) (r .rows) (blank b) in
       elim (t .found) [
-        | inl e ↦ inl (later-is p h ∙ e)
-        | inr j ↦ inr (subst (λ (v : Row). Later-sub p v) (sym (later-is p h)) (record {
+        | inl e ↦ inl (later-is r p h ∙ e)
+        | inr j ↦ inr (subst (λ (v : Row). Later-sub p v) (sym (later-is r p h)) (record {
           waiting = j .0;
           outside = sym (in-plan-is r f rs c z (j .0)) ∙ j .1 .1;
           from = j .1 .0;

@@ -1,9 +1,9 @@
 -- Facts of every row of a list, rows in a list, falling weights. Assumes nothing.
-use mathlib.Core.Path.{sym, subst}
+use mathlib.Core.Path.{_≡_, refl, sym, ap, subst}
 use mathlib.Core.Logic.{inl, inr}
 use mathlib.Core.Bool.{Bool}
 use mathlib.Core.List.{List, [], _∷_, _++_}
-use Prim.Native.Nat.{ℕ, zero, suc, _≤_}
+use Prim.Native.Nat.{ℕ, zero, suc, _+_, _≤_, _<_}
 use native.Mathlib.Omega.{arith}
 use lib.ListN.{replicate}
 use Rattle.rules.specs.Rows.{Row, Round, blank, into, sorted, All, In}
@@ -19,6 +19,10 @@ pub all-in : (P : Row → Type 0) (x : Row) (xs : List Row) → All P xs → In 
 all-in P x [] a i = absurd i
 all-in P x (y ∷ ys) a (inl e) = subst P (sym e) (a .0)
 all-in P x (y ∷ ys) a (inr i) = all-in P x ys (a .1) i
+
+pub all-of-in : (P : Row → Type 0) (xs : List Row) → ((x : Row) → In x xs → P x) → All P xs
+all-of-in P [] h = tt
+all-of-in P (x ∷ xs) h = (h x (inl refl), all-of-in P xs (λ y i. h y (inr i)))
 
 pub all-append : (P : Row → Type 0) (xs ys : List Row) → All P xs → All P ys → All P (xs ++ ys)
 all-append P [] ys a b = b
@@ -77,9 +81,37 @@ falling-append (x ∷ xs) ys f l = (
   falling-append xs ys (f .1) l,
 )
 
+-- BLANKS
+abbrev pub Is-blank : Row → Type 0
+Is-blank x = x ≡ blank (x .due)
+
+pub blank-ticket : (x : Row) → Is-blank x → x .ticket ≡ 0
+unfolding blank
+blank-ticket x e = ap (λ (y : Row). y .ticket) e
+
+pub blank-weight : (x : Row) → Is-blank x → x .weight ≡ 0
+unfolding blank
+blank-weight x e = ap (λ (y : Row). y .weight) e
+
+pub blank-is : (s : ℕ) → Is-blank (blank s)
+unfolding blank
+blank-is s = refl
+
+pub due-of-blank : (s : ℕ) → blank s .due ≡ s
+unfolding blank
+due-of-blank s = refl
+
+pub all-blanks : (P : Row → Type 0) (n s k : ℕ) → ((d : ℕ) → s ≤ d → d < s + n → P (blank d)) → All P (blanks-from n s k)
+unfolding blanks-from
+all-blanks P zero s k h = tt
+all-blanks P (suc n) s k h =
+    all-append P (replicate k (blank s)) (blanks-from n (suc s) k) (all-replicate P k (blank s) (h s (omega arith) (omega arith)))
+    (all-blanks P n (suc s) k (λ d a b. h d (omega arith) (omega arith)))
+
 pub light-blanks : (n s k : ℕ) → Light (blanks-from n s k)
-unfolding blanks-from blank
-light-blanks zero s k = tt
-light-blanks (suc n) s k =
-    all-append (λ x. x .weight ≤ 0) (replicate k (blank s)) (blanks-from n (suc s) k)
-    (all-replicate (λ x. x .weight ≤ 0) k (blank s) (omega arith)) (light-blanks n (suc s) k)
+unfolding blank
+light-blanks n s k = all-blanks (λ x. x .weight ≤ 0) n s k (λ d a b. omega arith)
+
+pub ticketless-blanks : (n s k : ℕ) → All (λ x. x .ticket ≡ 0) (blanks-from n s k)
+unfolding blank
+ticketless-blanks n s k = all-blanks (λ x. x .ticket ≡ 0) n s k (λ d a b. refl)

@@ -12,16 +12,16 @@ use Rattle.rules.specs.Rows.{Row, Round, blank, heavier, canonical, slots-left,
 use Rattle.rules.specs.Plan.{plan, due-by, first-end, segment-start, heaviest-outside, substitute, sends-before, best-from, best, planned}
 use Rattle.rules.specs.Steps.{is-ordinary}
 use Rattle.theory.specs.Tests.{leb?, ltb?, eqb?}
-use Rattle.theory.specs.All.{all-in}
+use Rattle.theory.specs.All.{all-in, all-of-in, Is-blank, blank-ticket, blank-is}
 use Rattle.theory.specs.Order.{Not-over, Not-before, canonical?, canonical-no, not-before-canonical, before-not, not-before-self, not-before-due, not-before-trans, not-before-both, heavier-no}
 use Rattle.theory.specs.Full.{Fine, Row-fine, plan-length}
-use Rattle.theory.specs.Change.{rising-same, all-of-in}
+use Rattle.theory.specs.Change.{rising-same}
 use Rattle.theory.specs.Same.{in-plan?, row-ticket}
 use Rattle.theory.specs.Score.{score-of, sends-by-score}
 use Rattle.theory.specs.Unique.{plan-out}
 use Rattle.theory.specs.Slack.{idlers-is, with-blank, slack, slack-some, least-here, tight-after-is, first-from as search-from}
 use Rattle.theory.specs.Keys.{pick-key, pick-less, pick-same}
-use Rattle.theory.specs.Members.{Is-blank, blank-ticket, blank-is, Rows, planned-rows, of-rows-in, of-rows-ticket, of-rows-fine, member-found, found-member, member?}
+use Rattle.theory.specs.Members.{Rows, planned-rows, of-rows-in, of-rows-ticket, of-rows-fine, member-found, found-member, member?}
 use Rattle.theory.specs.Top.{Top, top-pick}
 use Rattle.theory.specs.Substitute.{first-from, first-weight, first-blank, later-is, score-blank, score-row}
 

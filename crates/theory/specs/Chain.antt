@@ -11,7 +11,7 @@ use Rattle.rules.specs.Rows.{Row, Round, blank, heavier, row, All, In}
 use Rattle.rules.specs.Plan.{plan, in-plan, tight-after, mark}
 use Rattle.rules.specs.Steps.{changed, heaviest-between, shifted}
 use Rattle.theory.specs.Tests.{either, ltb?}
-use Rattle.theory.specs.All.{all-map, all-in}
+use Rattle.theory.specs.All.{all-map, all-in, blank-weight, blank-is}
 use Rattle.theory.specs.Order.{Not-over, over-absurd, over-not, over-over, not-over-both, heavier-yes, heavier-no, over-heavier, not-over-heavier, not-over-weight}
 use Rattle.theory.specs.Feas.{below, num, below-yes, below-late, below-mono, num-mono}
 use Rattle.theory.specs.Full.{Fine, Row-fine, plan-full}
@@ -21,7 +21,7 @@ use Rattle.theory.specs.Send.{between-count, next-by}
 use Rattle.theory.specs.Leap.{no-shift}
 use Rattle.theory.specs.Times.{sum-less}
 use Rattle.theory.specs.Select.{plan-selection}
-use Rattle.theory.specs.Members.{blank-weight, blank-is, Rows, of-rows-in, of-rows-fine, found-member, member?, in-plan-is}
+use Rattle.theory.specs.Members.{Rows, of-rows-in, of-rows-fine, found-member, member?, in-plan-is}
 use Rattle.theory.specs.Top.{heaviest}
 
 -- THE HEAVIEST of the rows due after e and by g

@@ -14,8 +14,9 @@ use Rattle.rules.specs.Plan.{plan, tight-after, segment-start, mark, first-end,
 use Rattle.rules.specs.Steps.{changed, without, still-due, sent}
 use Rattle.rules.specs.Table.{low, row-bytes, rows-bytes, table}
 use Rattle.theory.specs.Tests.{either, eqb?}
+use Rattle.theory.specs.All.{all-of-in}
 use Rattle.theory.specs.Full.{Fine, Rising}
-use Rattle.theory.specs.Change.{rising-changed, rising-above, all-of-in}
+use Rattle.theory.specs.Change.{rising-changed, rising-above}
 use Rattle.theory.specs.Back.{length-row, length-rows}
 use Rattle.theory.specs.Unique.{rising-other}
 use Rattle.theory.specs.Members.{Rows}

@@ -9,12 +9,12 @@ use Rattle.rules.specs.Rows.{Row, Round, blank, In}
 use Rattle.rules.specs.Plan.{plan, in-plan, tight-after, segment-start, first-end, substitute, best, heaviest-outside, lightest-by}
 use Rattle.theory.specs.Tests.{ltb?}
 use Rattle.theory.specs.Sum.{sum}
-use Rattle.theory.specs.All.{all-in}
+use Rattle.theory.specs.All.{all-in, blank-weight, blank-is}
 use Rattle.theory.specs.Order.{Not-over, not-over-weight, not-before-canonical}
 use Rattle.theory.specs.Feas.{num}
 use Rattle.theory.specs.Full.{Fine, Row-fine, plan-feas, plan-full}
 use Rattle.theory.specs.Marks.{Tight-in, next, Start, start}
-use Rattle.theory.specs.Members.{Rows, blank-weight, blank-is, of-rows-fine, found-member, in-plan-is}
+use Rattle.theory.specs.Members.{Rows, of-rows-fine, found-member, in-plan-is}
 use Rattle.theory.specs.Top.{lightest, Left-from, outside-top}
 use Rattle.theory.specs.Substitute.{later-is, later?, Later-sub}
 use Rattle.theory.specs.Best.{Beaten, Goes, best-goes, best-row}

@@ -12,11 +12,11 @@ use Rattle.rules.specs.Plan.{plan, in-plan, tight-after, segment-start, mark-in
 use Rattle.rules.specs.Steps.{changed, without, heaviest-between, shifted, replaced, leapt}
 use Rattle.theory.specs.Tests.{leb?, ltb?, pick}
 use Rattle.theory.specs.Sum.{sum}
-use Rattle.theory.specs.All.{all-map, all-in}
+use Rattle.theory.specs.All.{blank-weight, blank-ticket, all-map, all-in, all-of-in}
 use Rattle.theory.specs.Feas.{num}
-use Rattle.theory.specs.Full.{Fine, Row-fine, Rising, outside, plan-feas, plan-edge, plan-full, plan-due}
+use Rattle.theory.specs.Full.{plan-member, Fine, Row-fine, Rising, outside, plan-feas, plan-edge, plan-full, plan-due}
 use Rattle.theory.specs.Marks.{Tight-in, Next, next, Start, start, box, box?, box-yes, filled, Marked, mark-above, mark-all, mark-limit}
-use Rattle.theory.specs.Change.{First, changed-sum, without-sum, changed-first, rising-above, rising-first, rising-same, all-of-in, Member, plan-rows, in-sum, not-in-plan, row-outside, without-none, changed-none, all-changed, all-without, rising-changed, rising-without}
+use Rattle.theory.specs.Change.{First, changed-sum, without-sum, changed-first, rising-above, rising-first, rising-same, in-sum, not-in-plan, row-outside, without-none, changed-none, all-changed, all-without, rising-changed, rising-without}
 use Rattle.theory.specs.Send.{outside-in, Between, between-finds, between-count, next-by, point, point?, point-yes}
 
 abbrev pub Row-ok : Round → Row → Type 0
@@ -87,7 +87,7 @@ pub record Kept (r : Round) (a e : ℕ) (xs : List Row) : Type 0 where
       sum (box w v (suc s)) (r .rows) + point v (suc s) a ≤ sum (box w v (suc s)) xs + point v (suc s) e
 
 pub member-row : (r : Round) (x : Row) → In x (plan r) → 1 ≤ x .weight → In x (r .rows)
-member-row r x i h = elim (all-in (Member r) x (plan r) (plan-rows r) i) [ inl a ↦ absurd (omega arith) | inr a ↦ a ]
+member-row r x i h = elim (plan-member r x i) [ inl a ↦ a | inr a ↦ absurd (omega (arith, blank-weight x (a .0))) ]
 
 -- the mark of a slot up to which a heavy stretch reaches
 pub mark-in-reach : (r : Round) → Fine r → (w d s u : ℕ) → Marked r w d s → r .slot ≤ u → u ≤ s → w ≤ mark-in r (plan r) u
@@ -248,9 +248,9 @@ leap-row r f p s e g i en j n ys q =
     let ys′ = changed (s .ticket) s′ ys in
     let o = all-in (Row-fine r) s (r .rows) (f .fine) j in
     let fs : First s ys = q .others s j (λ h a b c. not-in-plan s (plan r) n h a (sym c)) in
-    let fp : (p .ticket ≡ 0) ⊎ First p ys′ = elim (all-in (Member r) p (plan r) (plan-rows r) i) [
-      | inl a ↦ inl (a .1)
-      | inr a ↦ inr (changed-first (s .ticket) s′ p (not-in-plan s (plan r) n p i) refl ys
+    let fp : (p .ticket ≡ 0) ⊎ First p ys′ = elim (plan-member r p i) [
+      | inr a ↦ inl (blank-ticket p (a .0))
+      | inl a ↦ inr (changed-first (s .ticket) s′ p (not-in-plan s (plan r) n p i) refl ys
           (q .others p a (λ h b c d. omega (
             arith,
             en .first .from,
@@ -280,9 +280,9 @@ leap-row r f p s e g i en j n ys q =
     }
   where
     same-ticket : (r : Round) → Fine r → (h p : Row) → In h (plan r) → In p (r .rows) → h .ticket ≡ p .ticket → h ≡ p
-    same-ticket r f h p i j e = elim (all-in (Member r) h (plan r) (plan-rows r) i) [
-      | inl a ↦ absurd (omega (arith, a .1, rising-above 1 (r .next) p (r .rows) (f .rising) j))
-      | inr a ↦ rising-same 1 (r .next) h p (r .rows) (f .rising) a j e
+    same-ticket r f h p i j e = elim (plan-member r h i) [
+      | inr a ↦ absurd (omega (arith, blank-ticket h (a .0), rising-above 1 (r .next) p (r .rows) (f .rising) j))
+      | inl a ↦ rising-same 1 (r .next) h p (r .rows) (f .rising) a j e
     ]
 
 -- THE SUBSTITUTE IS A BLANK, at the start of p's segment
@@ -303,9 +303,9 @@ leap-kept r f p b e i n o h j =
       okay = all-changed (Row-ok r) (p .ticket) x (omega (arith, o .from, o .by), j, mark-limit r (plan r) b) (r .rows)
           (rows-kept r f 0 .okay);
       rising = rising-changed 1 (r .next) (p .ticket) x refl (r .rows) (f .rising);
-      fills = λ w d t v m k l. elim (all-in (Member r) p (plan r) (plan-rows r) i) [
-        | inl a ↦ rw (a .1, changed-none 1 (r .next) 0 (row 0 b (mark-in r (plan r) b) 1) (r .rows) (omega arith) (f .rising)) (plain r f w d t v m (omega arith) l)
-        | inr a ↦
+      fills = λ w d t v m k l. elim (plan-member r p i) [
+        | inr a ↦ rw (blank-ticket p (a .0), changed-none 1 (r .next) 0 (row 0 b (mark-in r (plan r) b) 1) (r .rows) (omega arith) (f .rising)) (plain r f w d t v m (omega arith) l)
+        | inl a ↦
             let c = stands r f x e o h refl w d t v m k l in
             omega (
               arith,
@@ -331,9 +331,9 @@ leap-gone r f p b i h k j =
     }
   where
     fp : In p (plan r) → (p .ticket ≡ 0) ⊎ First p (r .rows)
-    fp i = elim (all-in (Member r) p (plan r) (plan-rows r) i) [
-      | inl a ↦ inl (a .1)
-      | inr a ↦ inr (rising-first 1 (r .next) p (r .rows) (f .rising) a)
+    fp i = elim (plan-member r p i) [
+      | inr a ↦ inl (blank-ticket p (a .0))
+      | inl a ↦ inr (rising-first 1 (r .next) p (r .rows) (f .rising) a)
     ]
 
 pub no-shift : (n : ℕ) (r : Round) (e g : ℕ) (xs : List Row) → g ≤ e → shifted n r (plan r) e g xs ≡ xs

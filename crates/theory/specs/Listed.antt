@@ -14,10 +14,9 @@ use Rattle.rules.specs.PlanM.{Strictly}
 use Rattle.rules.specs.Demands.{member, in-time, turns, Listed-fits}
 use Rattle.theory.specs.Tests.{and-true}
 use Rattle.theory.specs.Sum.{sum-sorted}
-use Rattle.theory.specs.All.{all-in, all-sorted}
+use Rattle.theory.specs.All.{all-in, all-sorted, all-of-in}
 use Rattle.theory.specs.Order.{Not-before, canonical?, not-before-both, Sorted, sorted-sorted}
 use Rattle.theory.specs.Full.{Fine}
-use Rattle.theory.specs.Change.{all-of-in}
 use Rattle.theory.specs.Times.{ticks, Apart, apart-of, plan-ticks}
 use Rattle.theory.specs.Same.{row-ticket, planned-same, all-planned, listed-planned, listed-in-order}
 use Rattle.theory.specs.Sane.{good-fine}

@@ -12,17 +12,17 @@ use Rattle.rules.specs.Plan.{plan, in-plan, feasible, tight, tight-after, segme
 use Rattle.rules.specs.Steps.{is-ordinary, sent}
 use Rattle.theory.specs.Tests.{leb?, ltb?, eqb?}
 use Rattle.theory.specs.Sum.{sum, sum-chosen}
-use Rattle.theory.specs.All.{all-map, all-in}
+use Rattle.theory.specs.All.{all-map, all-in, all-of-in, blank-weight, blank-is}
 use Rattle.theory.specs.Feas.{below, num, below-yes, below-light, num-heavy, num-weight, due-below, feas-made}
 use Rattle.theory.specs.Full.{Fine, Row-fine, plan-feas, plan-full}
 use Rattle.theory.specs.Marks.{Tight-in, tight?, Next, next, Start, start, box, box-num, spans, least-above, least-all}
-use Rattle.theory.specs.Change.{all-of-in, in-sum}
+use Rattle.theory.specs.Change.{in-sum}
 use Rattle.theory.specs.Send.{next-by}
 use Rattle.theory.specs.Same.{sum-none, planned-same}
 use Rattle.theory.specs.Score.{score-of}
 use Rattle.theory.specs.Unique.{Left-out, Certified, passed, plan-out}
 use Rattle.theory.specs.Slack.{slack, idle, rows-num, slack-is, tight-least, least-tight, mark-idle, mark-rows}
-use Rattle.theory.specs.Members.{blank-weight, blank-is, Rows, certified-found, of-rows-ticket, of-rows-fine, found-member, member?, in-plan-is}
+use Rattle.theory.specs.Members.{Rows, certified-found, of-rows-ticket, of-rows-fine, found-member, member?, in-plan-is}
 use Rattle.theory.specs.Substitute.{later-none, score-none}
 use Rattle.theory.specs.Best.{heaviest-beats, ordinary-is}
 use Rattle.theory.specs.Close.{after-slot, closed, sent-gone}

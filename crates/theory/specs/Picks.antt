@@ -12,13 +12,12 @@ use Rattle.rules.specs.Plan.{plan, tight-after, segment-start, first-end, mark-
 use Rattle.rules.specs.Steps.{heaviest-between}
 use Rattle.rules.specs.PlanM.{Outside}
 use Rattle.theory.specs.Tests.{ltb?, eqb?}
-use Rattle.theory.specs.All.{all-in}
+use Rattle.theory.specs.All.{all-in, Is-blank, blank-weight, blank-is, due-of-blank}
 use Rattle.theory.specs.Order.{Not-over, not-over-trans, over-absurd, not-before-canonical}
 use Rattle.theory.specs.Feas.{num, below-late}
 use Rattle.theory.specs.Full.{Fine, plan-feas, plan-full, plan-due}
 use Rattle.theory.specs.Marks.{next, start, least-found, mark-all}
 use Rattle.theory.specs.Score.{Bounded, plan-bounded, score-of, sends-by-score}
-use Rattle.theory.specs.Members.{Is-blank, blank-weight, blank-is, blank-due}
 use Rattle.theory.specs.Top.{heaviest, Left-from, outside-top}
 use Rattle.theory.specs.Substitute.{first-lightest, later-is}
 use Rattle.theory.specs.Best.{Beaten, best-goes}
@@ -78,7 +77,7 @@ module _ (r : Round) (f : Fine r) where
       let l : b ≤ r .last = omega (arith, u .1, start r (plan r) (p .due) (plan-feas r f) (f .time) (u .0) .by) in
       rw (later-is r p h) (
         elim (t .found) [
-          | inl e ↦ subst (λ (x : Row). Outside r b x) (sym e) (omega (arith, blank-due b), inr (blank-is b, omega (arith, blank-due b, l)))
+          | inl e ↦ subst (λ (x : Row). Outside r b x) (sym e) (omega (arith, due-of-blank b), inr (blank-is b, omega (arith, due-of-blank b, l)))
           | inr j ↦ (j .1 .0, inl (j .0, j .1 .1))
         ],
         λ x o k. over-absurd x z k (elim (o .1) [

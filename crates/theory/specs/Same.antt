@@ -9,14 +9,15 @@ use lib.Dec.{eqb}
 use borrow.Author.Tests.{le-leb, ne-eqb}
 use Rattle.rules.specs.Rows.{Row, Round, canonical, sorted, chosen, rows-only, All, In}
 use Rattle.rules.specs.Plan.{plan, same-row, in-plan, total, total-weight, flags, planned, listed}
+use Rattle.rules.specs.PlanM.{Member}
 use Rattle.rules.specs.Demands.{member, in-time, turns}
 use Rattle.theory.specs.Tests.{either, eqb?}
 use Rattle.theory.specs.Sum.{sum, sum-sorted, total-sum}
-use Rattle.theory.specs.All.{all-map, all-in, all-sorted}
+use Rattle.theory.specs.All.{blank-weight, blank-ticket, ticketless-blanks, all-map, all-in, all-sorted, all-of-in}
 use Rattle.theory.specs.Order.{Sorted, Not-before, sorted-sorted, not-before-both, not-before-due}
 use Rattle.theory.specs.Feas.{below, num, below-yes, Feas}
-use Rattle.theory.specs.Full.{Fine, Row-fine, Rising, blanks, outside, plan-feas, plan-sum, plan-due}
-use Rattle.theory.specs.Change.{Member, plan-rows, rising-same, rising-above, in-sum, ticketless, all-of-in, not-in-plan}
+use Rattle.theory.specs.Full.{plan-members, Fine, Row-fine, Rising, blanks, outside, plan-feas, plan-sum, plan-due}
+use Rattle.theory.specs.Change.{rising-same, rising-above, in-sum, not-in-plan}
 use Rattle.theory.specs.Times.{is?, ticks, no-ticks, rising-ticks, apart-of, rank-due, in-slots, slots-of, rank, all-chosen, sum-rows-only, all-rows-only, plan-ticks}
 
 -- THE SAME ROWS in any order
@@ -133,7 +134,7 @@ tick-once r f k h =
       arith,
       plan-sum (ticks k) r,
       rising-ticks 1 (r .next) k (r .rows) (f .rising) .0,
-      no-ticks k (blanks r) (all-map {Q = λ x. x .ticket ≢ k} (λ x (a : (x .weight ≤ 0) × (x .ticket ≡ 0)). omega arith) (blanks r) (ticketless _ _ _)),
+      no-ticks k (blanks r) (all-map {Q = λ x. x .ticket ≢ k} (λ x (a : x .ticket ≡ 0). omega arith) (blanks r) (ticketless-blanks _ _ _)),
     )
 
 pub of-outside : (r : Round) → Fine r → (μ : Row → ℕ) (x : Row) → In x (outside r) → of-plan (plan r) μ x ≡ 0
@@ -167,8 +168,8 @@ planned-same r f μ =
       of-chosen (plan r) μ (r .rows) (row-ticket r f),
       sum-none (of-plan (plan r) μ) (outside r) (all-of-in (λ x. of-plan (plan r) μ x ≡ 0) (outside r) (λ x i. of-outside r f μ x i)),
       sum-none (of-plan (plan r) μ) (blanks r)
-          (all-map {Q = λ x. of-plan (plan r) μ x ≡ 0} (λ x (h : (x .weight ≤ 0) × (x .ticket ≡ 0)). of-none (plan r) μ x (h .1)) (blanks r)
-          (ticketless _ _ _)),
+          (all-map {Q = λ x. of-plan (plan r) μ x ≡ 0} (λ x (h : x .ticket ≡ 0). of-none (plan r) μ x h) (blanks r)
+          (ticketless-blanks _ _ _)),
     )
 
 pub chosen-in : (ms : List Bool) (xs : List Row) → All (λ x. In x xs) (chosen ms xs)
@@ -177,8 +178,8 @@ chosen-in ms xs = all-chosen (λ x. In x xs) ms xs (all-of-in (λ x. In x xs) xs
 pub plan-rows-in : (r : Round) → Fine r → All (λ x. In x (r .rows)) (rows-only (plan r))
 plan-rows-in r f =
     all-map {Q = λ x. In x (r .rows)}
-    (λ x (h : (1 ≤ x .ticket) × Member r x). elim (h .1) [ inl a ↦ absurd (omega (arith, h .0, a .1)) | inr a ↦ a ])
-    (rows-only (plan r)) (all-rows-only (Member r) (plan r) (plan-rows r))
+    (λ x (h : (1 ≤ x .ticket) × Member r x). elim (h .1) [ inl a ↦ a | inr a ↦ absurd (omega (arith, h .0, blank-ticket x (a .0))) ])
+    (rows-only (plan r)) (all-rows-only (Member r) (plan r) (plan-members r))
 
 pub planned-in : (r : Round) → All (λ x. In x (r .rows)) (planned r)
 unfolding planned
@@ -213,9 +214,9 @@ planned-weighs r f =
       planned-same r f (λ x. x .weight),
       sum-of-rows (λ x. x .weight) (plan r) (all-map {Q = λ y. y .ticket ≡ 0 → y .weight ≡ 0}
           (λ y (h : Member r y) (q : y .ticket ≡ 0). elim h [
-            | inl a ↦ omega (arith, a .0)
-            | inr a ↦ absurd (omega (arith, q, all-in (λ x. 1 ≤ x .ticket) y (r .rows) (row-ticket r f) a))
-          ]) (plan r) (plan-rows r)),
+            | inr a ↦ blank-weight y (a .0)
+            | inl a ↦ absurd (omega (arith, q, all-in (λ x. 1 ≤ x .ticket) y (r .rows) (row-ticket r f) a))
+          ]) (plan r) (plan-members r)),
     )
 
 pub listed-weighs : (r : Round) → Fine r → total r ≡ total-weight (listed r)

@@ -11,13 +11,14 @@ use lib.ListN.{length}
 use Rattle.rules.specs.Rows.{Row, Round, heavier, All, In}
 use Rattle.rules.specs.Plan.{plan, in-plan, first-end, heaviest-outside, sends-before, best-from, best}
 use Rattle.rules.specs.Steps.{without, heaviest-between}
+use Rattle.rules.specs.PlanM.{Member}
 use Rattle.theory.specs.Tests.{either, leb?, ltb?, and-true, not-true′, pick, one-if}
 use Rattle.theory.specs.Sum.{sum}
-use Rattle.theory.specs.All.{all-in}
+use Rattle.theory.specs.All.{blank-ticket, all-of-in}
 use Rattle.theory.specs.Feas.{num, below-yes, below-late}
-use Rattle.theory.specs.Full.{Fine, plan-feas, plan-full}
+use Rattle.theory.specs.Full.{plan-member, Fine, plan-feas, plan-full}
 use Rattle.theory.specs.Marks.{Tight-in, Next, next, box, box?, filled, Marked}
-use Rattle.theory.specs.Change.{without-sum, rising-first, all-of-in, Member, plan-rows, without-none}
+use Rattle.theory.specs.Change.{without-sum, rising-first, without-none}
 
 -- choices from a list
 pub best-from-in : (r : Round) (ps xs : List Row) (b : Row) (all : List Row) → In b all → All (λ x. In x all) xs → In (best-from r ps xs b) all
@@ -128,8 +129,8 @@ point-yes v e u h k = elim (point? v e u) [ inl a ↦ a .0 | inr (inl a) ↦ ome
 
 -- the rows that are gone or changed
 pub gone : (r : Round) → Fine r → (μ : Row → ℕ) (p : Row) → Member r p → sum μ (r .rows) ≤ sum μ (without (p .ticket) (r .rows)) + μ p
-gone r g μ p (inl h) = rw (h .1, without-none 1 (r .next) 0 (r .rows) (omega arith) (g .rising)) (omega arith)
-gone r g μ p (inr i) = omega (arith, without-sum μ p (r .rows) (rising-first 1 (r .next) p (r .rows) (g .rising) i))
+gone r g μ p (inr b) = rw (blank-ticket p (b .0), without-none 1 (r .next) 0 (r .rows) (omega arith) (g .rising)) (omega arith)
+gone r g μ p (inl i) = omega (arith, without-sum μ p (r .rows) (rising-first 1 (r .next) p (r .rows) (g .rising) i))
 
 -- AN ORDINARY STEP
 pub ordinary-fills : (r : Round) → Fine r → r .slot ≤ r .last → (p : Row) → In p (plan r) → p .due ≤ first-end r (plan r) →
@@ -138,7 +139,7 @@ pub ordinary-fills : (r : Round) → Fine r → r .slot ≤ r .last → (p : Row
 unfolding first-end
 ordinary-fills r g o p i a w d e m zero h k = omega arith
 ordinary-fills r g o p i a w d e m (suc u) h k =
-    let gn = gone r g (box w (suc u) (suc e)) p (all-in (Member r) p (plan r) (plan-rows r) i) in
+    let gn = gone r g (box w (suc u) (suc e)) p (plan-member r p i) in
     let n = next r (plan r) (r .slot) o (plan-full r g) in
     let f : num 0 (suc u) (plan r) ≤ suc u - r .slot = plan-feas r g (suc u) (omega arith) (omega (arith, m .next .by)) in
     elim (box? w (suc u) (suc e) p k) [

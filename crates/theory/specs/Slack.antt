@@ -11,11 +11,10 @@ use Rattle.rules.specs.Rows.{Row, Round, blank, slots-left, heavier, sorted, ro
 use Rattle.rules.specs.Plan.{due-by, blanks-from, plan, tight, tight-from, tight-after, segment-from, segment-start, least-weight, mark-in, mark, planned}
 use Rattle.theory.specs.Tests.{either, leb?, ltb?, eqb?}
 use Rattle.theory.specs.Sum.{sum, sum-le}
-use Rattle.theory.specs.All.{all-map, all-in, all-append, all-sorted, all-replicate}
+use Rattle.theory.specs.All.{blank-weight, all-map, all-in, all-append, all-sorted, all-replicate}
 use Rattle.theory.specs.Feas.{below, num, below-yes, below-late, below-mono, below-weight, num-mono, due-below}
-use Rattle.theory.specs.Full.{Fine, blanks, pool, outside, pool-from, feas-none, plan-feas, plan-sum, plan-full, blanks-at}
+use Rattle.theory.specs.Full.{plan-member, Fine, blanks, pool, outside, pool-from, feas-none, plan-feas, plan-sum, plan-full, blanks-at}
 use Rattle.theory.specs.Marks.{Tight-in, tight?, Next, next, next-later, least-above, least-below, least-all, all-heavy, heavy-num, mark-all}
-use Rattle.theory.specs.Change.{Member, plan-rows}
 use Rattle.theory.specs.Border.{Of, Not, Downward, Border, border, within, within-yes, within-no, many}
 use Rattle.theory.specs.Same.{Same, row-ticket, planned-same}
 
@@ -294,9 +293,9 @@ module _ (r : Round) (f : Fine r) (rs : List Row) (same : Same (rows-only (plan 
       omega (arith, n .tight, n .from, rows-num 0 (suc e), slack-is e (omega (arith, n .from)) (n .by), g e (n .from) (n .by)) in
       let p = with-blank (suc e) (plan r) b in
       let c = all-in (λ x. x .due ≤ e → mark-in r (plan r) s ≤ x .weight) (p .0) (plan r) (mark-all r (plan r) s) (p .1) (omega (arith, p .3)) in
-      elim (all-in (Member r) (p .0) (plan r) (plan-rows r) (p .1)) [
-        | inl a ↦ omega (arith, a .0, c)
-        | inr a ↦ absurd (omega (arith, p .2, all-in (λ x. 1 ≤ x .ticket) (p .0) (r .rows) (row-ticket r f) a))
+      elim (plan-member r (p .0) (p .1)) [
+        | inr a ↦ omega (arith, blank-weight (p .0) (a .0), c)
+        | inl a ↦ absurd (omega (arith, p .2, all-in (λ x. 1 ≤ x .ticket) (p .0) (r .rows) (row-ticket r f) a))
       ]
 
   -- else the least weight of the rows due by the first slot without

@@ -9,19 +9,19 @@ use borrow.Author.Tests.{le-leb, lt-leb, eq-eqb}
 use Rattle.rules.specs.Rows.{Row, Round, blank, heavier, In}
 use Rattle.rules.specs.Plan.{plan, in-plan, tight-after, segment-start, mark-in, mark, first-end, lightest-by, heaviest-outside, substitute}
 use Rattle.theory.specs.Tests.{leb?, ltb?, eqb?}
-use Rattle.theory.specs.All.{all-in}
+use Rattle.theory.specs.All.{all-in, all-of-in, Is-blank, blank-ticket, blank-weight, blank-is}
 use Rattle.theory.specs.Order.{Not-over, over-absurd, not-over-both, heavier-yes, heavier-no, not-over-heavier, not-over-weight}
 use Rattle.theory.specs.Feas.{below, below-yes, below-late, below-mono}
 use Rattle.theory.specs.Full.{Fine, Row-fine, plan-feas, plan-full, plan-due}
 use Rattle.theory.specs.Marks.{tight?, next, start, least-above, mark-all}
-use Rattle.theory.specs.Change.{rising-same, all-of-in, in-sum}
+use Rattle.theory.specs.Change.{rising-same, in-sum}
 use Rattle.theory.specs.Send.{next-by}
 use Rattle.theory.specs.Times.{sum-less}
 use Rattle.theory.specs.Same.{row-ticket}
 use Rattle.theory.specs.Score.{Bounded, plan-bounded, score-of}
 use Rattle.theory.specs.Select.{plan-selection}
 use Rattle.theory.specs.Slack.{slack, slack-all, tight-is, least-from, idle, idle-le, idlers, idlers-mono, with-blank, rows-num, slack-is, idlers-most, idlers-least, idlers-is}
-use Rattle.theory.specs.Members.{Is-blank, blank-ticket, blank-weight, blank-is, Rows, of-rows-in, of-rows-ticket, of-rows-fine, found-member, member?, in-plan-is}
+use Rattle.theory.specs.Members.{Rows, of-rows-in, of-rows-ticket, of-rows-fine, found-member, member?, in-plan-is}
 use Rattle.theory.specs.Top.{lightest, Left-from, outside-top}
 
 pub idle-blank : (μ : Row → ℕ) (x : Row) → x .ticket ≡ 0 → idle μ x ≡ μ x

@@ -12,10 +12,10 @@ use Rattle.rules.specs.Plan.{plan}
 use Rattle.rules.specs.Demands.{member, in-time}
 use Rattle.theory.specs.Tests.{either, ltb?, eqb?, and-true, not-true′, one-if}
 use Rattle.theory.specs.Sum.{sum, sum-le}
-use Rattle.theory.specs.All.{all-map, all-in}
+use Rattle.theory.specs.All.{ticketless-blanks, all-map, all-in, all-of-in}
 use Rattle.theory.specs.Feas.{below, below?, num, below-yes, Feas}
 use Rattle.theory.specs.Full.{Fine, Rising, blanks, plan-feas, plan-sum, plan-due}
-use Rattle.theory.specs.Change.{in-sum, ticketless, all-of-in}
+use Rattle.theory.specs.Change.{in-sum}
 
 -- SLOTS, NO TWO THE SAME
 abbrev pub Each : (ℕ → Type 0) → List ℕ → Type 0
@@ -290,7 +290,7 @@ plan-ticks r f k h =
       sum-rows-only (ticks k) (plan r),
       plan-sum (ticks k) r,
       rising-ticks 1 (r .next) k (r .rows) (f .rising) .0,
-      no-ticks k (blanks r) (all-map {Q = λ x. x .ticket ≢ k} (λ x (a : (x .weight ≤ 0) × (x .ticket ≡ 0)). omega arith) (blanks r) (ticketless _ _ _)),
+      no-ticks k (blanks r) (all-map {Q = λ x. x .ticket ≢ k} (λ x (a : x .ticket ≡ 0). omega arith) (blanks r) (ticketless-blanks _ _ _)),
     )
 
 pub plan-in-time : (r : Round) → Fine r → in-time (r .slot) (rows-only (plan r)) (slots-of (r .slot) (rows-only (plan r)) (rows-only (plan r))) ≡ true

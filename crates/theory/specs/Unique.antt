@@ -10,13 +10,14 @@ use borrow.Author.Tests.{eq-eqb, ne-eqb}
 use lib.ListN.{length, getD}
 use Rattle.rules.specs.Rows.{Row, Round, heavier, sorted, chosen, rows-only, All, In}
 use Rattle.rules.specs.Plan.{due-by, feasible, kept, plan, same-row, in-plan, flags, planned}
+use Rattle.rules.specs.PlanM.{Member}
 use Rattle.theory.specs.Tests.{either, leb?}
 use Rattle.theory.specs.Sum.{sum, sum-le, sum-sorted}
-use Rattle.theory.specs.All.{all-map, all-in, all-sorted, all-kept}
+use Rattle.theory.specs.All.{blank-weight, ticketless-blanks, all-map, all-in, all-sorted, all-kept, all-of-in}
 use Rattle.theory.specs.Order.{Not-over, heavier?, over-absurd, Ordered, ordered-sorted, not-over-both}
 use Rattle.theory.specs.Feas.{below, num, below-yes, below-late, due-below, Feas, feas-yes, feas-made}
-use Rattle.theory.specs.Full.{Fine, Row-fine, Rising, blanks}
-use Rattle.theory.specs.Change.{Member, plan-rows, rising-same, rising-above, all-of-in, kept-keeps, row-outside, ticketless, in-sorted}
+use Rattle.theory.specs.Full.{plan-members, Fine, Row-fine, Rising, blanks}
+use Rattle.theory.specs.Change.{rising-same, rising-above, kept-keeps, row-outside, in-sorted}
 use Rattle.theory.specs.Times.{all-chosen}
 use Rattle.theory.specs.Border.{within, within-yes, within-no, many, from-row, over-light, outside-by-order}
 use Rattle.theory.specs.Same.{Same, in-plan?, of-plan, of-yes, of-no, of-chosen, row-ticket, planned-same, planned-feas, chosen-in, sum-of-rows}
@@ -189,7 +190,7 @@ module _ (r : Round) (f : Fine r) (rs : List Row) (members : All (λ y. In y (r 
   plan-follows e =
       follows (sorted heavier (r .rows)) (blanks r) [] (ordered-sorted (r .rows))
       (all-sorted (λ y. In y (r .rows)) heavier (r .rows) (all-of-in (λ y. In y (r .rows)) (r .rows) (λ y i. i)))
-      (all-map {Q = λ y. y .ticket ≡ 0} (λ y (h : (y .weight ≤ 0) × (y .ticket ≡ 0)). h .1) (blanks r) (ticketless _ _ _)) tt tt
+      (ticketless-blanks _ _ _) tt tt
       (λ μ. omega (arith, e μ, sum-sorted (of-plan rs μ) heavier (r .rows)))
 
   -- SO THE PLAN HAS JUST THE SELECTED ROWS
@@ -285,9 +286,9 @@ plan-out r f x i n =
     let p : sum (within (from-row x) e) (rows-only (plan r)) ≡ many (from-row x) e (plan r) =
     sum-of-rows (within (from-row x) e) (plan r) (all-map {Q = λ y. y .ticket ≡ 0 → within (from-row x) e y ≡ 0}
     (λ y (h : Member r y) (q : y .ticket ≡ 0). elim h [
-      | inl a ↦ within-no (from-row x) e y (over-light x y w (a .0))
-      | inr a ↦ absurd (omega (arith, q, all-in (λ x. 1 ≤ x .ticket) y (r .rows) (row-ticket r f) a))
-    ]) (plan r) (plan-rows r)) in
+      | inr a ↦ within-no (from-row x) e y (over-light x y w (omega (arith, blank-weight y (a .0))))
+      | inl a ↦ absurd (omega (arith, q, all-in (λ x. 1 ≤ x .ticket) y (r .rows) (row-ticket r f) a))
+    ]) (plan r) (plan-members r)) in
     let m : many (from-row x) e (planned r) ≡ e - r .slot = sym (planned-same r f (within (from-row x) e)) ∙ p ∙ b .3 in
     let k : num 0 e (planned r) ≤ e - r .slot =
     planned-feas r f e (omega (arith, b .1, all-in (Row-fine r) x (r .rows) (f .fine) i .0)) (b .2) in

@@ -24,6 +24,10 @@ pub all-of-in : (P : Row → Type 0) (xs : List Row) → ((x : Row) → In x xs 
 all-of-in P [] h = tt
 all-of-in P (x ∷ xs) h = (h x (inl refl), all-of-in P xs (λ y i. h y (inr i)))
 
+pub in-mid : (x : Row) (xs ys : List Row) → In x (xs ++ (x ∷ ys))
+in-mid x [] ys = inl refl
+in-mid x (z ∷ zs) ys = inr (in-mid x zs ys)
+
 pub all-append : (P : Row → Type 0) (xs ys : List Row) → All P xs → All P ys → All P (xs ++ ys)
 all-append P [] ys a b = b
 all-append P (x ∷ xs) ys a b = (a .0, all-append P xs ys (a .1) b)

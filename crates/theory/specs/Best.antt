@@ -19,11 +19,11 @@ use Rattle.theory.specs.Change.{rising-same}
 use Rattle.theory.specs.Same.{in-plan?, row-ticket}
 use Rattle.theory.specs.Score.{score-of, sends-by-score}
 use Rattle.theory.specs.Unique.{plan-out}
-use Rattle.theory.specs.Slack.{idlers-is, with-blank, slack, slack-some, least-here, tight-after-is, first-from as search-from}
+use Rattle.theory.specs.Slack.{idlers-is, with-blank, slack, slack-some, least-here, tight-after-is, first-from}
 use Rattle.theory.specs.Keys.{pick-key, pick-less, pick-same}
 use Rattle.theory.specs.Members.{Rows, planned-rows, of-rows-in, of-rows-ticket, of-rows-fine, member-found, found-member, member?}
 use Rattle.theory.specs.Top.{Top, top-pick}
-use Rattle.theory.specs.Substitute.{first-from, first-weight, first-blank, later-is, score-blank, score-row}
+use Rattle.theory.specs.Substitute.{first-end-from, first-weight, first-blank, later-is, score-blank, score-row}
 
 -- q doesn't go before p
 abbrev pub Beaten : Round → Row → Row → Type 0
@@ -164,7 +164,7 @@ module _ (r : Round) (f : Fine r) (o : r .slot ≤ r .last) (rs : List Row) (c :
       let by = none (y .0) (y .1) in
       first-blank r f rs c o p (g .inside) bp (elim (g .first (y .0) (y .1)) [
         | inl a ↦ absurd (omega (arith, a, score-blank r f rs c o p (g .inside) bp))
-        | inr a ↦ omega (arith, y .3, first-from r f o, not-before-due (y .0) p (a .1))
+        | inr a ↦ omega (arith, y .3, first-end-from r f o, not-before-due (y .0) p (a .1))
       ])
     where
       empty : (zs : List Row) → All (λ y. In y (r .rows)) zs → r .rows ≡ [] → zs ≡ []
@@ -286,7 +286,7 @@ module _ (r : Round) (f : Fine r) (o : r .slot ≤ r .last) (rs : List Row) (c :
 
   pub silence-ordinary : r .rows ≡ [] → is-ordinary r ≡ true
   unfolding blank
-  silence-ordinary e = ordinary-is (blank (r .slot)) (silent-best e) ∙ le-leb (r .slot) (first-end r (plan r)) (first-from r f o)
+  silence-ordinary e = ordinary-is (blank (r .slot)) (silent-best e) ∙ le-leb (r .slot) (first-end r (plan r)) (first-end-from r f o)
 
   -- silence just where there are no rows
   pub silence-is : eqb (best r (plan r) .ticket) 0 ≡ eqb (length (r .rows)) 0
@@ -307,6 +307,6 @@ module _ (r : Round) (f : Fine r) (o : r .slot ≤ r .last) (rs : List Row) (c :
       of-rows [] e = absurd (true≢false (sym (silence-ordinary e) ∙ n))
       of-rows (x ∷ xs) e = best-row x (subst (λ (zs : List Row). In x zs) (sym e) (inl refl))
 
-  pub first-end-is : first-end r (plan r) ≡ search-from (least-here r rs) (suc (r .last) - r .slot) (r .slot)
+  pub first-end-is : first-end r (plan r) ≡ first-from (least-here r rs) (suc (r .last) - r .slot) (r .slot)
   unfolding first-end
   first-end-is = tight-after-is r f rs (c .same) (r .slot) (omega arith) o

@@ -1,5 +1,5 @@
 -- A leap's shifts as one chain: each link the heaviest plan row due after the last end and by the substitute's. Assumes nothing.
-use mathlib.Core.Path.{_≡_, refl, sym, ap, _∙_, subst}
+use mathlib.Core.Path.{_≡_, sym, ap, _∙_, subst}
 use mathlib.Core.Logic.{inl, inr, _≢_}
 use mathlib.Core.Bool.{true, false}
 use mathlib.Core.List.{List, [], _∷_, _++_}
@@ -11,7 +11,7 @@ use Rattle.rules.specs.Rows.{Row, Round, blank, heavier, row, All, In}
 use Rattle.rules.specs.Plan.{plan, in-plan, tight-after, mark}
 use Rattle.rules.specs.Steps.{changed, heaviest-between, shifted}
 use Rattle.theory.specs.Tests.{either, ltb?}
-use Rattle.theory.specs.All.{all-map, all-in, blank-weight, blank-is}
+use Rattle.theory.specs.All.{in-mid, all-map, all-in, blank-weight, blank-is}
 use Rattle.theory.specs.Order.{Not-over, over-absurd, over-not, over-over, not-over-both, heavier-yes, heavier-no, over-heavier, not-over-heavier, not-over-weight}
 use Rattle.theory.specs.Feas.{below, num, below-yes, below-late, below-mono, num-mono}
 use Rattle.theory.specs.Full.{Fine, Row-fine, plan-full}
@@ -187,14 +187,10 @@ module _ (r : Round) (f : Fine r) (rs : List Row) (c : Rows r rs) where
   pub chain-over : (e g : ℕ) (ks ls : List Row) (h m : Row) → Chain r rs e g (ks ++ (h ∷ ls)) → heavier h m ≡ true → All (λ x. heavier x m ≡ true) ks
   chain-over e g [] ls h m k q = tt
   chain-over e g (x ∷ ks) ls h m k q = (
-    over-heavier x m (over-over x h m (heavier-yes x h (all-in (λ y. heavier x y ≡ true) h (ks ++ (h ∷ ls)) (chain-falls e g x (ks ++ (h ∷ ls)) k) (in-mid ks)))
+    over-heavier x m (over-over x h m (heavier-yes x h (all-in (λ y. heavier x y ≡ true) h (ks ++ (h ∷ ls)) (chain-falls e g x (ks ++ (h ∷ ls)) k) (in-mid h ks ls)))
         (over-not h m (heavier-yes h m q))),
     chain-over (tight-after r (plan r) (x .due)) g ks ls h m (k .1) q,
   )
-    where
-      in-mid : (ws : List Row) → In h (ws ++ (h ∷ ls))
-      in-mid [] = inl refl
-      in-mid (w ∷ ws) = inr (in-mid ws)
 
   -- a slot's next tight one, found from an earlier slot on
   pub next-same : (s d g : ℕ) → Next r (plan r) s g → s ≤ d → d ≤ g → tight-after r (plan r) d ≡ g

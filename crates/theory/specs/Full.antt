@@ -13,7 +13,7 @@ use Rattle.theory.specs.Tests.{leb?, ltb?}
 use Rattle.theory.specs.Sum.{sum, sum-append, sum-sorted, sum-kept, rejected}
 use Rattle.theory.specs.All.{all-in, all-of-in, all-blanks, all-map, all-append, all-sorted, all-kept, falling-append, light-blanks}
 use Rattle.theory.specs.Order.{ordered-sorted, ordered-falling}
-use Rattle.theory.specs.Feas.{below, num, below-yes, below-late, num-mono, num-light, num-early, Feas, feas-made, kept-feas, Edge, run}
+use Rattle.theory.specs.Feas.{below, num, below-yes, below-late, num-mono, num-light, num-early, Feas, feas-made, kept-feas, Edge, run-edge}
 
 -- tickets rise, from a number on, below another
 abbrev pub Rising : (a b : ℕ) → List Row → Type 0
@@ -75,7 +75,7 @@ plan-feas r g = kept-feas r (pool r) [] (pool-from r g) tt (feas-none r)
 pub plan-edge : (r : Round) → Fine r → (w : ℕ) → Edge r w (r .slot) (plan r) (outside r)
 unfolding plan outside
 plan-edge r g w =
-    run r w (pool r) [] (falling-append (sorted heavier (r .rows)) (blanks r) (ordered-falling (sorted heavier (r .rows)) (ordered-sorted (r .rows))) (light-blanks _ _ _))
+    run-edge r w (pool r) [] (falling-append (sorted heavier (r .rows)) (blanks r) (ordered-falling (sorted heavier (r .rows)) (ordered-sorted (r .rows))) (light-blanks _ _ _))
     (pool-from r g) tt tt (feas-none r) (r .slot) (omega arith) (g .time) (omega arith)
 
 pub plan-sum : (μ : Row → ℕ) (r : Round) → sum μ (plan r) + sum μ (outside r) ≡ sum μ (r .rows) + sum μ (blanks r)

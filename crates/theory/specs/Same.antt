@@ -194,8 +194,7 @@ unfolding listed
 listed-planned r f =
     sorted-same (r .rows) 1 (r .next) (f .rising) (rows-only (plan r)) (planned r) (plan-rows-in r f) (planned-in r) (planned-same r f)
 
--- its weight
--- a measure that is 0 for blanks
+-- its weight: a measure that is 0 for blanks
 pub sum-of-rows : (μ : Row → ℕ) (xs : List Row) → All (λ y. y .ticket ≡ 0 → μ y ≡ 0) xs → sum μ (rows-only xs) ≡ sum μ xs
 unfolding rows-only
 sum-of-rows μ [] a = refl

@@ -1,7 +1,7 @@
 -- Full selections of rows and blanks, certified by their next tight slots, have the plan's rows. Assumes nothing.
 use mathlib.Core.Path.{_≡_, refl, sym, ap, _∙_, subst}
 use mathlib.Core.Logic.{inl, inr, _≢_}
-use mathlib.Core.Bool.{Bool, true, false, _||_, true≢false, false≢true}
+use mathlib.Core.Bool.{Bool, true, false, _||_, true≢false}
 use mathlib.Core.List.{List, [], _∷_}
 use Prim.Native.Nat.{ℕ, suc, _+_, _-_, _≤_, _<_}
 use native.Mathlib.Omega.{arith}
@@ -11,13 +11,13 @@ use Rattle.rules.specs.PlanM.{Member}
 use Rattle.theory.specs.Tests.{leb?, eqb?}
 use Rattle.theory.specs.Sum.{sum, sum-le}
 use Rattle.theory.specs.All.{blank-weight, blank-ticket, all-map, all-in, all-of-in}
-use Rattle.theory.specs.Order.{heavier?, over-absurd, not-over-both}
+use Rattle.theory.specs.Order.{heavier?, over-absurd}
 use Rattle.theory.specs.Feas.{below, num, below-late, due-below, Feas, feas-yes, feas-made}
 use Rattle.theory.specs.Full.{member-due, plan-members, Fine, Row-fine, Rising, plan-feas, plan-full}
 use Rattle.theory.specs.Marks.{next}
 use Rattle.theory.specs.Change.{row-outside, not-in-plan, rising-above, in-sum}
 use Rattle.theory.specs.Times.{ticks, sum-rows-only, all-rows-only}
-use Rattle.theory.specs.Border.{within, from-row, outside-by-order}
+use Rattle.theory.specs.Border.{from-row-over, within, from-row, outside-by-order}
 use Rattle.theory.specs.Same.{of-plan, of-yes, of-no, row-ticket, tick-self, tick-once, sum-none, sum-of-rows}
 use Rattle.theory.specs.Unique.{Left-out, in-plan-other, in-plan-self, rising-other, not-there, plan-selected, within-below, all-within}
 
@@ -162,14 +162,4 @@ plan-selection r f =
           | inr h ↦ absurd (q .first (e - 1) (omega (arith, b .1)) (h .1) (omega (arith, t, z, ap (λ v. num 0 v (plan r)) z)))
         ] in
         all-of-in (λ y. y .due ≤ tight-after r (plan r) (x .due) → heavier y x ≡ true) (plan r) (λ y j h.
-        over y j (all-in (λ y. y .due < e → from-row x y ≡ true) y (plan r) (all-within (from-row x) e (plan r) (omega (arith, k, b .3))) j (omega (arith, h, m, z))))
-      where
-        over : (y : Row) → In y (plan r) → from-row x y ≡ true → heavier y x ≡ true
-        over y j h =
-            elim (heavier? y x) [
-              | inl a ↦ a .0
-              | inr a ↦ elim (heavier? x y) [
-                | inl b ↦ let q : false ≡ true = (rw (b .0) at h) in absurd (false≢true q)
-                | inr b ↦ absurd (not-in-plan x (plan r) n y j (not-over-both x y (b .1) (a .1)))
-              ]
-            ]
+        from-row-over x y (not-in-plan x (plan r) n y j) (all-in (λ y. y .due < e → from-row x y ≡ true) y (plan r) (all-within (from-row x) e (plan r) (omega (arith, k, b .3))) j (omega (arith, h, m, z))))

@@ -1,6 +1,6 @@
 -- Blanks as suffix minima: tight slots and marks from the plan's rows alone. Assumes nothing.
 use mathlib.Core.Path.{_≡_, refl, sym, ap, _∙_}
-use mathlib.Core.Logic.{_⊎_, inl, inr, _≢_}
+use mathlib.Core.Logic.{_⊎_, inl, inr}
 use mathlib.Core.Bool.{Bool, true, false, cond, true≢false}
 use mathlib.Core.List.{List, [], _∷_, _++_}
 use Prim.Native.Nat.{ℕ, zero, suc, _+_, _-_, _≤_, _<_, min}
@@ -9,7 +9,7 @@ use lib.Dec.{ltb, leb, eqb}
 use lib.ListN.{replicate}
 use Rattle.rules.specs.Rows.{Row, Round, blank, slots-left, heavier, sorted, rows-only, All, In}
 use Rattle.rules.specs.Plan.{due-by, blanks-from, plan, tight, tight-from, tight-after, segment-from, segment-start, least-weight, mark-in, mark, planned}
-use Rattle.theory.specs.Tests.{either, leb?, ltb?, eqb?}
+use Rattle.theory.specs.Tests.{positive, either, leb?, ltb?, eqb?}
 use Rattle.theory.specs.Sum.{sum, sum-le}
 use Rattle.theory.specs.All.{blank-weight, all-map, all-in, all-append, all-sorted, all-replicate}
 use Rattle.theory.specs.Feas.{below, num, below-yes, below-late, below-mono, below-weight, num-mono, due-below}
@@ -99,9 +99,9 @@ early-by s x h = elim (either (eqb (x .ticket) 0)) [
   | inr k ↦ rw k
 ]
 
-pub late : (s : ℕ) (x : Row) → eqb (x .ticket) 0 ≡ true → leb (x .due) s ≡ false → Not (early s) x
+pub not-early : (s : ℕ) (x : Row) → eqb (x .ticket) 0 ≡ true → leb (x .due) s ≡ false → Not (early s) x
 unfolding early
-late s x e g = rw (e, g)
+not-early s x e g = rw (e, g)
 
 pub late-blank : (s d : ℕ) → s < d → Not (early s) (blank d)
 unfolding early blank
@@ -157,13 +157,10 @@ early-many s m h (x ∷ xs) = elim (eqb? (x .ticket) 0) [
       below-yes 0 m x (omega arith) (omega (arith, l .1)),
       below-yes 0 (suc s) x (omega arith) (omega (arith, l .1)),
     )
-    | inr l ↦ omega (arith, early-many s m h xs, within-no (early s) m x (late s x (k .0) (l .0)), below-late 0 (suc s) x (l .1))
+    | inr l ↦ omega (arith, early-many s m h xs, within-no (early s) m x (not-early s x (k .0) (l .0)), below-late 0 (suc s) x (l .1))
   ])
   | inr k ↦ rw (k .0) (omega (arith, early-many s m h xs, within-yes (early s) m x (early-row s x (positive (x .ticket) (k .1)))))
 ]
-  where
-    positive : (n : ℕ) → n ≢ 0 → 1 ≤ n
-    positive n h = omega arith
 
 -- where the run's border comes by s, no slot is left after it
 pub none-at : (s m : ℕ) → m ≤ s → (xs : List Row) → All (λ x. Of (early s) x → x .due < m) xs → num 0 (suc s) xs ≡ num 0 s xs

@@ -1,6 +1,6 @@
 -- Substitutes from the plan's rows alone. Assumes nothing.
 use mathlib.Core.Path.{_≡_, sym, ap, _∙_, subst}
-use mathlib.Core.Logic.{_⊎_, inl, inr, _≢_}
+use mathlib.Core.Logic.{_⊎_, inl, inr}
 use mathlib.Core.Bool.{true, false, true≢false}
 use mathlib.Core.List.{List, []}
 use Prim.Native.Nat.{ℕ, suc, _+_, _*_, _-_, _≤_, _<_}
@@ -8,7 +8,7 @@ use native.Mathlib.Omega.{arith}
 use borrow.Author.Tests.{le-leb, lt-leb, eq-eqb}
 use Rattle.rules.specs.Rows.{Row, Round, blank, heavier, In}
 use Rattle.rules.specs.Plan.{plan, in-plan, tight-after, segment-start, mark-in, mark, first-end, lightest-by, heaviest-outside, substitute}
-use Rattle.theory.specs.Tests.{leb?, ltb?, eqb?}
+use Rattle.theory.specs.Tests.{positive, leb?, ltb?, eqb?}
 use Rattle.theory.specs.All.{all-in, all-of-in, Is-blank, blank-ticket, blank-weight, blank-is}
 use Rattle.theory.specs.Order.{Not-over, over-absurd, not-over-both, heavier-yes, heavier-no, not-over-heavier, not-over-weight}
 use Rattle.theory.specs.Feas.{below, below-yes, below-late, below-mono}
@@ -28,9 +28,9 @@ pub idle-blank : (μ : Row → ℕ) (x : Row) → x .ticket ≡ 0 → idle μ x 
 unfolding idle
 idle-blank μ x e = rw (eq-eqb (x .ticket) 0 e)
 
-pub first-from : (r : Round) → Fine r → r .slot ≤ r .last → r .slot ≤ first-end r (plan r)
+pub first-end-from : (r : Round) → Fine r → r .slot ≤ r .last → r .slot ≤ first-end r (plan r)
 unfolding first-end
-first-from r f o = next r (plan r) (r .slot) o (plan-full r f) .from
+first-end-from r f o = next r (plan r) (r .slot) o (plan-full r f) .from
 
 -- a member due by the first segment's end that no member due by it is lighter than
 pub record Lightest-of (r : Round) (x : Row) : Type 0 where
@@ -135,7 +135,7 @@ module _ (r : Round) (f : Fine r) (rs : List Row) (c : Rows r rs) where
       ] in
       elim (member? r f rs c x (l .inside)) [
         | inl a ↦ first-blank o x (l .inside) a (l .by)
-        | inr a ↦ absurd (omega (arith, e, of-rows-fine r f rs c x a .2, not-over-weight x (y .0) (l .least (y .0) (y .1) (omega (arith, y .3, first-from r f o)))))
+        | inr a ↦ absurd (omega (arith, e, of-rows-fine r f rs c x a .2, not-over-weight x (y .0) (l .least (y .0) (y .1) (omega (arith, y .3, first-end-from r f o)))))
       ]
 
   -- else the lightest row due by it
@@ -192,9 +192,6 @@ module _ (r : Round) (f : Fine r) (rs : List Row) (c : Rows r rs) where
         let v = first-vacant o (positive (least-from r rs (r .slot)) (a .1)) in
         absurd (omega (arith, v .0, v .1 x j, k))
   ]
-    where
-      positive : (n : ℕ) → n ≢ 0 → 1 ≤ n
-      positive n h = omega arith
 
   -- DUE LATER: the heaviest row outside the plan that is due from the segment's start on
   pub later-row : (p : Row) → first-end r (plan r) < p .due → (x : Row) → In x (r .rows) → in-plan x rs ≡ false → segment-start r (plan r) (p .due) ≤ x .due →

@@ -10,7 +10,7 @@ use borrow.Author.Tests.{leb-true, le-leb, ne-eqb}
 use Rattle.rules.specs.Rows.{Row, Round, chosen, rows-only, All, In}
 use Rattle.rules.specs.Plan.{plan}
 use Rattle.rules.specs.Demands.{member, in-time}
-use Rattle.theory.specs.Tests.{either, ltb?, eqb?, and-true, not-true′, one-if}
+use Rattle.theory.specs.Tests.{positive, either, ltb?, eqb?, and-true, not-true′, one-if}
 use Rattle.theory.specs.Sum.{sum, sum-le}
 use Rattle.theory.specs.All.{ticketless-blanks, all-map, all-in, all-of-in}
 use Rattle.theory.specs.Feas.{below, below?, num, below-yes, Feas}
@@ -249,9 +249,6 @@ all-rows-only P (x ∷ xs) a =
       | inl e ↦ rw (e .0) (all-rows-only P xs (a .1))
       | inr e ↦ rw (e .0) ((positive (x .ticket) (e .1), a .0), all-rows-only P xs (a .1))
     ]
-  where
-    positive : (n : ℕ) → n ≢ 0 → 1 ≤ n
-    positive n h = omega arith
 
 abbrev pub ticks : ℕ → Row → ℕ
 ticks k x = is k (x .ticket)

@@ -1,7 +1,7 @@
 -- A selection of the rows is the plan's exactly if it is feasible and each row left out has a filled stretch of heavier members past its due slot. Assumes nothing.
 use mathlib.Core.Path.{_≡_, refl, sym, ap, ap₂, _∙_, subst}
 use mathlib.Core.Logic.{_⊎_, inl, inr, _≢_}
-use mathlib.Core.Bool.{Bool, true, false, _||_, cond, true≢false, false≢true}
+use mathlib.Core.Bool.{Bool, true, false, _||_, cond, true≢false}
 use mathlib.Core.List.{List, [], _∷_, _++_}
 use Prim.Native.Nat.{ℕ, zero, suc, _+_, _-_, _≤_, _<_}
 use native.Mathlib.Omega.{arith}
@@ -14,12 +14,12 @@ use Rattle.rules.specs.PlanM.{Member}
 use Rattle.theory.specs.Tests.{either, leb?}
 use Rattle.theory.specs.Sum.{sum, sum-le, sum-sorted}
 use Rattle.theory.specs.All.{blank-weight, ticketless-blanks, all-map, all-in, all-sorted, all-kept, all-of-in}
-use Rattle.theory.specs.Order.{Not-over, heavier?, over-absurd, Ordered, ordered-sorted, not-over-both}
+use Rattle.theory.specs.Order.{Not-over, heavier?, over-absurd, Ordered, ordered-sorted}
 use Rattle.theory.specs.Feas.{below, num, below-yes, below-late, due-below, Feas, feas-yes, feas-made}
 use Rattle.theory.specs.Full.{plan-members, Fine, Row-fine, Rising, blanks}
 use Rattle.theory.specs.Change.{rising-same, rising-above, kept-keeps, row-outside, in-sorted}
 use Rattle.theory.specs.Times.{all-chosen}
-use Rattle.theory.specs.Border.{within, within-yes, within-no, many, from-row, over-light, outside-by-order}
+use Rattle.theory.specs.Border.{from-row-over, within, within-yes, within-no, many, from-row, over-light, outside-by-order}
 use Rattle.theory.specs.Same.{Same, in-plan?, of-plan, of-yes, of-no, of-chosen, row-ticket, planned-same, planned-feas, chosen-in, sum-of-rows}
 
 -- THE CERTIFICATE of a row left out: a slot from its due slot on, filled up to it by members that are heavier
@@ -306,18 +306,8 @@ plan-out r f x i n =
         sum-le (within (from-row x) e) (below 0 e) (within-below (from-row x) e) (planned r),
       );
       heavy = all-of-in (λ y. y .due ≤ e - 1 → heavier y x ≡ true) (planned r) (λ y j h.
-          over y j (all-in (λ y. y .due < e → from-row x y ≡ true) y (planned r) (all-within (from-row x) e (planned r) (omega (arith, k, m))) j (omega (arith, h, z))));
+          from-row-over x y (λ q. true≢false (sym (in-planned r y j) ∙ in-plan-ticket y x (plan r) (sym q) ∙ n)) (all-in (λ y. y .due < e → from-row x y ≡ true) y (planned r) (all-within (from-row x) e (planned r) (omega (arith, k, m))) j (omega (arith, h, z))));
     }
-  where
-    over : (y : Row) → In y (planned r) → from-row x y ≡ true → heavier y x ≡ true
-    over y j h =
-        elim (heavier? y x) [
-          | inl a ↦ a .0
-          | inr a ↦ elim (heavier? x y) [
-            | inl b ↦ let q : false ≡ true = (rw (b .0) at h) in absurd (false≢true q)
-            | inr b ↦ absurd (true≢false (sym (in-planned r y j) ∙ in-plan-ticket y x (plan r) (not-over-both y x (a .1) (b .1)) ∙ n))
-          ]
-        ]
 
 pub plan-certified : (r : Round) → Fine r → Certified r (flags (plan r) (r .rows))
 unfolding planned

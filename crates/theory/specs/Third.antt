@@ -34,8 +34,8 @@ pub plan-over : (r : Round) → Fine r → r .last < r .slot → (plan r ≡ [])
 unfolding slots-left total total-weight
 plan-over r f h = let e = empty (plan r) (omega (arith, plan-length r f .0)) in (e, rw e)
 
-pub point : (r : Round) → Sane r → Point r (table r)
-point r s =
+pub point-holds : (r : Round) → Sane r → Point r (table r)
+point-holds r s =
     let f = s .fine in
     record {
       bytes = refl;

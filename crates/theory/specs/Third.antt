@@ -173,7 +173,7 @@ unfolding Demand-three round-refusal
 demand-three t k l cs e h i j =
     record {
       opens = opening-answers t k l e h i j;
-      points = λ xs ys _. rw (run-at t k l e h i j xs) (point (at k l xs) (at-sane t k l e h i j xs));
+      points = λ xs ys _. rw (run-at t k l e h i j xs) (point-holds (at k l xs) (at-sane t k l e h i j xs));
       marks = λ xs ys zs s _ n a b. marks-between k l xs ys s (at-sane t k l e h i j xs) n a b;
       newcomers = λ xs ys d w _ a. rw (at-taken k l xs d w a)
           (newcomer (at k l xs) (at-sane t k l e h i j xs .fine) d w (takes (at k l xs) d w a));

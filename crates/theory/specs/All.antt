@@ -1,24 +1,15 @@
 -- Facts of every row of a list, rows in a list, falling weights. Assumes nothing.
-use mathlib.Core.Path.{_≡_, refl, sym, ap, _∙_, subst}
-use mathlib.Core.Logic.{_⊎_, inl, inr}
-use mathlib.Core.Bool.{Bool, true, false, _&&_, _||_, not, cond}
+use mathlib.Core.Path.{_≡_, refl, sym, ap, subst}
+use mathlib.Core.Logic.{inl, inr}
+use mathlib.Core.Bool.{Bool}
 use mathlib.Core.List.{List, [], _∷_, _++_}
-use Prim.Native.Nat.{ℕ, zero, suc, _+_, _*_, _-_, _≤_, _<_}
+use Prim.Native.Nat.{ℕ, zero, suc, _+_, _≤_, _<_}
 use native.Mathlib.Omega.{arith}
-use lib.Dec.{ltb, leb, eqb}
-use lib.ListN.{length, replicate}
-use Rattle.rules.specs.Rows.{Row, Round, blank, heavier, into, sorted}
+use lib.ListN.{replicate}
+use Rattle.rules.specs.Rows.{Row, Round, blank, into, sorted, All, In}
 use Rattle.rules.specs.Plan.{feasible, kept, blanks-from}
-use Rattle.theory.specs.Tests.{either, leb?, ltb?, eqb?, one-if}
+use Rattle.theory.specs.Tests.{either}
 use Rattle.theory.specs.Sum.{rejected}
-
-abbrev pub All : (Row → Type 0) → List Row → Type 0
-All P [] = Unit {0}
-All P (x ∷ xs) = P x × All P xs
-
-abbrev pub In : Row → List Row → Type 0
-In x [] = ⊥
-In x (y ∷ ys) = (x ≡ y) ⊎ In x ys
 
 pub all-map : {P Q : Row → Type 0} → ((x : Row) → P x → Q x) → (xs : List Row) → All P xs → All Q xs
 all-map h [] a = tt
@@ -28,6 +19,14 @@ pub all-in : (P : Row → Type 0) (x : Row) (xs : List Row) → All P xs → In 
 all-in P x [] a i = absurd i
 all-in P x (y ∷ ys) a (inl e) = subst P (sym e) (a .0)
 all-in P x (y ∷ ys) a (inr i) = all-in P x ys (a .1) i
+
+pub all-of-in : (P : Row → Type 0) (xs : List Row) → ((x : Row) → In x xs → P x) → All P xs
+all-of-in P [] h = tt
+all-of-in P (x ∷ xs) h = (h x (inl refl), all-of-in P xs (λ y i. h y (inr i)))
+
+pub in-mid : (x : Row) (xs ys : List Row) → In x (xs ++ (x ∷ ys))
+in-mid x [] ys = inl refl
+in-mid x (z ∷ zs) ys = inr (in-mid x zs ys)
 
 pub all-append : (P : Row → Type 0) (xs ys : List Row) → All P xs → All P ys → All P (xs ++ ys)
 all-append P [] ys a b = b
@@ -71,40 +70,6 @@ abbrev pub Falling : List Row → Type 0
 Falling [] = Unit {0}
 Falling (x ∷ xs) = All (λ y. y .weight ≤ x .weight) xs × Falling xs
 
-pub heavier-true : (a b : Row) → heavier a b ≡ true → b .weight ≤ a .weight
-unfolding heavier
-heavier-true a b e =
-    elim (ltb? (b .weight) (a .weight)) [
-      | inl h ↦ omega arith
-      | inr h ↦ elim (eqb? (a .weight) (b .weight)) [
-        | inl k ↦ omega arith
-        | inr k ↦ let z : false ≡ true = (rw (h .0, k .0) at e) in absurd (mathlib.Core.Bool.false≢true z)
-      ]
-    ]
-
-pub heavier-false : (a b : Row) → heavier a b ≡ false → a .weight ≤ b .weight
-unfolding heavier
-heavier-false a b e =
-    elim (ltb? (b .weight) (a .weight)) [
-      | inl h ↦ let z : true ≡ false = (rw (h .0) at e) in absurd (mathlib.Core.Bool.true≢false z)
-      | inr h ↦ omega arith
-    ]
-
-pub falling-into : (x : Row) (ys : List Row) → Falling ys → Falling (into heavier x ys)
-unfolding into
-falling-into x [] f = (tt, tt)
-falling-into x (y ∷ ys) f =
-    elim (either (heavier x y)) [
-      | inl e ↦ rw e
-          ((heavier-true x y e, all-map (λ z (h : z .weight ≤ y .weight). omega (arith, heavier-true x y e)) ys (f .0)), f)
-      | inr e ↦ rw e (all-into (λ z. z .weight ≤ y .weight) heavier x ys (heavier-false x y e) (f .0), falling-into x ys (f .1))
-    ]
-
-pub falling-sorted : (xs : List Row) → Falling (sorted heavier xs)
-unfolding sorted
-falling-sorted [] = tt
-falling-sorted (x ∷ xs) = falling-into x (sorted heavier xs) (falling-sorted xs)
-
 -- rows without weight may follow
 abbrev pub Light : List Row → Type 0
 Light = All (λ x. x .weight ≤ 0)
@@ -120,9 +85,37 @@ falling-append (x ∷ xs) ys f l = (
   falling-append xs ys (f .1) l,
 )
 
+-- BLANKS
+abbrev pub Is-blank : Row → Type 0
+Is-blank x = x ≡ blank (x .due)
+
+pub blank-ticket : (x : Row) → Is-blank x → x .ticket ≡ 0
+unfolding blank
+blank-ticket x e = ap (λ (y : Row). y .ticket) e
+
+pub blank-weight : (x : Row) → Is-blank x → x .weight ≡ 0
+unfolding blank
+blank-weight x e = ap (λ (y : Row). y .weight) e
+
+pub blank-is : (s : ℕ) → Is-blank (blank s)
+unfolding blank
+blank-is s = refl
+
+pub due-of-blank : (s : ℕ) → blank s .due ≡ s
+unfolding blank
+due-of-blank s = refl
+
+pub all-blanks : (P : Row → Type 0) (n s k : ℕ) → ((d : ℕ) → s ≤ d → d < s + n → P (blank d)) → All P (blanks-from n s k)
+unfolding blanks-from
+all-blanks P zero s k h = tt
+all-blanks P (suc n) s k h =
+    all-append P (replicate k (blank s)) (blanks-from n (suc s) k) (all-replicate P k (blank s) (h s (omega arith) (omega arith)))
+    (all-blanks P n (suc s) k (λ d a b. h d (omega arith) (omega arith)))
+
 pub light-blanks : (n s k : ℕ) → Light (blanks-from n s k)
-unfolding blanks-from blank
-light-blanks zero s k = tt
-light-blanks (suc n) s k =
-    all-append (λ x. x .weight ≤ 0) (replicate k (blank s)) (blanks-from n (suc s) k)
-    (all-replicate (λ x. x .weight ≤ 0) k (blank s) (omega arith)) (light-blanks n (suc s) k)
+unfolding blank
+light-blanks n s k = all-blanks (λ x. x .weight ≤ 0) n s k (λ d a b. omega arith)
+
+pub ticketless-blanks : (n s k : ℕ) → All (λ x. x .ticket ≡ 0) (blanks-from n s k)
+unfolding blank
+ticketless-blanks n s k = all-blanks (λ x. x .ticket ≡ 0) n s k (λ d a b. refl)

@@ -1,24 +1,24 @@
 -- Tables read back. Assumes nothing.
-use mathlib.Core.Path.{_≡_, refl, sym, ap, ap₂, _∙_, subst}
-use mathlib.Core.Logic.{_⊎_, inl, inr, _≢_}
-use mathlib.Core.Bool.{Bool, true, false, _&&_, _||_, not, cond, true≢false, false≢true}
+use mathlib.Core.Path.{_≡_, refl, ap₂}
+use mathlib.Core.Logic.{inl, inr}
+use mathlib.Core.Bool.{true, _&&_, _||_, not, cond}
 use mathlib.Core.List.{List, [], _∷_, _++_}
-use Prim.Native.Nat.{ℕ, zero, suc, _+_, _*_, _-_, _/_, _%_, _^_, _≤_, _<_, min, max}
+use Prim.Native.Nat.{ℕ, zero, suc, _+_, _*_, _-_, _/_, _%_, _≤_, _<_, max, _^_}
 use native.Mathlib.Omega.{arith}
 use native.Mathlib.Nat.{pow-suc}
 use lib.Dec.{ltb, leb, eqb}
-use borrow.Author.Tests.{ltb-true, ltb-false, leb-true, leb-false, eqb-true, eqb-false, le-leb, lt-ltb, le-ltb, eq-eqb, ne-eqb}
-use lib.ListN.{length, take, drop, replicate, length-append, length-replicate}
-use Rattle.rules.specs.Rows.{Row, Round, heavier, sorted, blank, round, row, All, In}
-use Rattle.rules.specs.Plan.{in-plan, blanks-from, lightest-by, sends-before, best-from, plan, best, first-end, tight-after, mark-in, substitute, heaviest-outside, segment-start}
+use borrow.Author.Tests.{ltb-false, leb-false, eqb-true, eqb-false, le-leb, lt-ltb, eq-eqb}
+use lib.ListN.{length, drop, replicate, length-append, length-replicate}
+use Rattle.rules.specs.Rows.{Row, Round, heavier, blank, round, row, All}
+use Rattle.rules.specs.Plan.{in-plan, lightest-by, sends-before, best-from, plan, best, first-end, tight-after, mark-in, substitute, heaviest-outside, segment-start}
 use Rattle.rules.specs.Steps.{opened, taken, sent, without, changed, still-due, leapt, replaced, shifted, heaviest-between}
 use Rattle.rules.specs.Table.{low, value, field, row-bytes, rows-bytes, table, rows-in, round-in, length-good, rows-good, round-good, same, table-refusal, rows-of}
 use Rattle.rules.specs.Calls.{Call, opening, taking, sending, open-refusal, take-refusal, send-refusal, mark-refusal, marking, totalling, round-refusal, leaves, next-round}
-use Rattle.theory.specs.Tests.{either, leb?, ltb?, eqb?, pick}
-use Rattle.theory.specs.All.{all-map, all-in, all-append, all-kept, all-sorted, all-replicate}
+use Rattle.theory.specs.Tests.{either, pick}
+use Rattle.theory.specs.All.{all-map, all-append}
+use Rattle.theory.specs.Full.{plan-all, Fine, Row-fine, Rising}
 use Rattle.theory.specs.Change.{all-changed, all-without, all-still}
-use Rattle.theory.specs.Full.{Fine, Row-fine, Rising, pool, blanks}
-use Rattle.theory.specs.Calls.{no-refusal, or-false}
+use Rattle.theory.specs.Calls.{no-refusal}
 
 pub value-low : (n v : ℕ) → v < 256 ^ n → value (low n v) ≡ v
 unfolding value low
@@ -251,21 +251,12 @@ small-replaced n r ps p s xs k q =
     (λ _. small-without n (p .ticket) _
     (small-changed n (s .ticket) (row (s .ticket) (s .due) (mark-in r ps (s .due)) (s .kind)) xs k q))
 
-pub all-blanks : (P : Row → Type 0) → ((s : ℕ) → P (blank s)) → (n s k : ℕ) → All P (blanks-from n s k)
-unfolding blanks-from
-all-blanks P h zero s k = tt
-all-blanks P h (suc n) s k =
-    all-append P (replicate k (blank s)) (blanks-from n (suc s) k) (all-replicate P k (blank s) (h s)) (all-blanks P h n (suc s) k)
-
 pub blank-kind : (s : ℕ) → Kind (blank s)
 unfolding blank
 blank-kind s = omega arith
 
 pub plan-kinds : (r : Round) → All Kind (r .rows) → All Kind (plan r)
-unfolding plan
-plan-kinds r a =
-    all-kept Kind r (pool r) []
-    (all-append Kind (sorted heavier (r .rows)) (blanks r) (all-sorted Kind heavier (r .rows) a) (all-blanks Kind blank-kind _ _ _)) tt
+plan-kinds r a = plan-all Kind r a (λ s h k. blank-kind s)
 
 pub best-from-all : (P : Row → Type 0) (r : Round) (ps xs : List Row) (b : Row) → P b → All P xs → P (best-from r ps xs b)
 unfolding best-from

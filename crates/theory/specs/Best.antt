@@ -7,23 +7,23 @@ use Prim.Native.Nat.{ℕ, suc, _-_, _≤_, _<_}
 use native.Mathlib.Omega.{arith}
 use lib.Dec.{leb, eqb}
 use lib.ListN.{length}
-use borrow.Author.Tests.{le-leb, le-ltb, eq-eqb, ne-eqb}
+use borrow.Author.Tests.{le-leb, eq-eqb, ne-eqb}
 use Rattle.rules.specs.Rows.{Row, Round, blank, heavier, canonical, slots-left, All, In}
 use Rattle.rules.specs.Plan.{plan, due-by, first-end, segment-start, heaviest-outside, substitute, sends-before, best-from, best, planned}
 use Rattle.rules.specs.Steps.{is-ordinary}
 use Rattle.theory.specs.Tests.{leb?, ltb?, eqb?}
-use Rattle.theory.specs.All.{all-in}
+use Rattle.theory.specs.All.{all-in, all-of-in, Is-blank, blank-ticket, blank-is}
+use Rattle.theory.specs.Order.{Not-over, Not-before, canonical?, canonical-no, not-before-canonical, before-not, not-before-self, not-before-due, not-before-trans, not-before-both, heavier-no}
 use Rattle.theory.specs.Full.{Fine, Row-fine, plan-length}
-use Rattle.theory.specs.Change.{rising-same, all-of-in}
-use Rattle.theory.specs.Order.{Not-over}
-use Rattle.theory.specs.Same.{Not-before, canonical?, not-before-trans, not-before-both, in-plan?, row-ticket}
+use Rattle.theory.specs.Change.{rising-same}
+use Rattle.theory.specs.Same.{in-plan?, row-ticket}
 use Rattle.theory.specs.Score.{score-of, sends-by-score}
 use Rattle.theory.specs.Unique.{plan-out}
-use Rattle.theory.specs.Slack.{idlers-is, with-blank, slack, slack-some, least-here, tight-after-is, first-from as search-from}
+use Rattle.theory.specs.Slack.{idlers-is, with-blank, slack, slack-some, least-here, tight-after-is, first-from}
 use Rattle.theory.specs.Keys.{pick-key, pick-less, pick-same}
-use Rattle.theory.specs.Members.{Is-blank, blank-ticket, blank-is, heavier-no, not-over-heavier, Rows, planned-rows, of-rows-in, of-rows-ticket, of-rows-fine, member-found, found-member, member?}
+use Rattle.theory.specs.Members.{Rows, planned-rows, of-rows-in, of-rows-ticket, of-rows-fine, member-found, found-member, member?}
 use Rattle.theory.specs.Top.{Top, top-pick}
-use Rattle.theory.specs.Substitute.{first-from, first-weight, first-blank, later-is, score-blank, score-row}
+use Rattle.theory.specs.Substitute.{first-end-from, first-weight, first-blank, later-is, score-blank, score-row}
 
 -- q doesn't go before p
 abbrev pub Beaten : Round → Row → Row → Type 0
@@ -41,18 +41,6 @@ beaten-both r a b (inl h) (inr k) = absurd (omega (arith, k .0))
 beaten-both r a b (inr h) (inl k) = absurd (omega (arith, h .0))
 beaten-both r a b (inr h) (inr k) = not-before-both a b (h .1) (k .1)
 
-pub not-before-self : (x : Row) → Not-before x x
-not-before-self x = inr (refl, inr (refl, inr (refl, omega arith)))
-
--- canonical order is strict
-pub canonical-no : (q p : Row) → Not-before q p → canonical q p ≡ false
-unfolding canonical
-canonical-no q p (inl h) = rw (le-ltb (q .due) (p .due) (omega arith), ne-eqb (q .due) (p .due) (λ e. omega (arith, e)))
-canonical-no q p (inr h) = rw (le-ltb (q .due) (p .due) (omega (arith, h .0)), eq-eqb (q .due) (p .due) (h .0)) (not-over-heavier q p (h .1))
-
-pub canonical-not : (q p : Row) → canonical q p ≡ false → Not-before q p
-canonical-not q p e = elim (canonical? q p) [ inl d ↦ absurd (true≢false (sym (d .0) ∙ e)) | inr d ↦ d .1 ]
-
 pub none-slack : (r : Round) (u : ℕ) → slack r [] u ≡ suc u - r .slot
 unfolding slack due-by
 none-slack r u = omega arith
@@ -67,7 +55,7 @@ sends? r f p q i j =
       | inl h ↦ inl (e ∙ rw (h .0), inl (h .1))
       | inr h ↦ elim (eqb? a b) [
         | inl k ↦ elim (canonical? p q) [
-          | inl l ↦ inl (e ∙ rw (h .0, k .0, l .0), inr (sym (k .1), l .1))
+          | inl l ↦ inl (e ∙ rw (h .0, k .0, l .0), inr (sym (k .1), before-not p q (l .1)))
           | inr l ↦ inr (e ∙ rw (h .0, k .0, l .0), inr (k .1, l .1))
         ]
         | inr k ↦ let n = k .1 in inr (e ∙ rw (h .0, k .0), inl (omega (arith, h .1)))
@@ -156,8 +144,8 @@ module _ (r : Round) (f : Fine r) (o : r .slot ≤ r .last) (rs : List Row) (c :
       (z .0, member-found r f rs c (z .0) (found-member r f (planned r) d (z .0) (z .1)) (of-rows-ticket r f (planned r) d (z .0) (z .1)))
 
   -- SILENCE without rows
-  pub silence : r .rows ≡ [] → best r (plan r) ≡ blank (r .slot)
-  silence e =
+  pub silent-best : r .rows ≡ [] → best r (plan r) ≡ blank (r .slot)
+  silent-best e =
       let p = best r (plan r) in
       let g : Goes r p = best-goes r f o in
       let none : (x : Row) → In x (plan r) → Is-blank x = λ x i. elim (member? r f rs c x i) [
@@ -176,7 +164,7 @@ module _ (r : Round) (f : Fine r) (o : r .slot ≤ r .last) (rs : List Row) (c :
       let by = none (y .0) (y .1) in
       first-blank r f rs c o p (g .inside) bp (elim (g .first (y .0) (y .1)) [
         | inl a ↦ absurd (omega (arith, a, score-blank r f rs c o p (g .inside) bp))
-        | inr a ↦ omega (arith, y .3, first-from r f o, not-before-due (y .0) p (a .1))
+        | inr a ↦ omega (arith, y .3, first-end-from r f o, not-before-due (y .0) p (a .1))
       ])
     where
       empty : (zs : List Row) → All (λ y. In y (r .rows)) zs → r .rows ≡ [] → zs ≡ []
@@ -185,10 +173,6 @@ module _ (r : Round) (f : Fine r) (o : r .slot ≤ r .last) (rs : List Row) (c :
 
       empty-slack : (zs : List Row) → zs ≡ [] → (u : ℕ) → slack r zs u ≡ suc u - r .slot
       empty-slack zs d u = ap (λ (ws : List Row). slack r ws u) d ∙ none-slack r u
-
-      not-before-due : (z x : Row) → Not-before z x → x .due ≤ z .due
-      not-before-due z x (inl h) = omega arith
-      not-before-due z x (inr h) = omega (arith, h .0)
 
   -- A ROW goes where there are rows
   pub best-row : (x : Row) → In x (r .rows) → In (best r (plan r)) rs
@@ -216,7 +200,7 @@ module _ (r : Round) (f : Fine r) (o : r .slot ≤ r .last) (rs : List Row) (c :
     where
       beaten : (q : Row) → (score-of r q < score-of r p) ⊎ ((score-of r q ≡ score-of r p) × (canonical q p ≡ false)) → Beaten r q p
       beaten q (inl a) = inl a
-      beaten q (inr a) = inr (a .0, elim (canonical? q p) [ inl d ↦ absurd (true≢false (sym (d .0) ∙ a .1)) | inr d ↦ d .1 ])
+      beaten q (inr a) = inr (a .0, canonical-no q p (a .1))
 
   -- and it beats every other row
   pub best-beats : (q : Row) → In q rs → q .ticket ≢ best r (plan r) .ticket →
@@ -233,7 +217,7 @@ module _ (r : Round) (f : Fine r) (o : r .slot ≤ r .last) (rs : List Row) (c :
   pub same-due : (p q : Row) → In p rs → In q rs → p .due ≡ q .due → substitute r (plan r) p .weight ≡ substitute r (plan r) q .weight
   same-due p q i j e = elim (leb? (p .due) (first-end r (plan r))) [
     | inl h ↦ first-weight r f p (found-member r f rs c p i) (h .1) ∙ sym (first-weight r f q (found-member r f rs c q j) (omega (arith, h .1, e)))
-    | inr h ↦ ap (λ (z : Row). z .weight) (later-is r f rs c p (h .1) ∙ ap (λ d. heaviest-outside (segment-start r (plan r) d) (r .rows) (plan r) (blank (segment-start r (plan r) d))) e ∙ sym (later-is r f rs c q (omega (arith, h .1, e))))
+    | inr h ↦ ap (λ (z : Row). z .weight) (later-is r p (h .1) ∙ ap (λ d. heaviest-outside (segment-start r (plan r) d) (r .rows) (plan r) (blank (segment-start r (plan r) d))) e ∙ sym (later-is r q (omega (arith, h .1, e))))
   ]
 
   -- BY ONE KEY: the score, then the earlier due slot; of equal keys the smaller ticket
@@ -252,12 +236,12 @@ module _ (r : Round) (f : Fine r) (o : r .slot ≤ r .last) (rs : List Row) (c :
           (score-of r q < score-of r p) ⊎ ((score-of r q ≡ score-of r p) × (canonical q p ≡ false))
       one q j (inl a) = elim (pick-less (score-of r q) (q .due) (score-of r p) (p .due) (by-due q j) (by-due p i) a) [
         | inl b ↦ inl b
-        | inr b ↦ inr (b .0, canonical-no q p (inl (b .1)))
+        | inr b ↦ inr (b .0, not-before-canonical q p (inl (b .1)))
       ]
       one q j (inr a) =
           let b = pick-same (score-of r q) (q .due) (score-of r p) (p .due) (by-due q j) (by-due p i) (a .0) in
           let w : q .weight ≡ p .weight = omega (arith, b .0, same-due q p j i (b .1)) in
-          inr (b .0, canonical-no q p (inr (b .1, inr (w, inr (b .1, a .1)))))
+          inr (b .0, not-before-canonical q p (inr (b .1, inr (w, inr (b .1, a .1)))))
 
   -- BY SEGMENTS: of rows whose substitutes weigh the same, only the heaviest counts
   pub heaviest-beats : (p q : Row) → substitute r (plan r) q .weight ≡ substitute r (plan r) p .weight → heavier q p ≡ false →
@@ -267,8 +251,8 @@ module _ (r : Round) (f : Fine r) (o : r .slot ≤ r .last) (rs : List Row) (c :
     where
       one : Not-over q p → (score-of r q < score-of r p) ⊎ ((score-of r q ≡ score-of r p) × (canonical q p ≡ false))
       one (inl a) = inl (omega (arith, a, e))
-      one (inr (a, inl b)) = inr (omega (arith, a, e), canonical-no q p (inl b))
-      one (inr (a, inr b)) = inr (omega (arith, a, e), canonical-no q p (inr (b .0, inr (a, inr b))))
+      one (inr (a, inl b)) = inr (omega (arith, a, e), not-before-canonical q p (inl b))
+      one (inr (a, inr b)) = inr (omega (arith, a, e), not-before-canonical q p (inr (b .0, inr (a, inr b))))
 
   pub first-same : (p q : Row) → In p rs → In q rs → p .due ≤ first-end r (plan r) → q .due ≤ first-end r (plan r) →
       substitute r (plan r) q .weight ≡ substitute r (plan r) p .weight
@@ -277,14 +261,14 @@ module _ (r : Round) (f : Fine r) (o : r .slot ≤ r .last) (rs : List Row) (c :
   pub later-same : (p q : Row) → first-end r (plan r) < p .due → first-end r (plan r) < q .due → segment-start r (plan r) (p .due) ≡ segment-start r (plan r) (q .due) →
       substitute r (plan r) q ≡ substitute r (plan r) p
   later-same p q h k e =
-      later-is r f rs c q k ∙ ap (λ b. heaviest-outside b (r .rows) (plan r) (blank b)) (sym e) ∙ sym (later-is r f rs c p h)
+      later-is r q k ∙ ap (λ b. heaviest-outside b (r .rows) (plan r) (blank b)) (sym e) ∙ sym (later-is r p h)
 
   -- of rows due in different slots the earlier one, if its score is no less
   pub earlier-beats : (p q : Row) → p .due < q .due → score-of r q ≤ score-of r p →
       (score-of r q < score-of r p) ⊎ ((score-of r q ≡ score-of r p) × (canonical q p ≡ false))
   earlier-beats p q h k = elim (ltb? (score-of r q) (score-of r p)) [
     | inl a ↦ inl (a .1)
-    | inr a ↦ inr (omega (arith, a .1, k), canonical-no q p (inl h))
+    | inr a ↦ inr (omega (arith, a .1, k), not-before-canonical q p (inl h))
   ]
 
   pub beats-trans : (p q z : Row) → (score-of r q < score-of r p) ⊎ ((score-of r q ≡ score-of r p) × (canonical q p ≡ false)) →
@@ -293,7 +277,7 @@ module _ (r : Round) (f : Fine r) (o : r .slot ≤ r .last) (rs : List Row) (c :
   beats-trans p q z (inl a) (inl b) = inl (omega arith)
   beats-trans p q z (inl a) (inr b) = inl (omega (arith, b .0))
   beats-trans p q z (inr a) (inl b) = inl (omega (arith, a .0))
-  beats-trans p q z (inr a) (inr b) = inr (omega (arith, a .0, b .0), canonical-no z p (not-before-trans z q p (canonical-not z q (b .1)) (canonical-not q p (a .1))))
+  beats-trans p q z (inr a) (inr b) = inr (omega (arith, a .0, b .0), not-before-canonical z p (not-before-trans z q p (canonical-no z q (b .1)) (canonical-no q p (a .1))))
 
   -- the kind of step
   pub ordinary-is : (p : Row) → best r (plan r) ≡ p → is-ordinary r ≡ leb (p .due) (first-end r (plan r))
@@ -302,14 +286,14 @@ module _ (r : Round) (f : Fine r) (o : r .slot ≤ r .last) (rs : List Row) (c :
 
   pub silence-ordinary : r .rows ≡ [] → is-ordinary r ≡ true
   unfolding blank
-  silence-ordinary e = ordinary-is (blank (r .slot)) (silence e) ∙ le-leb (r .slot) (first-end r (plan r)) (first-from r f o)
+  silence-ordinary e = ordinary-is (blank (r .slot)) (silent-best e) ∙ le-leb (r .slot) (first-end r (plan r)) (first-end-from r f o)
 
   -- silence just where there are no rows
   pub silence-is : eqb (best r (plan r) .ticket) 0 ≡ eqb (length (r .rows)) 0
   silence-is = of-rows (r .rows) refl
     where
       of-rows : (xs : List Row) → r .rows ≡ xs → eqb (best r (plan r) .ticket) 0 ≡ eqb (length xs) 0
-      of-rows [] e = eq-eqb (best r (plan r) .ticket) 0 (ap (λ (x : Row). x .ticket) (silence e) ∙ blank-ticket (blank (r .slot)) (blank-is (r .slot))) ∙ sym (eq-eqb 0 0 refl)
+      of-rows [] e = eq-eqb (best r (plan r) .ticket) 0 (ap (λ (x : Row). x .ticket) (silent-best e) ∙ blank-ticket (blank (r .slot)) (blank-is (r .slot))) ∙ sym (eq-eqb 0 0 refl)
       of-rows (x ∷ xs) e =
           let i : In (best r (plan r)) rs = best-row x (subst (λ (zs : List Row). In x zs) (sym e) (inl refl)) in
           let t = of-rows-ticket r f rs c (best r (plan r)) i in
@@ -323,6 +307,6 @@ module _ (r : Round) (f : Fine r) (o : r .slot ≤ r .last) (rs : List Row) (c :
       of-rows [] e = absurd (true≢false (sym (silence-ordinary e) ∙ n))
       of-rows (x ∷ xs) e = best-row x (subst (λ (zs : List Row). In x zs) (sym e) (inl refl))
 
-  pub first-end-is : first-end r (plan r) ≡ search-from (least-here r rs) (suc (r .last) - r .slot) (r .slot)
+  pub first-end-is : first-end r (plan r) ≡ first-from (least-here r rs) (suc (r .last) - r .slot) (r .slot)
   unfolding first-end
   first-end-is = tight-after-is r f rs (c .same) (r .slot) (omega arith) o

@@ -1,24 +1,22 @@
 -- Every round that a list of calls makes is sound; no mark sinks. Assumes nothing.
-use mathlib.Core.Path.{_≡_, refl, sym, ap, _∙_, subst}
-use mathlib.Core.Logic.{_⊎_, inl, inr}
-use mathlib.Core.Bool.{Bool, true, false, _&&_, _||_, not, cond, true≢false, false≢true}
+use mathlib.Core.Path.{_≡_, refl, _∙_}
+use mathlib.Core.Bool.{Bool, true, false, _||_, cond, true≢false}
 use mathlib.Core.List.{List, [], _∷_, _++_}
-use Prim.Native.Nat.{ℕ, zero, suc, _+_, _*_, _-_, _≤_, _<_, min, max}
+use Prim.Native.Nat.{ℕ, suc, _≤_}
 use native.Mathlib.Omega.{arith}
 use lib.Dec.{ltb, leb, eqb}
-use borrow.Author.Tests.{lt-ltb, ltb-true, ltb-false, leb-true, leb-false, eqb-true, eqb-false}
-use lib.ListN.{length, replicate}
+use borrow.Author.Tests.{lt-ltb, ltb-false, leb-true, leb-false, eqb-true, eqb-false}
 use Rattle.rules.specs.Limits.{most-last}
-use Rattle.rules.specs.Rows.{Row, Round, slots-left, round, row, All, In}
+use Rattle.rules.specs.Rows.{Row, Round, slots-left, round, row, In}
 use Rattle.rules.specs.Plan.{plan, first-end, best, mark}
 use Rattle.rules.specs.Steps.{opened, taken, sent, without, still-due, leapt}
 use Rattle.rules.specs.Calls.{Call, opening, taking, sending, marking, totalling, open-refusal, take-refusal, send-refusal, mark-refusal, round-refusal, leaves, next-round, after}
 use Rattle.rules.specs.Demands.{No-opening}
-use Rattle.theory.specs.Tests.{either, leb?, ltb?, eqb?, pick, and-true, not-true′}
-use Rattle.theory.specs.Sum.{sum, sum-append}
-use Rattle.theory.specs.All.{all-map, all-in, all-append}
+use Rattle.theory.specs.Tests.{pick}
+use Rattle.theory.specs.Sum.{sum-append}
+use Rattle.theory.specs.All.{all-map, all-append}
 use Rattle.theory.specs.Full.{Fine, Row-fine, Rising, plan-length}
-use Rattle.theory.specs.Marks.{box, Marked, mark-stays}
+use Rattle.theory.specs.Marks.{box, mark-stays}
 use Rattle.theory.specs.Change.{all-still, all-without, rising-still, rising-without, still-box}
 use Rattle.theory.specs.Send.{best-in, ordinary-fills}
 use Rattle.theory.specs.Leap.{Row-ok, Left, leapt-left, plain, rows-kept}

@@ -1,5 +1,5 @@
 -- A leap's shifts as one chain: each link the heaviest plan row due after the last end and by the substitute's. Assumes nothing.
-use mathlib.Core.Path.{_≡_, refl, sym, ap, _∙_, subst}
+use mathlib.Core.Path.{_≡_, sym, ap, _∙_, subst}
 use mathlib.Core.Logic.{inl, inr, _≢_}
 use mathlib.Core.Bool.{true, false}
 use mathlib.Core.List.{List, [], _∷_, _++_}
@@ -11,20 +11,18 @@ use Rattle.rules.specs.Rows.{Row, Round, blank, heavier, row, All, In}
 use Rattle.rules.specs.Plan.{plan, in-plan, tight-after, mark}
 use Rattle.rules.specs.Steps.{changed, heaviest-between, shifted}
 use Rattle.theory.specs.Tests.{either, ltb?}
-use Rattle.theory.specs.All.{all-map, all-in}
+use Rattle.theory.specs.All.{in-mid, all-map, all-in, blank-weight, blank-is}
+use Rattle.theory.specs.Order.{Not-over, over-absurd, over-not, over-over, not-over-both, heavier-yes, heavier-no, over-heavier, not-over-heavier, not-over-weight}
 use Rattle.theory.specs.Feas.{below, num, below-yes, below-late, below-mono, num-mono}
 use Rattle.theory.specs.Full.{Fine, Row-fine, plan-full}
-use Rattle.theory.specs.Marks.{Tight, Next, next}
+use Rattle.theory.specs.Marks.{Tight-in, Next, next}
 use Rattle.theory.specs.Change.{rising-same}
 use Rattle.theory.specs.Send.{between-count, next-by}
 use Rattle.theory.specs.Leap.{no-shift}
 use Rattle.theory.specs.Times.{sum-less}
-use Rattle.theory.specs.Order.{Not-over, over-absurd, over-not, over-over}
-use Rattle.theory.specs.Same.{not-over-both}
 use Rattle.theory.specs.Select.{plan-selection}
-use Rattle.theory.specs.Members.{blank-weight, blank-is, heavier-yes, heavier-no, over-heavier, not-over-heavier, Rows, of-rows-in, of-rows-fine, found-member, member?, in-plan-is}
+use Rattle.theory.specs.Members.{Rows, of-rows-in, of-rows-fine, found-member, member?, in-plan-is}
 use Rattle.theory.specs.Top.{heaviest}
-use Rattle.theory.specs.Substitute.{not-over-weight}
 
 -- THE HEAVIEST of the rows due after e and by g
 pub record Heaviest-in (rs : List Row) (e g : ℕ) (h : Row) : Type 0 where
@@ -132,7 +130,7 @@ module _ (r : Round) (f : Fine r) (rs : List Row) (c : Rows r rs) where
       (chain-after (tight-after r (plan r) (h .due)) g hs (k .1))
 
   -- A NEW STRETCH: the rows lighter than its heaviest leave the chain's end, and it is added
-  pub chain-extend : (e g g2 : ℕ) (ks ls : List Row) (m : Row) → e ≤ g → Tight r (plan r) g → Chain r rs e g (ks ++ ls) → Heaviest-in rs g g2 m →
+  pub chain-extend : (e g g2 : ℕ) (ks ls : List Row) (m : Row) → e ≤ g → Tight-in r (plan r) g → Chain r rs e g (ks ++ ls) → Heaviest-in rs g g2 m →
       tight-after r (plan r) (m .due) ≡ g2 → All (λ h. heavier h m ≡ true) ks → All (λ h. heavier m h ≡ true) ls → Chain r rs e g2 (ks ++ (m ∷ []))
   chain-extend e g g2 [] [] m l t k p q a b = (
     record {
@@ -189,14 +187,10 @@ module _ (r : Round) (f : Fine r) (rs : List Row) (c : Rows r rs) where
   pub chain-over : (e g : ℕ) (ks ls : List Row) (h m : Row) → Chain r rs e g (ks ++ (h ∷ ls)) → heavier h m ≡ true → All (λ x. heavier x m ≡ true) ks
   chain-over e g [] ls h m k q = tt
   chain-over e g (x ∷ ks) ls h m k q = (
-    over-heavier x m (over-over x h m (heavier-yes x h (all-in (λ y. heavier x y ≡ true) h (ks ++ (h ∷ ls)) (chain-falls e g x (ks ++ (h ∷ ls)) k) (in-mid ks)))
+    over-heavier x m (over-over x h m (heavier-yes x h (all-in (λ y. heavier x y ≡ true) h (ks ++ (h ∷ ls)) (chain-falls e g x (ks ++ (h ∷ ls)) k) (in-mid h ks ls)))
         (over-not h m (heavier-yes h m q))),
     chain-over (tight-after r (plan r) (x .due)) g ks ls h m (k .1) q,
   )
-    where
-      in-mid : (ws : List Row) → In h (ws ++ (h ∷ ls))
-      in-mid [] = inl refl
-      in-mid (w ∷ ws) = inr (in-mid ws)
 
   -- a slot's next tight one, found from an earlier slot on
   pub next-same : (s d g : ℕ) → Next r (plan r) s g → s ≤ d → d ≤ g → tight-after r (plan r) d ≡ g
@@ -218,7 +212,7 @@ module _ (r : Round) (f : Fine r) (rs : List Row) (c : Rows r rs) where
   ]
 
   pub stretch-row : (s : Row) → In s (r .rows) → in-plan s rs ≡ false → (e g : ℕ) → r .slot ≤ e → e < g → g ≤ tight-after r (plan r) (s .due) →
-      Tight r (plan r) e → Tight r (plan r) g → (y : Row) × (In y rs) × (e < y .due) × (y .due ≤ g)
+      Tight-in r (plan r) e → Tight-in r (plan r) g → (y : Row) × (In y rs) × (e < y .due) × (y .due ≤ g)
   stretch-row s i n e g l h k t u =
       let y = between-count (suc e) (suc g) (plan r) (omega (arith, t, u, l, h)) in
       (y .0, no-blank-by s i n (y .0) (y .1) (omega (arith, y .3, k)), y .2, omega (arith, y .3))
@@ -238,7 +232,7 @@ module _ (r : Round) (f : Fine r) (rs : List Row) (c : Rows r rs) where
       )
 
   -- THERE IS A CHAIN
-  pub some-chain : (s : Row) → In s (r .rows) → in-plan s rs ≡ false → (n e : ℕ) → r .slot ≤ e → Tight r (plan r) e → tight-after r (plan r) (s .due) ≤ e + n →
+  pub some-chain : (s : Row) → In s (r .rows) → in-plan s rs ≡ false → (n e : ℕ) → r .slot ≤ e → Tight-in r (plan r) e → tight-after r (plan r) (s .due) ≤ e + n →
       (hs : List Row) × Chain r rs e (tight-after r (plan r) (s .due)) hs
   some-chain s i k zero e l t h = ([], omega arith)
   some-chain s i k (suc n) e l t h =
@@ -255,7 +249,7 @@ module _ (r : Round) (f : Fine r) (rs : List Row) (c : Rows r rs) where
       ]
 
   -- HOW MANY SHIFTS
-  pub chain-count : (e g : ℕ) (hs : List Row) → e ≤ g → Tight r (plan r) g → Chain r rs e g hs → num 0 (suc e) rs + length hs ≤ num 0 (suc g) rs
+  pub chain-count : (e g : ℕ) (hs : List Row) → e ≤ g → Tight-in r (plan r) g → Chain r rs e g hs → num 0 (suc e) rs + length hs ≤ num 0 (suc g) rs
   chain-count e g [] l t k = omega (arith, num-mono 0 (suc e) (suc g) (omega arith) rs)
   chain-count e g (h ∷ hs) l t k =
       let m = tight-after r (plan r) (h .due) in

@@ -1,22 +1,19 @@
 -- A row changed or gone by its ticket; rows still due; rows in the plan and outside. Assumes nothing.
-use mathlib.Core.Path.{_≡_, refl, sym, ap, _∙_, subst}
+use mathlib.Core.Path.{_≡_, refl, sym, ap, _∙_}
 use mathlib.Core.Logic.{_⊎_, inl, inr}
-use mathlib.Core.Bool.{Bool, true, false, _&&_, _||_, not, cond, true≢false, false≢true}
+use mathlib.Core.Bool.{Bool, true, false, true≢false}
 use mathlib.Core.List.{List, [], _∷_, _++_}
-use Prim.Native.Nat.{ℕ, zero, suc, _+_, _*_, _-_, _≤_, _<_, min, max}
+use Prim.Native.Nat.{ℕ, suc, _+_, _≤_, _<_}
 use native.Mathlib.Omega.{arith}
-use lib.Dec.{ltb, leb, eqb}
+use lib.Dec.{leb, eqb}
 use borrow.Author.Tests.{eq-eqb, ne-eqb}
-use lib.ListN.{length, replicate}
-use Rattle.rules.specs.Rows.{Row, Round, blank, heavier, into, sorted, All, In}
-use Rattle.rules.specs.Plan.{feasible, kept, blanks-from, plan, same-row, in-plan}
+use Rattle.rules.specs.Rows.{Row, Round, heavier, into, sorted, All, In}
+use Rattle.rules.specs.Plan.{feasible, kept, plan, same-row, in-plan}
 use Rattle.rules.specs.Steps.{changed, without, still-due}
-use Rattle.theory.specs.Tests.{either, leb?, ltb?, eqb?}
-use Rattle.theory.specs.Sum.{sum, sum-append, sum-sorted, sum-kept, rejected}
-use Rattle.theory.specs.All.{all-map, all-in, all-append, all-sorted, all-kept, all-replicate, light-blanks}
-use Rattle.theory.specs.Feas.{below, below?, num, below-yes, below-late, below-mono, below-light, num-mono, num-weight}
+use Rattle.theory.specs.Tests.{either, leb?, eqb?}
+use Rattle.theory.specs.Sum.{sum, rejected}
+use Rattle.theory.specs.Full.{Rising, blanks, pool, outside}
 use Rattle.theory.specs.Marks.{box, box?}
-use Rattle.theory.specs.Full.{Fine, Row-fine, Rising, blanks, pool, outside, plan-sum}
 
 -- the first row with its ticket
 abbrev pub First : Row → List Row → Type 0
@@ -141,30 +138,6 @@ still-box w t v e h k (x ∷ xs) =
     ]
 
 -- members of the plan and rows outside
-pub all-of-in : (P : Row → Type 0) (xs : List Row) → ((x : Row) → In x xs → P x) → All P xs
-all-of-in P [] h = tt
-all-of-in P (x ∷ xs) h = (h x (inl refl), all-of-in P xs (λ y i. h y (inr i)))
-
-pub ticketless : (n s k : ℕ) → All (λ x. (x .weight ≤ 0) × (x .ticket ≡ 0)) (blanks-from n s k)
-unfolding blanks-from blank
-ticketless zero s k = tt
-ticketless (suc n) s k =
-    all-append (λ x. (x .weight ≤ 0) × (x .ticket ≡ 0)) (replicate k (blank s)) (blanks-from n (suc s) k)
-    (all-replicate (λ x. (x .weight ≤ 0) × (x .ticket ≡ 0)) k (blank s) (omega arith)) (ticketless n (suc s) k)
-
--- a member of the plan is a blank or a waiting row
-abbrev pub Member : Round → Row → Type 0
-Member r x = ((x .weight ≤ 0) × (x .ticket ≡ 0)) ⊎ In x (r .rows)
-
-pub plan-rows : (r : Round) → All (Member r) (plan r)
-unfolding plan
-plan-rows r =
-    all-kept (Member r) r (pool r) []
-    (all-append (Member r) (sorted heavier (r .rows)) (blanks r)
-    (all-sorted (Member r) heavier (r .rows) (all-of-in (Member r) (r .rows) (λ x i. inr i)))
-    (all-map {Q = Member r} (λ x (h : (x .weight ≤ 0) × (x .ticket ≡ 0)). inl h) (blanks r) (ticketless _ _ _)))
-    tt
-
 pub without-none : (a b k : ℕ) (xs : List Row) → k < a → Rising a b xs → without k xs ≡ xs
 unfolding without
 without-none a b k [] h s = refl

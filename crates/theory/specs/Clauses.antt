@@ -31,15 +31,16 @@ pub record Row-right (s l n b : ℕ) (x : Row) : Type 0 where
   pub most : x .weight ≤ most-weight
   pub kinds : x .kind ≤ 1
 
-abbrev pub first-row : List ℕ → Row
-first-row bs =
+-- the row that bytes begin with
+abbrev pub front-row : List ℕ → Row
+front-row bs =
     row (field ticket-at wide-bytes bs) (field due-at slot-bytes bs) (field weight-at wide-bytes bs) (field kind-at kind-bytes bs)
 
 -- the rows' clauses: each row on its own bytes, with the ticket of the row before
 abbrev pub Rows-right : (left : ℕ) → (s l n b : ℕ) → List ℕ → Type 0
 Rows-right zero s l n b bs = Unit {0}
 Rows-right (suc k) s l n b bs =
-    Row-right s l n b (first-row bs) × Zeros row-zeros-at row-size bs × Rows-right k s l n (field ticket-at wide-bytes bs) (drop row-size bs)
+    Row-right s l n b (front-row bs) × Zeros row-zeros-at row-size bs × Rows-right k s l n (field ticket-at wide-bytes bs) (drop row-size bs)
 
 -- THE CLAUSES of a sound table, as the judge reads it
 pub record Clauses (t : List ℕ) : Type 0 where
@@ -63,7 +64,7 @@ rows-stand r (suc k) b bs h c =
     (((x .due-from, x .due-by, x .some, x .most), q .0), (omega (arith, x .kinds), q .1), (x .from, q .2))
 
 pub row-bytes-are : (bs : List ℕ) → Bytes bs → row-size ≤ length bs → field kind-at kind-bytes bs ≤ 1 → Zeros row-zeros-at row-size bs →
-    bs ≡ row-bytes (first-row bs) ++ drop row-size bs
+    bs ≡ row-bytes (front-row bs) ++ drop row-size bs
 unfolding row-bytes row low
 row-bytes-are bs h l k z =
     let e : field 10 1 bs % 256 ≡ field 10 1 bs = omega arith in
@@ -82,10 +83,10 @@ rows-bytes-are (suc k) s l n b bs h m c =
     let xs = rows-bytes (rows-in k ds) in
     let e : 24 + 24 * k ≡ 24 * suc k = omega arith in
     row-bytes-are bs h (omega arith) (c .0 .kinds) (c .1)
-    ∙ ap (λ (cs : List ℕ). row-bytes (first-row bs) ++ cs)
+    ∙ ap (λ (cs : List ℕ). row-bytes (front-row bs) ++ cs)
     (rows-bytes-are k s l n (field 0 4 bs) ds (bytes-drop 24 bs h) (omega (arith, length-drop 24 bs)) (c .2)
     ∙ ap (λ (cs : List ℕ). xs ++ cs) (drop-drop (24 * k) 24 bs ∙ ap (λ (j : ℕ). drop j bs) e))
-    ∙ sym (append-assoc (row-bytes (first-row bs)) xs (drop (24 * suc k) bs))
+    ∙ sym (append-assoc (row-bytes (front-row bs)) xs (drop (24 * suc k) bs))
 
 pub rows-count : (k : ℕ) (bs : List ℕ) → length (rows-in k bs) ≡ k
 unfolding rows-in
@@ -96,9 +97,9 @@ rows-count (suc k) bs = ap suc (rows-count k (drop 24 bs))
 abbrev pub Long : List ℕ → Type 0
 Long t = (length t ≡ head-size + row-size * rows-of t) × (1 ≤ rows-of t) × (rows-of t ≤ most-rows)
 
-pub long : (t : List ℕ) → length-good (length t) ≡ true → Long t
+pub length-long : (t : List ℕ) → length-good (length t) ≡ true → Long t
 unfolding length-good rows-of
-long t e =
+length-long t e =
     let a = and-true (leb 40 (length t)) (eqb ((length t - 16) % 24) 0 && leb ((length t - 16) / 24) 1024) e in
     let b = and-true (eqb ((length t - 16) % 24) 0) (leb ((length t - 16) / 24) 1024) (a .1) in
     let h = leb-true 40 (length t) (a .0) in
@@ -154,7 +155,7 @@ clauses-good t h c =
 pub clauses-accepted : (t : List ℕ) → Bytes t → length-good (length t) ≡ true → Clauses t → table-refusal t ≡ 0
 unfolding table-refusal
 clauses-accepted t h g c =
-    let l = long t g in rw (g, clauses-good t l c, bytes-are t h l c, same-same t)
+    let l = length-long t g in rw (g, clauses-good t l c, bytes-are t h l c, same-same t)
 
 -- accepted: every clause holds
 pub rows-clauses : (r : Round) (k b : ℕ) (bs zs : List ℕ) → All (Row-fine r) (rows-in k bs) → All (λ x. x .kind < 2) (rows-in k bs) →
@@ -162,7 +163,7 @@ pub rows-clauses : (r : Round) (k b : ℕ) (bs zs : List ℕ) → All (Row-fine 
 unfolding rows-in row rows-bytes row-bytes low
 rows-clauses r zero b bs zs f k s e = tt
 rows-clauses r (suc k) b bs zs f h s e =
-    let x = first-row bs in
+    let x = front-row bs in
     let xs = rows-in k (drop 24 bs) in (
       record {
         from = s .0;
@@ -225,7 +226,7 @@ unfolding table-refusal
 accepted-length t e = not-false (length-good (length t)) (no-refusal (not (length-good (length t))) 1 _ e .0)
 
 pub accepted-clauses : (t : List ℕ) → table-refusal t ≡ 0 → Clauses t
-accepted-clauses t e = stands-clauses t (sound t e) (long t (accepted-length t e) .0)
+accepted-clauses t e = stands-clauses t (sound t e) (length-long t (accepted-length t e) .0)
 
 pub refusal-three : (t : List ℕ) → length-good (length t) ≡ true → (table-refusal t ≡ 0 → ⊥) → table-refusal t ≡ 3
 unfolding table-refusal

@@ -14,8 +14,9 @@ use Rattle.rules.specs.Plan.{plan, tight-after, segment-start, mark, first-end,
 use Rattle.rules.specs.Steps.{changed, without, still-due, sent}
 use Rattle.rules.specs.Table.{low, row-bytes, rows-bytes, table}
 use Rattle.theory.specs.Tests.{either, eqb?}
+use Rattle.theory.specs.All.{all-of-in}
 use Rattle.theory.specs.Full.{Fine, Rising}
-use Rattle.theory.specs.Change.{rising-changed, rising-above, all-of-in}
+use Rattle.theory.specs.Change.{rising-changed, rising-above}
 use Rattle.theory.specs.Back.{length-row, length-rows}
 use Rattle.theory.specs.Unique.{rising-other}
 use Rattle.theory.specs.Members.{Rows}
@@ -221,6 +222,13 @@ rows-set xs i y bs h =
     rows-written xs i y bs h
     ∙ sym (sets-eq (row-bytes y) (rows-bytes xs ++ bs) (24 * i) (omega (arith, h, length-row y, length-append (rows-bytes xs) bs, length-rows xs)))
 
+-- what was pasted, read back
+pub drop-take-paste : (w : List ℕ) (a : ℕ) (s : List ℕ) (n : ℕ) → a ≤ length w → n ≤ length s → take n (drop a (paste w a s n)) ≡ take n s
+drop-take-paste w a s n h k =
+    ap (λ (cs : List ℕ). take n cs) (ap (λ (cs : List ℕ). drop a cs) (append-assoc (take a w) (take n s) (drop (a + n) w))
+    ∙ drop-at (take a w) (take n s ++ drop (a + n) w) a (length-take-le a w h))
+    ∙ take-at (take n s) (drop (a + n) w) n (length-take-le n s k)
+
 -- CLOSING UP IN PLACE: after i rows, those of them that stay stand first, and the rest is as it was
 abbrev pub kept-of : (slot gone : ℕ) → List Row → (i : ℕ) → ℕ
 kept-of t k xs i = length (closed t k (take i xs))
@@ -340,16 +348,10 @@ module _ (t k : ℕ) (hd : List ℕ) (xs : List Row) (zs : List ℕ) where
       closing-copy i z w v h q e (length-paste w (16 + 24 * n) s 24 (omega (arith, q .long, l, h)) b)
       (sym (take-take (16 + 24 * n) (16 + 24 * n + 24) v (omega arith)) ∙ ap (λ (cs : List ℕ). take (16 + 24 * n) cs) d
       ∙ take-at (take (16 + 24 * n) w) (take 24 s) (16 + 24 * n) y)
-      (pasted n s a b)
+      (drop-take-paste w (16 + 24 * n) s 24 a b)
       (ap (λ (m : ℕ). drop m v) g ∙ sym (drop-drop (24 * i - 24 * n) (16 + 24 * n + 24) v)
       ∙ ap (λ (cs : List ℕ). drop (24 * i - 24 * n) cs) (drop-paste w (16 + 24 * n) s 24 a b)
       ∙ drop-drop (24 * i - 24 * n) (16 + 24 * n + 24) w ∙ ap (λ (m : ℕ). drop m w) (sym g))
-    where
-      pasted : (n : ℕ) (s : List ℕ) → 16 + 24 * n ≤ length w → 24 ≤ length s → take 24 (drop (16 + 24 * n) (paste w (16 + 24 * n) s 24)) ≡ take 24 s
-      pasted n s a b =
-          ap (λ (cs : List ℕ). take 24 cs) (ap (λ (cs : List ℕ). drop (16 + 24 * n) cs) (append-assoc (take (16 + 24 * n) w) (take 24 s) (drop (16 + 24 * n + 24) w))
-          ∙ drop-at (take (16 + 24 * n) w) (take 24 s ++ drop (16 + 24 * n + 24) w) (16 + 24 * n) (length-take-le (16 + 24 * n) w a))
-          ∙ take-at (take 24 s) (drop (16 + 24 * n + 24) w) 24 (length-take-le 24 s b)
 
   -- A RUN of m rows that all stay, copied at once
   pub closing-run : (i m : ℕ) (w v : List ℕ) → i + m ≤ length xs → Closing t k hd xs zs i w → All (λ x. stays t k x ≡ true) (take m (drop i xs)) →
@@ -403,18 +405,10 @@ module _ (t k : ℕ) (hd : List ℕ) (xs : List Row) (zs : List ℕ) where
       closing-run i m w v h q e (length-paste w (16 + 24 * n) s (24 * m) (omega (arith, q .long, l, h)) b)
       (sym (take-take (16 + 24 * n) (16 + 24 * n + 24 * m) v (omega arith)) ∙ ap (λ (cs : List ℕ). take (16 + 24 * n) cs) d
       ∙ take-at (take (16 + 24 * n) w) (take (24 * m) s) (16 + 24 * n) y)
-      (pasted n s a b)
+      (drop-take-paste w (16 + 24 * n) s (24 * m) a b)
       (ap (λ (o : ℕ). drop o v) g ∙ sym (drop-drop (24 * i - 24 * n) (16 + 24 * n + 24 * m) v)
       ∙ ap (λ (cs : List ℕ). drop (24 * i - 24 * n) cs) (drop-paste w (16 + 24 * n) s (24 * m) a b)
       ∙ drop-drop (24 * i - 24 * n) (16 + 24 * n + 24 * m) w ∙ ap (λ (o : ℕ). drop o w) (sym g))
-    where
-      pasted : (n : ℕ) (s : List ℕ) → 16 + 24 * n ≤ length w → 24 * m ≤ length s →
-          take (24 * m) (drop (16 + 24 * n) (paste w (16 + 24 * n) s (24 * m))) ≡ take (24 * m) s
-      pasted n s a b =
-          ap (λ (cs : List ℕ). take (24 * m) cs)
-          (ap (λ (cs : List ℕ). drop (16 + 24 * n) cs) (append-assoc (take (16 + 24 * n) w) (take (24 * m) s) (drop (16 + 24 * n + 24 * m) w))
-          ∙ drop-at (take (16 + 24 * n) w) (take (24 * m) s ++ drop (16 + 24 * n + 24 * m) w) (16 + 24 * n) (length-take-le (16 + 24 * n) w a))
-          ∙ take-at (take (24 * m) s) (drop (16 + 24 * n + 24 * m) w) (24 * m) (length-take-le (24 * m) s b)
 
   -- at the end
   pub closing-rows : (w : List ℕ) → length hd ≡ 16 → Closing t k hd xs zs (length xs) w →

@@ -12,10 +12,9 @@ use Rattle.rules.specs.Rows.{Row, Round, All, In}
 use Rattle.rules.specs.Plan.{plan, in-plan, feasible, planned}
 use Rattle.theory.specs.Tests.{either, leb?, ltb?, eqb?, one-if}
 use Rattle.theory.specs.Sum.{sum, sum-le, length-sum}
-use Rattle.theory.specs.All.{all-map, all-in}
+use Rattle.theory.specs.All.{all-map, all-in, all-of-in}
 use Rattle.theory.specs.Feas.{below, num, below-yes, below-late, below-1}
 use Rattle.theory.specs.Full.{Fine, Row-fine, num-length}
-use Rattle.theory.specs.Change.{all-of-in}
 use Rattle.theory.specs.Same.{of-plan, of-yes, of-chosen, row-ticket, planned-same, in-plan?}
 use Rattle.theory.specs.Members.{Rows, of-rows-fine, in-plan-is}
 use Rattle.theory.specs.Near.{Near, near-all, near-edge, near-out}

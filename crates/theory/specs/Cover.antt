@@ -9,15 +9,15 @@ use Rattle.rules.specs.Rows.{Row, Round, blank, In}
 use Rattle.rules.specs.Plan.{plan, in-plan, tight-after, segment-start, first-end, substitute, best, heaviest-outside, lightest-by}
 use Rattle.theory.specs.Tests.{ltb?}
 use Rattle.theory.specs.Sum.{sum}
-use Rattle.theory.specs.All.{all-in}
+use Rattle.theory.specs.All.{all-in, blank-weight, blank-is}
+use Rattle.theory.specs.Order.{Not-over, not-over-weight, not-before-canonical}
 use Rattle.theory.specs.Feas.{num}
 use Rattle.theory.specs.Full.{Fine, Row-fine, plan-feas, plan-full}
-use Rattle.theory.specs.Marks.{Tight, next, Start, start}
-use Rattle.theory.specs.Order.{Not-over}
-use Rattle.theory.specs.Members.{Rows, blank-weight, blank-is, of-rows-fine, found-member, in-plan-is}
+use Rattle.theory.specs.Marks.{Tight-in, next, Start, start}
+use Rattle.theory.specs.Members.{Rows, of-rows-fine, found-member, in-plan-is}
 use Rattle.theory.specs.Top.{lightest, Left-from, outside-top}
-use Rattle.theory.specs.Substitute.{not-over-weight, later-is, later?, Later-sub}
-use Rattle.theory.specs.Best.{Beaten, Goes, best-goes, best-row, canonical-no}
+use Rattle.theory.specs.Substitute.{later-is, later?, Later-sub}
+use Rattle.theory.specs.Best.{Beaten, Goes, best-goes, best-row}
 use Rattle.theory.specs.Chain.{some-chain}
 use Rattle.theory.specs.Near.{Near, near-out, near-after, near-tight-is, near-is-tight, rows-feas}
 use Rattle.theory.specs.Count.{under, counts-next, Sweep, sweep-start, sweep-more, sweep-idle, sweep-near}
@@ -56,7 +56,7 @@ module _ (r : Round) (f : Fine r) (o : r .slot ≤ r .last) (rs : List Row) (c :
     where
       behind : (q : Row) → Beaten r q (best r (plan r)) → Behind r q (best r (plan r))
       behind q (inl a) = inl a
-      behind q (inr a) = inr (a .0, canonical-no q (best r (plan r)) (a .1))
+      behind q (inr a) = inr (a .0, not-before-canonical q (best r (plan r)) (a .1))
 
   -- a lightest row due by a slot
   pub some-least : (e : ℕ) (y : Row) → In y rs → y .due ≤ e → (x : Row) × (In x rs) × (x .due ≤ e) × ((w : Row) → In w rs → w .due ≤ e → x .weight ≤ w .weight)
@@ -82,7 +82,7 @@ module _ (r : Round) (f : Fine r) (o : r .slot ≤ r .last) (rs : List Row) (c :
           arith,
           all-in (Row-fine r) y (r .rows) (f .fine) i .2,
           not-over-weight y v (all-in (λ y. Left-from b (plan r) y → Not-over y v) y (r .rows) (t .most) i (a .1, in-plan-is r f rs c y i ∙ n)),
-          ap (λ (x : Row). x .weight) (sym (later-is r f rs c p h) ∙ e),
+          ap (λ (x : Row). x .weight) (sym (later-is r p h) ∙ e),
           blank-weight (blank b) (blank-is b),
         ))
       ]
@@ -102,7 +102,7 @@ module _ (r : Round) (f : Fine r) (o : r .slot ≤ r .last) (rs : List Row) (c :
           edge = elim (ltb? (r .slot) b) [
             | inl g ↦
                 let q : suc (b - 1) ≡ b = omega (arith, g .1) in
-                let t : Tight r (plan r) (b - 1) = omega (arith, st .edge, q, ap (λ v. num 0 v (plan r)) q) in
+                let t : Tight-in r (plan r) (b - 1) = omega (arith, st .edge, q, ap (λ v. num 0 v (plan r)) q) in
                 omega (arith, near-tight-is r f rs c z k (b - 1) (omega (arith, g .1)) (omega (arith, g .1, st .by, i)) t, q, ap (λ v. num 0 v rs) q)
             | inr g ↦ omega (arith, g .1, st .low, rows-feas r f rs c b (st .low) (omega (arith, st .by, i, k .by)))
           ];

@@ -1,18 +1,19 @@
 -- Sound rounds, their plan and what stays outside: the plan fills every slot. Assumes nothing.
-use mathlib.Core.Path.{_≡_, refl, sym, ap, _∙_, subst}
-use mathlib.Core.Logic.{_⊎_, inl, inr}
-use mathlib.Core.Bool.{Bool, true, false, _&&_, _||_, not, cond}
+use mathlib.Core.Path.{_≡_, refl}
+use mathlib.Core.Logic.{inl, inr}
+use mathlib.Core.Bool.{true}
 use mathlib.Core.List.{List, [], _∷_, _++_}
-use Prim.Native.Nat.{ℕ, zero, suc, _+_, _*_, _-_, _≤_, _<_}
+use Prim.Native.Nat.{ℕ, zero, suc, _+_, _-_, _≤_, _<_}
 use native.Mathlib.Omega.{arith}
-use lib.Dec.{ltb, leb, eqb}
 use lib.ListN.{length, replicate}
-use Rattle.rules.specs.Rows.{Row, Round, blank, slots-left, heavier, sorted, All, In}
-use Rattle.rules.specs.Plan.{feasible, kept, blanks-from, plan}
-use Rattle.theory.specs.Tests.{either, leb?, ltb?, eqb?}
+use Rattle.rules.specs.Rows.{In, Row, Round, blank, slots-left, heavier, sorted, All}
+use Rattle.rules.specs.Plan.{feasible, blanks-from, plan}
+use Rattle.rules.specs.PlanM.{Member}
+use Rattle.theory.specs.Tests.{leb?, ltb?}
 use Rattle.theory.specs.Sum.{sum, sum-append, sum-sorted, sum-kept, rejected}
-use Rattle.theory.specs.All.{Falling, all-map, all-append, all-sorted, all-kept, all-replicate, falling-sorted, falling-append, light-blanks}
-use Rattle.theory.specs.Feas.{below, num, below-yes, below-late, num-mono, num-light, num-early, Feas, feas-made, kept-feas, Edge, run}
+use Rattle.theory.specs.All.{all-in, all-of-in, all-blanks, all-map, all-append, all-sorted, all-kept, falling-append, light-blanks}
+use Rattle.theory.specs.Order.{ordered-sorted, ordered-falling}
+use Rattle.theory.specs.Feas.{below, num, below-yes, below-late, num-mono, num-light, num-early, Feas, feas-made, kept-feas, Edge, run-edge}
 
 -- tickets rise, from a number on, below another
 abbrev pub Rising : (a b : ℕ) → List Row → Type 0
@@ -37,27 +38,32 @@ pool r = sorted heavier (r .rows) ++ blanks r
 unfoldable pub outside : Round → List Row
 outside r = rejected r (pool r) []
 
-pub blanks-due : (n s k : ℕ) → All (λ x. (s ≤ x .due) × (x .due < s + n)) (blanks-from n s k)
-unfolding blanks-from blank
-blanks-due zero s k = tt
-blanks-due (suc n) s k =
-    all-append (λ x. (s ≤ x .due) × (x .due < s + suc n)) (replicate k (blank s)) (blanks-from n (suc s) k)
-    (all-replicate (λ x. (s ≤ x .due) × (x .due < s + suc n)) k (blank s) (omega arith))
-    (all-map {Q = λ x. (s ≤ x .due) × (x .due < s + suc n)} (λ x (h : (suc s ≤ x .due) × (x .due < suc s + n)). omega arith)
-    (blanks-from n (suc s) k) (blanks-due n (suc s) k))
+-- what holds of the waiting rows and of each blank ahead holds of all that the run goes through, and of the plan
+module _ (P : Row → Type 0) (r : Round) (a : All P (r .rows)) (b : (s : ℕ) → r .slot ≤ s → s ≤ r .last → P (blank s)) where
+  pub pool-all : All P (pool r)
+  unfolding slots-left
+  pool-all =
+      all-append P (sorted heavier (r .rows)) (blanks r) (all-sorted P heavier (r .rows) a) (all-blanks P _ _ _ (λ d h k. b d h (omega arith)))
 
-pub pool-due : (r : Round) → Fine r → All (λ x. (r .slot ≤ x .due) × (x .due ≤ r .last)) (pool r)
-unfolding slots-left
-pool-due r g =
-    all-append (λ x. (r .slot ≤ x .due) × (x .due ≤ r .last)) (sorted heavier (r .rows)) (blanks r)
-    (all-sorted (λ x. (r .slot ≤ x .due) × (x .due ≤ r .last)) heavier (r .rows)
-    (all-map {Q = λ x. (r .slot ≤ x .due) × (x .due ≤ r .last)} (λ x (h : Row-fine r x). (h .0, h .1)) (r .rows) (g .fine)))
-    (all-map {Q = λ x. (r .slot ≤ x .due) × (x .due ≤ r .last)}
-    (λ x (h : (r .slot ≤ x .due) × (x .due < r .slot + (suc (r .last) - r .slot))). omega arith)
-    (blanks r) (blanks-due (suc (r .last) - r .slot) (r .slot) (suc (r .last) - r .slot)))
+  pub plan-all : All P (plan r)
+  unfolding plan
+  plan-all = all-kept P r (pool r) [] pool-all tt
+
+pub plan-members : (r : Round) → All (Member r) (plan r)
+unfolding blank
+plan-members r = plan-all (Member r) r (all-of-in (Member r) (r .rows) (λ x i. inl i)) (λ s h k. inr (refl, h, k))
+
+pub plan-member : (r : Round) (x : Row) → In x (plan r) → Member r x
+plan-member r x i = all-in (Member r) x (plan r) (plan-members r) i
+
+pub member-due : (r : Round) → Fine r → (x : Row) → Member r x → (r .slot ≤ x .due) × (x .due ≤ r .last)
+member-due r g x (inl i) = let h = all-in (Row-fine r) x (r .rows) (g .fine) i in (h .0, h .1)
+member-due r g x (inr b) = (b .1, b .2)
 
 pub pool-from : (r : Round) → Fine r → All (λ x. r .slot ≤ x .due) (pool r)
-pool-from r g = all-map {Q = λ x. r .slot ≤ x .due} (λ x (h : (r .slot ≤ x .due) × (x .due ≤ r .last)). h .0) (pool r) (pool-due r g)
+unfolding blank
+pool-from r g =
+    pool-all (λ x. r .slot ≤ x .due) r (all-map {Q = λ x. r .slot ≤ x .due} (λ x (h : Row-fine r x). h .0) (r .rows) (g .fine)) (λ s h k. h)
 
 pub feas-none : (r : Round) → Feas r []
 feas-none r e h k = omega arith
@@ -69,7 +75,7 @@ plan-feas r g = kept-feas r (pool r) [] (pool-from r g) tt (feas-none r)
 pub plan-edge : (r : Round) → Fine r → (w : ℕ) → Edge r w (r .slot) (plan r) (outside r)
 unfolding plan outside
 plan-edge r g w =
-    run r w (pool r) [] (falling-append (sorted heavier (r .rows)) (blanks r) (falling-sorted (r .rows)) (light-blanks _ _ _))
+    run-edge r w (pool r) [] (falling-append (sorted heavier (r .rows)) (blanks r) (ordered-falling (sorted heavier (r .rows)) (ordered-sorted (r .rows))) (light-blanks _ _ _))
     (pool-from r g) tt tt (feas-none r) (r .slot) (omega arith) (g .time) (omega arith)
 
 pub plan-sum : (μ : Row → ℕ) (r : Round) → sum μ (plan r) + sum μ (outside r) ≡ sum μ (r .rows) + sum μ (blanks r)
@@ -139,8 +145,8 @@ num-length e [] a = refl
 num-length e (x ∷ xs) a = omega (arith, num-length e xs (a .1), below-yes 0 e x (omega arith) (a .0))
 
 pub plan-due : (r : Round) → Fine r → All (λ x. (r .slot ≤ x .due) × (x .due ≤ r .last)) (plan r)
-unfolding plan
-plan-due r g = all-kept (λ x. (r .slot ≤ x .due) × (x .due ≤ r .last)) r (pool r) [] (pool-due r g) tt
+plan-due r g =
+    all-of-in (λ x. (r .slot ≤ x .due) × (x .due ≤ r .last)) (plan r) (λ x i. member-due r g x (plan-member r x i))
 
 pub plan-length : (r : Round) → Fine r → (length (plan r) ≡ slots-left r) × (feasible r (plan r) ≡ true)
 unfolding slots-left

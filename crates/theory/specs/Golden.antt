@@ -1,14 +1,16 @@
 -- The golden ratio in whole numbers: what `beats-golden` tests, and the same order by one score of two Fibonacci numbers. Assumes nothing.
 use mathlib.Core.Path.{_≡_, refl, sym, ap, _∙_}
 use mathlib.Core.Logic.{_⊎_, inl, inr}
-use mathlib.Core.Bool.{Bool, true, false, _&&_, _||_, not, cond, true≢false, false≢true}
+use mathlib.Core.Bool.{true, false, _||_, not}
 use Prim.Native.Nat.{ℕ, zero, suc, _+_, _*_, _-_, _≤_, _<_}
 use native.Mathlib.Omega.{arith}
-use native.Mathlib.Nat.{mul-add, mul-comm, mul-assoc, mul-le-mul, add-mul}
-use lib.Dec.{ltb, leb, eqb}
-use borrow.Author.Tests.{ltb-true, ltb-false, leb-true, leb-false, lt-ltb, le-ltb, le-leb}
+use native.Mathlib.Nat.{mul-add, mul-comm, mul-assoc, mul-le-mul}
+use lib.Dec.{ltb}
+use borrow.Author.Tests.{ltb-true, lt-ltb, le-ltb}
 use Rattle.rules.specs.Plan.{beats-golden, golden-more}
-use Rattle.theory.specs.Tests.{either, leb?, ltb?}
+use Rattle.rules.specs.PlanM.{Above-golden, Golden-more, score}
+use Rattle.rules.specs.Demands.{Golden}
+use Rattle.theory.specs.Tests.{leb?, ltb?, decided}
 
 pub mul-mono : (a b c d : ℕ) → a ≤ c → b ≤ d → a * b ≤ c * d
 mul-mono a b c d h k = mul-le-mul h k
@@ -56,11 +58,61 @@ beats-golden-is x y =
       | inr h ↦ rw (h .0) (sym (le-ltb (x * y + y * y) (x * x) (omega (arith, mul-mono x x y y (omega arith) (omega arith)))))
     ]
 
-pub beats-golden-true : (x y : ℕ) → beats-golden x y ≡ true → x * y + y * y < x * x
-beats-golden-true x y e = ltb-true (x * y + y * y) (x * x) (sym (beats-golden-is x y) ∙ e)
+pub beats-golden? : (x y : ℕ) → ((beats-golden x y ≡ true) × Above-golden x y) ⊎ ((beats-golden x y ≡ false) × (Above-golden x y → ⊥))
+beats-golden? x y =
+    elim (ltb? (x * y + y * y) (x * x)) [
+      | inl h ↦ inl (beats-golden-is x y ∙ h .0, h .1)
+      | inr h ↦ inr (beats-golden-is x y ∙ h .0, λ k. omega (arith, h .1, k))
+    ]
 
-pub golden-beats : (x y : ℕ) → x * y + y * y < x * x → beats-golden x y ≡ true
+pub golden-beats : (x y : ℕ) → Above-golden x y → beats-golden x y ≡ true
 golden-beats x y h = beats-golden-is x y ∙ lt-ltb (x * y + y * y) (x * x) h
+
+-- the whole comparison
+pub golden-more? : (a b c d : ℕ) → ((golden-more a b c d ≡ true) × Golden-more a b c d) ⊎ ((golden-more a b c d ≡ false) × (Golden-more a b c d → ⊥))
+unfolding golden-more
+golden-more? a b c d =
+    elim (leb? c a) [
+      | inl p ↦ elim (leb? d b) [
+        | inl q ↦ rw (p .0, q .0) (both (p .1) (q .1))
+        | inr q ↦ rw (p .0, q .0) (elim (beats-golden? (a - c) (d - b)) [
+          | inl h ↦ inl (h .0, inr (inl (p .1, q .1, h .1)))
+          | inr h ↦ inr (h .0, λ g. elim g [ inl k ↦ omega (arith, k, q .1) | inr (inl k) ↦ h .1 (k .2) | inr (inr k) ↦ omega (arith, k .0, p .1) ])
+        ])
+      ]
+      | inr p ↦ elim (leb? b d) [
+        | inl q ↦ rw (p .0, q .0) (inr (
+          refl,
+          λ g. elim g [
+            | inl k ↦ omega (arith, k .0, p .1)
+            | inr (inl k) ↦ omega (arith, k .0, p .1)
+            | inr (inr k) ↦ omega (arith, k .1, q .1)
+          ],
+        ))
+        | inr q ↦ rw (p .0, q .0) (elim (beats-golden? (c - a) (b - d)) [
+          | inl h ↦ inr (rw (h .0), λ g. elim g [ inl k ↦ omega (arith, k .0, p .1) | inr (inl k) ↦ omega (arith, k .0, p .1) | inr (inr k) ↦ k .2 (h .1) ])
+          | inr h ↦ inl (rw (h .0), inr (inr (p .1, q .1, h .1)))
+        ])
+      ]
+    ]
+  where
+    both : c ≤ a → d ≤ b → (((ltb c a || ltb d b) ≡ true) × Golden-more a b c d) ⊎ (((ltb c a || ltb d b) ≡ false) × (Golden-more a b c d → ⊥))
+    both p q =
+        elim (ltb? c a) [
+          | inl h ↦ inl (rw (h .0), inl (p, q, inl (h .1)))
+          | inr h ↦ elim (ltb? d b) [
+            | inl k ↦ inl (rw (h .0, k .0), inl (p, q, inr (k .1)))
+            | inr k ↦ inr (
+              rw (h .0, k .0),
+              λ g. elim g [
+                | inl (_, _, inl m) ↦ omega (arith, m, h .1)
+                | inl (_, _, inr m) ↦ omega (arith, m, k .1)
+                | inr (inl m) ↦ omega (arith, m .1, q)
+                | inr (inr m) ↦ omega (arith, m .0, p)
+              ],
+            )
+          ]
+        ]
 
 -- THE SCORE: with F(38) = 39088169 and F(39) = 63245986, F(39)² = F(38)F(39) + F(38)² + 1
 pub scale : (v x y k : ℕ) → x * 39088169 ≡ y * 63245986 + k → v * x * 39088169 ≡ v * y * 63245986 + v * k
@@ -140,10 +192,6 @@ beats-golden-score x y h =
     not-above zero e = score-level x y h e
     not-above (suc k) e = score-below x y (suc k) (omega arith) h e
 
--- how the score is spelt out
-abbrev pub score : (weight substitute : ℕ) → ℕ
-score a b = a * 39088169 + b * 63245986
-
 pub ltb-same : (a b c d : ℕ) → (a < b → c < d) → (c < d → a < b) → ltb a b ≡ ltb c d
 ltb-same a b c d f g =
     elim (ltb? a b) [
@@ -151,8 +199,7 @@ ltb-same a b c d f g =
       | inr h ↦ h .0 ∙ sym (le-ltb c d (elim (ltb? c d) [ inl k ↦ absurd (omega (arith, g (k .1), h .1)) | inr k ↦ k .1 ]))
     ]
 
-pub golden-score : (a b c d : ℕ) → b ≤ 16777216 → d ≤ 16777216 →
-    golden-more a b c d ≡ ltb (c * 39088169 + d * 63245986) (a * 39088169 + b * 63245986)
+pub golden-score : (a b c d : ℕ) → b ≤ 16777216 → d ≤ 16777216 → golden-more a b c d ≡ ltb (score c d) (score a b)
 unfolding golden-more
 golden-score a b c d i k =
     elim (leb? c a) [
@@ -184,3 +231,15 @@ golden-score a b c d i k =
           | inl v ↦ v .1
           | inr v ↦ absurd (no-tie (c - a) (b - d) (omega arith) (omega arith) (omega (arith, u, v .1)))
         ]
+
+-- THE COMPARISON IS THE GOLDEN RATIO'S, and the score's
+pub golden : Golden
+unfolding Golden
+golden = (
+  λ x y. decided (beats-golden x y) (beats-golden? x y),
+  λ a b c d. decided (golden-more a b c d) (golden-more? a b c d),
+  λ a b c d h k. (
+    λ e. ltb-true (score c d) (score a b) (sym (golden-score a b c d h k) ∙ e),
+    λ l. golden-score a b c d h k ∙ lt-ltb (score c d) (score a b) l,
+  ),
+)

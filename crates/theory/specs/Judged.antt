@@ -16,10 +16,10 @@ use Rattle.rules.specs.Conditions.{Bytes, slot-in, last-in, next-in, used-in}
 use Rattle.theory.specs.Tests.{either, and-true}
 use Rattle.theory.specs.Judge.{zeros, row-judged, rows-judged, head-judged, judged}
 use Rattle.theory.specs.Fields.{Part, field-take, test-zeros, zeros-test}
-use Rattle.theory.specs.Clauses.{Row-right, first-row, Rows-right, Clauses, long, clauses-accepted, accepted-length, accepted-clauses, refusal-three}
+use Rattle.theory.specs.Clauses.{Row-right, front-row, Rows-right, Clauses, length-long, clauses-accepted, accepted-length, accepted-clauses, refusal-three}
 
 -- A ROW JUDGED on its own bytes
-pub own-row : (bs : List ℕ) → first-row (take row-size bs) ≡ first-row bs
+pub own-row : (bs : List ℕ) → front-row (take row-size bs) ≡ front-row bs
 unfolding row
 own-row bs i =
     record {
@@ -32,7 +32,7 @@ own-row bs i =
 pub own-part : (bs : List ℕ) → Part row-zeros-at row-size bs (drop row-zeros-at (take row-size bs))
 own-part bs i h = getD-drop 11 (take 24 bs) i 0 ∙ getD-take 24 bs (11 + i) 0 h
 
-pub row-true : (s l n b : ℕ) (xs : List ℕ) → row-judged s l n b xs ≡ true → Row-right s l n b (first-row xs) × (zeros (drop row-zeros-at xs) ≡ true)
+pub row-true : (s l n b : ℕ) (xs : List ℕ) → row-judged s l n b xs ≡ true → Row-right s l n b (front-row xs) × (zeros (drop row-zeros-at xs) ≡ true)
 unfolding row-judged row
 row-true s l n b xs e =
     let k = field 0 4 xs in
@@ -58,7 +58,7 @@ row-true s l n b xs e =
       z .1,
     )
 
-pub row-yes : (s l n b : ℕ) (xs : List ℕ) → Row-right s l n b (first-row xs) → zeros (drop row-zeros-at xs) ≡ true → row-judged s l n b xs ≡ true
+pub row-yes : (s l n b : ℕ) (xs : List ℕ) → Row-right s l n b (front-row xs) → zeros (drop row-zeros-at xs) ≡ true → row-judged s l n b xs ≡ true
 unfolding row-judged row
 row-yes s l n b xs r z =
     rw (
@@ -140,7 +140,7 @@ clauses-judged t h c =
 pub judged-accepted : (t : List ℕ) → table-refusal t ≡ 0 → judged t ≡ true
 judged-accepted t e =
     let c = accepted-clauses t e in
-    clauses-judged t (omega (arith, long t (accepted-length t e) .0, c .fit)) c
+    clauses-judged t (omega (arith, length-long t (accepted-length t e) .0, c .fit)) c
 
 pub judged-refusal : (t : List ℕ) → Bytes t → length-good (length t) ≡ true → table-refusal t ≡ cond (judged t) 0 3
 judged-refusal t h g =

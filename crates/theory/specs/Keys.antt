@@ -1,7 +1,7 @@
 -- One number for the order `heavier`, and one for the pick: keys of rows in ticket order. Assumes nothing.
 use mathlib.Core.Path.{_≡_, refl, sym, ap, _∙_}
 use mathlib.Core.Logic.{_⊎_, inl, inr, _≢_}
-use mathlib.Core.Bool.{Bool, true, false, _&&_, _||_}
+use mathlib.Core.Bool.{_&&_, _||_}
 use mathlib.Core.List.{List, [], _∷_}
 use Prim.Native.Nat.{ℕ, zero, suc, _+_, _*_, _-_, _/_, _%_, _≤_, _<_}
 use native.Mathlib.Omega.{arith}
@@ -10,9 +10,9 @@ use borrow.Author.Tests.{lt-ltb, le-ltb, ltb-true, ltb-false}
 use lib.ListN.{length, getD}
 use Rattle.rules.specs.Rows.{Row, heavier, In, Heavier}
 use Rattle.theory.specs.Tests.{ltb?, eqb?}
+use Rattle.theory.specs.Order.{Not-over, heavier?}
 use Rattle.theory.specs.Full.{Rising}
 use Rattle.theory.specs.Change.{rising-above}
-use Rattle.theory.specs.Order.{Not-over, heavier?}
 
 -- THE KEY of a row at an index
 unfoldable pub key : (weight due index : ℕ) → ℕ

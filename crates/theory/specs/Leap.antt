@@ -1,24 +1,23 @@
 -- A leap: its shifts, its substitute, and that the rows after fill as far. Assumes nothing.
-use mathlib.Core.Path.{_≡_, refl, sym, ap, _∙_, subst}
+use mathlib.Core.Path.{_≡_, refl, sym, ap}
 use mathlib.Core.Logic.{_⊎_, inl, inr}
-use mathlib.Core.Bool.{Bool, true, false, _&&_, _||_, not, cond, true≢false, false≢true}
-use mathlib.Core.List.{List, [], _∷_, _++_}
-use Prim.Native.Nat.{ℕ, zero, suc, _+_, _*_, _-_, _≤_, _<_, min, max}
+use mathlib.Core.Bool.{false}
+use mathlib.Core.List.{List, []}
+use Prim.Native.Nat.{ℕ, zero, suc, _+_, _-_, _≤_, _<_, max}
 use native.Mathlib.Omega.{arith}
-use lib.Dec.{ltb, leb, eqb}
-use borrow.Author.Tests.{lt-ltb, le-ltb, le-leb, lt-leb, ltb-true, ltb-false, leb-true, eq-eqb, ne-eqb}
-use lib.ListN.{length, replicate}
-use Rattle.rules.specs.Rows.{Row, Round, blank, heavier, row, All, In}
-use Rattle.rules.specs.Plan.{plan, in-plan, tight-after, segment-start, mark-in, mark, first-end, heaviest-outside, substitute}
-use Rattle.rules.specs.Steps.{changed, without, still-due, heaviest-between, shifted, replaced, leapt}
-use Rattle.theory.specs.Tests.{either, leb?, ltb?, eqb?, pick}
+use lib.Dec.{ltb}
+use borrow.Author.Tests.{le-ltb, lt-leb, ltb-true, ltb-false, ne-eqb}
+use Rattle.rules.specs.Rows.{Row, Round, blank, row, All, In}
+use Rattle.rules.specs.Plan.{plan, in-plan, tight-after, segment-start, mark-in, first-end, heaviest-outside, substitute}
+use Rattle.rules.specs.Steps.{changed, without, heaviest-between, shifted, replaced, leapt}
+use Rattle.theory.specs.Tests.{leb?, ltb?, pick}
 use Rattle.theory.specs.Sum.{sum}
-use Rattle.theory.specs.All.{all-map, all-in}
-use Rattle.theory.specs.Feas.{num, Feas, Edge}
-use Rattle.theory.specs.Full.{Fine, Row-fine, Rising, outside, plan-feas, plan-edge, plan-full, plan-due}
-use Rattle.theory.specs.Marks.{Tight, Next, next, Start, start, box, box?, box-yes, filled, Marked, mark-above, mark-all, mark-limit}
-use Rattle.theory.specs.Change.{First, changed-sum, without-sum, changed-first, rising-above, rising-first, rising-same, all-of-in, Member, plan-rows, in-sum, not-in-plan, row-outside, without-none, changed-none, all-changed, all-without, rising-changed, rising-without}
-use Rattle.theory.specs.Send.{Stand-in, outside-in, Between, between-finds, between-count, next-by, point, point?, point-yes}
+use Rattle.theory.specs.All.{blank-weight, blank-ticket, all-map, all-in, all-of-in}
+use Rattle.theory.specs.Feas.{num}
+use Rattle.theory.specs.Full.{plan-member, Fine, Row-fine, Rising, outside, plan-feas, plan-edge, plan-full, plan-due}
+use Rattle.theory.specs.Marks.{Tight-in, Next, next, Start, start, box, box?, box-yes, filled, Marked, mark-above, mark-all, mark-limit}
+use Rattle.theory.specs.Change.{First, changed-sum, without-sum, changed-first, rising-above, rising-first, rising-same, in-sum, not-in-plan, row-outside, without-none, changed-none, all-changed, all-without, rising-changed, rising-without}
+use Rattle.theory.specs.Send.{outside-in, Between, between-finds, between-count, next-by, point, point?, point-yes}
 
 abbrev pub Row-ok : Round → Row → Type 0
 Row-ok r x = (x .due ≤ r .last) × (1 ≤ x .weight) × (x .weight ≤ 16777216)
@@ -27,7 +26,7 @@ abbrev pub Heavy-to : Round → ℕ → Type 0
 Heavy-to r g = All (λ y. y .due ≤ g → 1 ≤ y .weight) (plan r)
 
 -- one shift: of h to e; e′ is the next end
-pub record Step (r : Round) (e g : ℕ) (h : Row) (e′ : ℕ) : Type 0 where
+pub record Shift (r : Round) (e g : ℕ) (h : Row) (e′ : ℕ) : Type 0 where
   pub low : r .slot ≤ e
   pub inside : In h (plan r)
   pub after : e < h .due
@@ -39,10 +38,10 @@ pub record Step (r : Round) (e g : ℕ) (h : Row) (e′ : ℕ) : Type 0 where
 abbrev pub moved : Round → ℕ → Row → List Row → List Row
 moved r e h xs = changed (h .ticket) (row (h .ticket) e (max (h .weight) (mark-in r (plan r) e)) (h .kind)) xs
 
-pub step : (r : Round) → Fine r → (e g : ℕ) → r .slot ≤ e → e < g → g ≤ r .last → Tight r (plan r) e → Tight r (plan r) g → Heavy-to r g →
-    (let h = heaviest-between e g (plan r) (blank (suc g)) in Step r e g h (tight-after r (plan r) (h .due)))
+pub shift : (r : Round) → Fine r → (e g : ℕ) → r .slot ≤ e → e < g → g ≤ r .last → Tight-in r (plan r) e → Tight-in r (plan r) g → Heavy-to r g →
+    (let h = heaviest-between e g (plan r) (blank (suc g)) in Shift r e g h (tight-after r (plan r) (h .due)))
 unfolding blank
-step r f e g l k b t u hv =
+shift r f e g l k b t u hv =
     let h = heaviest-between e g (plan r) (blank (suc g)) in
     let y = between-count (suc e) (suc g) (plan r) (omega arith) in
     let w : Between e g (plan r) h =
@@ -60,9 +59,9 @@ step r f e g l k b t u hv =
     }
 
 -- what every shift keeps, all shifts keep
-pub shift-ind : (r : Round) → Fine r → (g : ℕ) → g ≤ r .last → Tight r (plan r) g → Heavy-to r g → (Q : ℕ → List Row → Type 0) →
-    ((e : ℕ) (xs : List Row) (h : Row) (e′ : ℕ) → Step r e g h e′ → Q e xs → Q e′ (moved r e h xs)) →
-    (n e : ℕ) (xs : List Row) → r .slot ≤ e → e ≤ g → g ≤ e + n → Tight r (plan r) e → Q e xs → Q g (shifted n r (plan r) e g xs)
+pub shift-ind : (r : Round) → Fine r → (g : ℕ) → g ≤ r .last → Tight-in r (plan r) g → Heavy-to r g → (Q : ℕ → List Row → Type 0) →
+    ((e : ℕ) (xs : List Row) (h : Row) (e′ : ℕ) → Shift r e g h e′ → Q e xs → Q e′ (moved r e h xs)) →
+    (n e : ℕ) (xs : List Row) → r .slot ≤ e → e ≤ g → g ≤ e + n → Tight-in r (plan r) e → Q e xs → Q g (shifted n r (plan r) e g xs)
 unfolding shifted
 shift-ind r f g b u hv Q s zero e xs l k c t q = let z : e ≡ g = omega arith in rw z at q
 shift-ind r f g b u hv Q s (suc n) e xs l k c t q =
@@ -72,7 +71,7 @@ shift-ind r f g b u hv Q s (suc n) e xs l k c t q =
     (λ i.
     let h = heaviest-between e g (plan r) (blank (suc g)) in
     let e′ = tight-after r (plan r) (h .due) in
-    let p = step r f e g l (ltb-true e g i) b t u hv in
+    let p = shift r f e g l (ltb-true e g i) b t u hv in
     shift-ind r f g b u hv Q s n e′ (moved r e h xs) (omega (arith, p .low, p .after, p .next .from)) (p .end)
     (omega (arith, p .after, p .next .from)) (p .next .tight) (s e xs h e′ p q))
     (λ i. let z : e ≡ g = omega (arith, ltb-false e g i) in rw z at q)
@@ -88,17 +87,17 @@ pub record Kept (r : Round) (a e : ℕ) (xs : List Row) : Type 0 where
       sum (box w v (suc s)) (r .rows) + point v (suc s) a ≤ sum (box w v (suc s)) xs + point v (suc s) e
 
 pub member-row : (r : Round) (x : Row) → In x (plan r) → 1 ≤ x .weight → In x (r .rows)
-member-row r x i h = elim (all-in (Member r) x (plan r) (plan-rows r) i) [ inl a ↦ absurd (omega arith) | inr a ↦ a ]
+member-row r x i h = elim (plan-member r x i) [ inl a ↦ a | inr a ↦ absurd (omega (arith, blank-weight x (a .0))) ]
 
 -- the mark of a slot up to which a heavy stretch reaches
 pub mark-in-reach : (r : Round) → Fine r → (w d s u : ℕ) → Marked r w d s → r .slot ≤ u → u ≤ s → w ≤ mark-in r (plan r) u
 mark-in-reach r f w d s u m h k =
     mark-above r (plan r) (plan-feas r f) (plan-full r f) w u (suc s) (m .limit) h (omega arith) (omega (arith, m .next .by)) (m .full)
 
-pub step-sum : (r : Round) → Fine r → (e g : ℕ) (h : Row) (e′ : ℕ) → Step r e g h e′ → (xs : List Row) → First h xs → (w d s v : ℕ) → Marked r w d s →
+pub shift-sum : (r : Round) → Fine r → (e g : ℕ) (h : Row) (e′ : ℕ) → Shift r e g h e′ → (xs : List Row) → First h xs → (w d s v : ℕ) → Marked r w d s →
     v ≤ suc s → sum (box w v (suc s)) xs + point v (suc s) e ≤ sum (box w v (suc s)) (moved r e h xs) + point v (suc s) e′
 unfolding row
-step-sum r f e g h e′ p xs i w d s v m k =
+shift-sum r f e g h e′ p xs i w d s v m k =
     let h′ = row (h .ticket) e (max (h .weight) (mark-in r (plan r) e)) (h .kind) in
     let c = changed-sum (box w v (suc s)) h h′ xs i in
     let new : point v (suc s) e ≤ box w v (suc s) h′ = elim (point? v (suc s) e) [
@@ -116,9 +115,9 @@ step-sum r f e g h e′ p xs i w d s v m k =
     ] in
     omega arith
 
-pub step-kept : (r : Round) → Fine r → (a e g : ℕ) (h : Row) (e′ : ℕ) (xs : List Row) → g ≤ r .last → Step r e g h e′ → Kept r a e xs → Kept r a e′ (moved r e h xs)
+pub shift-kept : (r : Round) → Fine r → (a e g : ℕ) (h : Row) (e′ : ℕ) (xs : List Row) → g ≤ r .last → Shift r e g h e′ → Kept r a e xs → Kept r a e′ (moved r e h xs)
 unfolding row
-step-kept r f a e g h e′ xs b p q =
+shift-kept r f a e g h e′ xs b p q =
     let hr = member-row r h (p .inside) (p .heavy) in
     let i = q .ahead h (p .inside) hr (p .after) in
     let o = all-in (Row-fine r) h (r .rows) (f .fine) hr in
@@ -134,7 +133,7 @@ step-kept r f a e g h e′ xs b p q =
       okay = all-changed (Row-ok r) (h .ticket) (row (h .ticket) e (max (h .weight) (mark-in r (plan r) e)) (h .kind))
           (omega (arith, p .after, p .by), omega (arith, p .heavy), omega (arith, o .3, mark-limit r (plan r) e)) xs (q .okay);
       rising = rising-changed 1 (r .next) (h .ticket) (row (h .ticket) e (max (h .weight) (mark-in r (plan r) e)) (h .kind)) refl xs (q .rising);
-      sums = λ w d s v m k. omega (arith, q .sums w d s v m k, step-sum r f e g h e′ p xs i w d s v m k);
+      sums = λ w d s v m k. omega (arith, q .sums w d s v m k, shift-sum r f e g h e′ p xs i w d s v m k);
     }
 
 -- WHAT A STEP LEAVES, before the time goes on
@@ -144,20 +143,20 @@ pub record Left (r : Round) (xs : List Row) : Type 0 where
   pub fills : (w d e v : ℕ) → Marked r w d e → r .slot < v → v ≤ suc e → suc e - v ≤ sum (box w v (suc e)) xs
 
 -- the slots that are not tight leave room
-pub room : (r : Round) → Fine r → (a e v : ℕ) → Next r (plan r) a e → r .slot ≤ a → a < v → v ≤ e → num 0 v (plan r) + 1 ≤ v - r .slot
-room r f a e zero n h i j = absurd (omega arith)
-room r f a e (suc u) n h i j =
+pub leaves-room : (r : Round) → Fine r → (a e v : ℕ) → Next r (plan r) a e → r .slot ≤ a → a < v → v ≤ e → num 0 v (plan r) + 1 ≤ v - r .slot
+leaves-room r f a e zero n h i j = absurd (omega arith)
+leaves-room r f a e (suc u) n h i j =
     elim (leb? (num 0 (suc u) (plan r) + 1) (suc u - r .slot)) [
       | inl b ↦ b .1
       | inr b ↦ absurd (n .first u (omega arith) (omega arith)
           (omega (arith, plan-feas r f (suc u) (omega arith) (omega (arith, n .by)))))
     ]
 
--- a substitute that takes its mark stands for the end of its segment, but for a slot that isn't tight
-pub stands : (r : Round) → Fine r → (x : Row) (g : ℕ) → Next r (plan r) (x .due) g → r .slot ≤ x .due → x .weight ≡ mark-in r (plan r) (x .due) →
+-- a substitute that takes its mark stands-in for the end of its segment, but for a slot that isn't tight
+pub stands-in : (r : Round) → Fine r → (x : Row) (g : ℕ) → Next r (plan r) (x .due) g → r .slot ≤ x .due → x .weight ≡ mark-in r (plan r) (x .due) →
     (w d s v : ℕ) → Marked r w d s → r .slot < v → v ≤ suc s →
     (c : ℕ) × (num 0 v (plan r) + c ≤ v - r .slot) × (point v (suc s) g ≤ box w v (suc s) x + c)
-stands r f x g n h q w d s v m i j =
+stands-in r f x g n h q w d s v m i j =
     let free : num 0 v (plan r) ≤ v - r .slot = plan-feas r f v (omega arith) (omega (arith, m .next .by)) in
     elim (point? v (suc s) g) [
       | inl a ↦ elim (leb? v (x .due)) [
@@ -170,13 +169,13 @@ stands r f x g n h q w d s v m i j =
                 (omega (arith, n .from, a .2)),
           ),
         )
-        | inr b ↦ (1, room r f (x .due) g v n h (b .1) (a .1), omega arith)
+        | inr b ↦ (1, leaves-room r f (x .due) g v n h (b .1) (a .1), omega arith)
       ]
       | inr (inl a) ↦ (0, omega arith, omega arith)
       | inr (inr a) ↦ (0, omega arith, omega arith)
     ]
 
--- a plan member stands before the end of its segment
+-- a plan member stands-in before the end of its segment
 pub ends : (r : Round) → Fine r → (p : Row) (e : ℕ) → Next r (plan r) (p .due) e → (w d s v : ℕ) → Marked r w d s → v ≤ suc s →
     box w v (suc s) p ≤ point v (suc s) e
 ends r f p e n w d s v m k =
@@ -249,9 +248,9 @@ leap-row r f p s e g i en j n ys q =
     let ys′ = changed (s .ticket) s′ ys in
     let o = all-in (Row-fine r) s (r .rows) (f .fine) j in
     let fs : First s ys = q .others s j (λ h a b c. not-in-plan s (plan r) n h a (sym c)) in
-    let fp : (p .ticket ≡ 0) ⊎ First p ys′ = elim (all-in (Member r) p (plan r) (plan-rows r) i) [
-      | inl a ↦ inl (a .1)
-      | inr a ↦ inr (changed-first (s .ticket) s′ p (not-in-plan s (plan r) n p i) refl ys
+    let fp : (p .ticket ≡ 0) ⊎ First p ys′ = elim (plan-member r p i) [
+      | inr a ↦ inl (blank-ticket p (a .0))
+      | inl a ↦ inr (changed-first (s .ticket) s′ p (not-in-plan s (plan r) n p i) refl ys
           (q .others p a (λ h b c d. omega (
             arith,
             en .first .from,
@@ -266,7 +265,7 @@ leap-row r f p s e g i en j n ys q =
           (o .1, omega (arith, o .2, outside-heavy r f s j n), mark-limit r (plan r) (s .due)) ys (q .okay));
       rising = rising-without 1 (r .next) (p .ticket) ys′ rs;
       fills = λ w d t v m k l.
-          let c = stands r f s′ g (en .last) (en .low) refl w d t v m k l in
+          let c = stands-in r f s′ g (en .last) (en .low) refl w d t v m k l in
           omega (
             arith,
             c .1,
@@ -281,9 +280,9 @@ leap-row r f p s e g i en j n ys q =
     }
   where
     same-ticket : (r : Round) → Fine r → (h p : Row) → In h (plan r) → In p (r .rows) → h .ticket ≡ p .ticket → h ≡ p
-    same-ticket r f h p i j e = elim (all-in (Member r) h (plan r) (plan-rows r) i) [
-      | inl a ↦ absurd (omega (arith, a .1, rising-above 1 (r .next) p (r .rows) (f .rising) j))
-      | inr a ↦ rising-same 1 (r .next) h p (r .rows) (f .rising) a j e
+    same-ticket r f h p i j e = elim (plan-member r h i) [
+      | inr a ↦ absurd (omega (arith, blank-ticket h (a .0), rising-above 1 (r .next) p (r .rows) (f .rising) j))
+      | inl a ↦ rising-same 1 (r .next) h p (r .rows) (f .rising) a j e
     ]
 
 -- THE SUBSTITUTE IS A BLANK, at the start of p's segment
@@ -304,10 +303,10 @@ leap-kept r f p b e i n o h j =
       okay = all-changed (Row-ok r) (p .ticket) x (omega (arith, o .from, o .by), j, mark-limit r (plan r) b) (r .rows)
           (rows-kept r f 0 .okay);
       rising = rising-changed 1 (r .next) (p .ticket) x refl (r .rows) (f .rising);
-      fills = λ w d t v m k l. elim (all-in (Member r) p (plan r) (plan-rows r) i) [
-        | inl a ↦ rw (a .1, changed-none 1 (r .next) 0 (row 0 b (mark-in r (plan r) b) 1) (r .rows) (omega arith) (f .rising)) (plain r f w d t v m (omega arith) l)
-        | inr a ↦
-            let c = stands r f x e o h refl w d t v m k l in
+      fills = λ w d t v m k l. elim (plan-member r p i) [
+        | inr a ↦ rw (blank-ticket p (a .0), changed-none 1 (r .next) 0 (row 0 b (mark-in r (plan r) b) 1) (r .rows) (omega arith) (f .rising)) (plain r f w d t v m (omega arith) l)
+        | inl a ↦
+            let c = stands-in r f x e o h refl w d t v m k l in
             omega (
               arith,
               c .1,
@@ -332,9 +331,9 @@ leap-gone r f p b i h k j =
     }
   where
     fp : In p (plan r) → (p .ticket ≡ 0) ⊎ First p (r .rows)
-    fp i = elim (all-in (Member r) p (plan r) (plan-rows r) i) [
-      | inl a ↦ inl (a .1)
-      | inr a ↦ inr (rising-first 1 (r .next) p (r .rows) (f .rising) a)
+    fp i = elim (plan-member r p i) [
+      | inr a ↦ inl (blank-ticket p (a .0))
+      | inl a ↦ inr (rising-first 1 (r .next) p (r .rows) (f .rising) a)
     ]
 
 pub no-shift : (n : ℕ) (r : Round) (e g : ℕ) (xs : List Row) → g ≤ e → shifted n r (plan r) e g xs ≡ xs
@@ -361,7 +360,7 @@ leap-with-row r f p s b i st j h n =
     (λ y (a : y .due ≤ g → mark-in r (plan r) (s .due) ≤ y .weight) (c : y .due ≤ g). omega (arith, a c, outside-heavy r f s j n, o .2))
     (plan r) (mark-all r (plan r) (s .due)) in
     let q : Kept r e g (shifted (suc (r .last)) r (plan r) e g (r .rows)) =
-    shift-ind r f g (en .last .by) (en .last .tight) hv (Kept r e) (λ e′ xs h e″ p′ k. step-kept r f e e′ g h e″ xs (en .last .by) p′ k)
+    shift-ind r f g (en .last .by) (en .last .tight) hv (Kept r e) (λ e′ xs h e″ p′ k. shift-kept r f e e′ g h e″ xs (en .last .by) p′ k)
     (suc (r .last)) e (r .rows) (omega (arith, en .start, en .first .from)) (en .order) (omega (arith, en .last .by)) (en .first .tight)
     (rows-kept r f e) in
     rw (ne-eqb (s .ticket) 0 (λ c. omega (arith, rising-above 1 (r .next) s (r .rows) (f .rising) j)))

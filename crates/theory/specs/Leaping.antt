@@ -11,9 +11,9 @@ use lib.ListN.{length, getD, set}
 use Rattle.rules.specs.Rows.{Row, Round, blank, row, All, In}
 use Rattle.rules.specs.Plan.{plan, in-plan, tight-after, segment-start, least-weight, mark-in, mark, first-end, substitute, planned}
 use Rattle.rules.specs.Steps.{changed, without, replaced, leapt}
-use Rattle.theory.specs.Tests.{either, ltb?, eqb?}
+use Rattle.theory.specs.Tests.{positive, either, ltb?, eqb?}
 use Rattle.theory.specs.Sum.{sum-le, length-sum}
-use Rattle.theory.specs.All.{all-map, all-in}
+use Rattle.theory.specs.All.{in-mid, all-map, all-in}
 use Rattle.theory.specs.Feas.{below, below-yes, below-late, below-mono, below-1}
 use Rattle.theory.specs.Full.{Fine, Row-fine, Rising, plan-feas, plan-full, plan-due}
 use Rattle.theory.specs.Marks.{next, start}
@@ -160,12 +160,8 @@ module _ (r : Round) (f : Fine r) (rs : List Row) (c : Rows r rs) where
   unfolding final-row end-after
   final-link e g [] ls h x k q = rw (eq-eqb (x .ticket) (h .ticket) q)
   final-link e g (z ∷ ks) ls h x k q =
-      rw (ne-eqb (x .ticket) (z .ticket) (λ d. all-in (λ y. z .ticket ≢ y .ticket) h (ks ++ (h ∷ ls)) (chain-other r f rs c e g z (ks ++ (h ∷ ls)) k) (in-mid ks) (sym d ∙ q)))
+      rw (ne-eqb (x .ticket) (z .ticket) (λ d. all-in (λ y. z .ticket ≢ y .ticket) h (ks ++ (h ∷ ls)) (chain-other r f rs c e g z (ks ++ (h ∷ ls)) k) (in-mid h ks ls) (sym d ∙ q)))
       (final-link (tight-after r (plan r) (z .due)) g ks ls h x (k .1) q)
-    where
-      in-mid : (ws : List Row) → In h (ws ++ (h ∷ ls))
-      in-mid [] = inl refl
-      in-mid (w ∷ ws) = inr (in-mid ws)
 
   -- FEW SHIFTS: three rows are none
   pub rows-more : (s : Row) → In s (r .rows) → in-plan s rs ≡ false → length rs + 1 ≤ length (r .rows)
@@ -220,9 +216,6 @@ module _ (r : Round) (f : Fine r) (rs : List Row) (c : Rows r rs) where
         m .tight,
         m .from,
       )
-    where
-      positive : (n : ℕ) → n ≢ 0 → 1 ≤ n
-      positive n h = omega arith
 
   -- WITH A ROW for substitute
   pub leapt-row : (p s : Row) (hs : List Row) → substitute r (plan r) p ≡ s → In s (r .rows) →

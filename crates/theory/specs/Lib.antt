@@ -1,9 +1,11 @@
 pub mod Tests
 pub mod Sum
 pub mod All
+pub mod Order
 pub mod Feas
 pub mod Full
 pub mod Marks
+pub mod Tights
 pub mod Change
 pub mod Send
 pub mod Leap
@@ -11,9 +13,10 @@ pub mod Calls
 pub mod Totals
 pub mod Times
 pub mod Back
-pub mod Order
+pub mod Border
 pub mod Same
 pub mod Sane
+pub mod Listed
 pub mod Replies
 pub mod Third
 pub mod Golden
@@ -26,6 +29,9 @@ pub mod Members
 pub mod Top
 pub mod Substitute
 pub mod Best
+pub mod Opened
+pub mod Picks
+pub mod PlanM
 pub mod Chain
 pub mod Leaping
 pub mod Close
@@ -39,9 +45,6 @@ pub mod Sender
 pub mod Whole
 pub mod Cover
 pub mod Judge
-pub mod Digits
-pub mod Lines
-pub mod Flags
 pub mod Fields
 pub mod Clauses
 pub mod Judged
@@ -49,3 +52,6 @@ pub mod Soundness
 pub mod Checks
 pub mod Refusals
 pub mod Stays
+pub mod Digits
+pub mod Lines
+pub mod Flags

@@ -1,24 +1,22 @@
--- Tight slots, segments and marks, without tests; a mark is w or more where rows of weight w fill the slots up to a later one. Assumes nothing.
-use mathlib.Core.Path.{_≡_, refl, sym, ap, _∙_, subst}
+-- Tight-in slots, segments and marks, without tests; a mark is w or more where rows of weight w fill the slots up to a later one. Assumes nothing.
+use mathlib.Core.Path.{_≡_, refl}
 use mathlib.Core.Logic.{_⊎_, inl, inr}
-use mathlib.Core.Bool.{Bool, true, false, _&&_, _||_, not, cond}
-use mathlib.Core.List.{List, [], _∷_, _++_}
-use Prim.Native.Nat.{ℕ, zero, suc, _+_, _*_, _-_, _≤_, _<_, min}
+use mathlib.Core.Bool.{true, false}
+use mathlib.Core.List.{List, [], _∷_}
+use Prim.Native.Nat.{ℕ, zero, suc, _+_, _-_, _≤_, _<_, min}
 use native.Mathlib.Omega.{arith}
-use lib.Dec.{ltb, leb, eqb}
-use lib.ListN.{length, replicate}
 use Rattle.rules.specs.Rows.{Row, Round, All, In}
 use Rattle.rules.specs.Plan.{due-by, plan, tight, tight-from, tight-after, segment-from, segment-start, least-weight, mark-in, mark}
-use Rattle.theory.specs.Tests.{either, leb?, ltb?, eqb?}
-use Rattle.theory.specs.Sum.{sum, sum-append, sum-sorted, sum-kept, rejected}
-use Rattle.theory.specs.All.{all-map, all-in}
-use Rattle.theory.specs.Feas.{below, below?, num, below-yes, below-late, below-mono, below-weight, num-mono, num-weight, num-early, due-below, Feas, Edge}
-use Rattle.theory.specs.Full.{Fine, blanks, outside, plan-feas, plan-edge, plan-sum, no-blanks, plan-full}
+use Rattle.theory.specs.Tests.{leb?, ltb?, eqb?}
+use Rattle.theory.specs.Sum.{sum}
+use Rattle.theory.specs.All.{all-map}
+use Rattle.theory.specs.Feas.{below, below?, num, below-yes, below-late, below-mono, below-weight, num-weight, num-early, due-below, Feas}
+use Rattle.theory.specs.Full.{Fine, outside, plan-feas, plan-edge, plan-sum, no-blanks, plan-full}
 
-abbrev pub Tight : Round → List Row → ℕ → Type 0
-Tight r ps s = num 0 (suc s) ps ≡ suc s - r .slot
+abbrev pub Tight-in : Round → List Row → ℕ → Type 0
+Tight-in r ps s = num 0 (suc s) ps ≡ suc s - r .slot
 
-pub tight? : (r : Round) (ps : List Row) (s : ℕ) → ((tight r ps s ≡ true) × Tight r ps s) ⊎ ((tight r ps s ≡ false) × (Tight r ps s → ⊥))
+pub tight? : (r : Round) (ps : List Row) (s : ℕ) → ((tight r ps s ≡ true) × Tight-in r ps s) ⊎ ((tight r ps s ≡ false) × (Tight-in r ps s → ⊥))
 unfolding tight
 tight? r ps s =
     elim (eqb? (due-by s ps) (suc s - r .slot)) [
@@ -30,20 +28,20 @@ tight? r ps s =
 pub record Next (r : Round) (ps : List Row) (s e : ℕ) : Type 0 where
   pub from : s ≤ e
   pub by : e ≤ r .last
-  pub tight : Tight r ps e
-  pub first : (u : ℕ) → s ≤ u → u < e → Tight r ps u → ⊥
+  pub tight : Tight-in r ps e
+  pub first : (u : ℕ) → s ≤ u → u < e → Tight-in r ps u → ⊥
 
-pub not-last : (r : Round) (ps : List Row) (s : ℕ) → s ≤ r .last → Tight r ps (r .last) → (Tight r ps s → ⊥) → suc s ≤ r .last
+pub not-last : (r : Round) (ps : List Row) (s : ℕ) → s ≤ r .last → Tight-in r ps (r .last) → (Tight-in r ps s → ⊥) → suc s ≤ r .last
 not-last r ps s h t k =
     elim (ltb? s (r .last)) [ inl a ↦ a .1 | inr a ↦ let e : r .last ≡ s = omega arith in absurd (k (rw e at t)) ]
 
 -- a slot that isn't tight, and what follows it
-pub one-more : (r : Round) (ps : List Row) (a s u : ℕ) → (Tight r ps s → ⊥) → ((u : ℕ) → a ≤ u → u < s → Tight r ps u → ⊥) → a ≤ u →
-    u < suc s → Tight r ps u → ⊥
+pub one-more : (r : Round) (ps : List Row) (a s u : ℕ) → (Tight-in r ps s → ⊥) → ((u : ℕ) → a ≤ u → u < s → Tight-in r ps u → ⊥) → a ≤ u →
+    u < suc s → Tight-in r ps u → ⊥
 one-more r ps a s u k f h i t =
     elim (ltb? u s) [ inl b ↦ f u h (b .1) t | inr b ↦ let e : u ≡ s = omega arith in k (rw e at t) ]
 
-pub next-later : (r : Round) (ps : List Row) (s e : ℕ) → (Tight r ps s → ⊥) → Next r ps (suc s) e → Next r ps s e
+pub next-later : (r : Round) (ps : List Row) (s e : ℕ) → (Tight-in r ps s → ⊥) → Next r ps (suc s) e → Next r ps s e
 next-later r ps s e k n =
     record {
       from = omega arith;
@@ -52,7 +50,7 @@ next-later r ps s e k n =
       first = λ u a b t. elim (ltb? s u) [ inl c ↦ n .first u (c .1) b t | inr c ↦ let q : u ≡ s = omega arith in k (rw q at t) ];
     }
 
-pub next-from : (n s : ℕ) (r : Round) (ps : List Row) → s + n ≡ suc (r .last) → s ≤ r .last → Tight r ps (r .last) →
+pub next-from : (n s : ℕ) (r : Round) (ps : List Row) → s + n ≡ suc (r .last) → s ≤ r .last → Tight-in r ps (r .last) →
     Next r ps s (tight-from n s r ps)
 unfolding tight-from
 next-from zero s r ps e h t = absurd (omega arith)
@@ -63,7 +61,7 @@ next-from (suc n) s r ps e h t =
           (next-later r ps s (tight-from n (suc s) r ps) (k .1) (next-from n (suc s) r ps (omega arith) (not-last r ps s h t (k .1)) t))
     ]
 
-pub next : (r : Round) (ps : List Row) (s : ℕ) → s ≤ r .last → Tight r ps (r .last) → Next r ps s (tight-after r ps s)
+pub next : (r : Round) (ps : List Row) (s : ℕ) → s ≤ r .last → Tight-in r ps (r .last) → Next r ps s (tight-after r ps s)
 unfolding tight-after
 next r ps s h t = next-from (suc (r .last) - s) s r ps (omega arith) h t
 
@@ -72,10 +70,10 @@ pub record Start (r : Round) (ps : List Row) (d b : ℕ) : Type 0 where
   pub low : r .slot ≤ b
   pub by : b ≤ d
   pub edge : num 0 b ps ≡ b - r .slot
-  pub none : (u : ℕ) → b ≤ u → u < d → Tight r ps u → ⊥
+  pub none : (u : ℕ) → b ≤ u → u < d → Tight-in r ps u → ⊥
 
 pub start-from : (n s : ℕ) (r : Round) (ps : List Row) (b d : ℕ) → s + n ≡ d → r .slot ≤ b → b ≤ s → num 0 b ps ≡ b - r .slot →
-    ((u : ℕ) → b ≤ u → u < s → Tight r ps u → ⊥) → Start r ps d (segment-from n s r ps b)
+    ((u : ℕ) → b ≤ u → u < s → Tight-in r ps u → ⊥) → Start r ps d (segment-from n s r ps b)
 unfolding segment-from
 start-from zero s r ps b d e h i j f = record { low = h; by = omega arith; edge = j; none = λ u a c. f u a (omega arith) }
 start-from (suc n) s r ps b d e h i j f =
@@ -119,6 +117,22 @@ least-all s (x ∷ xs) b =
       | inr k ↦ rw (k .0) (λ i. absurd (omega arith), least-all s xs b)
     ]
 
+pub least-found : (s : ℕ) (xs : List Row) (b : ℕ) →
+    (least-weight s xs b ≡ b) ⊎ ((x : Row) × In x xs × (x .due ≤ s) × (x .weight ≡ least-weight s xs b))
+unfolding least-weight
+least-found s [] b = inl refl
+least-found s (x ∷ xs) b =
+    elim (leb? (x .due) s) [
+      | inl k ↦ rw (k .0) (elim (least-found s xs (min b (x .weight))) [
+        | inl e ↦ elim (leb? b (x .weight)) [
+          | inl l ↦ inl (omega (arith, e, l .1))
+          | inr l ↦ inr (x, inl refl, k .1, omega (arith, e, l .1))
+        ]
+        | inr q ↦ inr (q .0, inr (q .1), q .2, q .3)
+      ])
+      | inr k ↦ rw (k .0) (elim (least-found s xs b) [ inl e ↦ inl e | inr q ↦ inr (q .0, inr (q .1), q .2, q .3) ])
+    ]
+
 -- rows of weight w that fill as much as all rows
 pub all-heavy : (w e : ℕ) (xs : List Row) → num 0 e xs ≤ num w e xs → All (λ x. x .due < e → w ≤ x .weight) xs
 all-heavy w e [] h = tt
@@ -140,7 +154,7 @@ heavy-num w e (x ∷ xs) a =
     ]
 
 -- MARKS: above from an edge
-pub mark-above : (r : Round) (ps : List Row) → Feas r ps → Tight r ps (r .last) → (w d e : ℕ) → w ≤ 16777216 →
+pub mark-above : (r : Round) (ps : List Row) → Feas r ps → Tight-in r ps (r .last) → (w d e : ℕ) → w ≤ 16777216 →
     r .slot ≤ d → d < e → e ≤ suc (r .last) → num w e ps ≡ e - r .slot → w ≤ mark-in r ps d
 unfolding mark-in
 mark-above r ps f t w d zero c h i j k = absurd (omega arith)

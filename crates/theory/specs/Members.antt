@@ -1,50 +1,20 @@
 -- The plan's members by the rows that a computation has: each is a blank or one of these. Assumes nothing.
 use mathlib.Core.Path.{_≡_, refl, sym, ap, _∙_, subst}
 use mathlib.Core.Logic.{_⊎_, inl, inr}
-use mathlib.Core.Bool.{Bool, true, false, true≢false}
+use mathlib.Core.Bool.{Bool, false, true≢false}
 use mathlib.Core.List.{List, [], _∷_}
-use Prim.Native.Nat.{ℕ, _≤_}
+use Prim.Native.Nat.{_≤_}
 use native.Mathlib.Omega.{arith}
-use Rattle.rules.specs.Rows.{Row, Round, blank, heavier, sorted, canonical, chosen, rows-only, All, In, Heavier}
+use Rattle.rules.specs.Rows.{Row, Round, sorted, canonical, chosen, rows-only, All, In}
 use Rattle.rules.specs.Plan.{plan, in-plan, total, total-weight, planned, listed}
 use Rattle.theory.specs.Tests.{eqb?}
 use Rattle.theory.specs.Sum.{total-sum}
-use Rattle.theory.specs.All.{all-in, all-append, all-sorted, all-kept}
-use Rattle.theory.specs.Full.{Fine, Row-fine, blanks, pool}
-use Rattle.theory.specs.Change.{rising-same, all-of-in, in-sum}
+use Rattle.theory.specs.All.{blank-ticket, Is-blank, all-in}
+use Rattle.theory.specs.Full.{plan-member, Fine, Row-fine}
+use Rattle.theory.specs.Change.{rising-same, in-sum}
 use Rattle.theory.specs.Times.{ticks}
-use Rattle.theory.specs.Back.{all-blanks}
-use Rattle.theory.specs.Order.{Not-over, heavier?, over-absurd}
 use Rattle.theory.specs.Same.{Same, in-plan?, with-tick, tick-self, row-ticket, planned-same, planned-in, chosen-in, planned-weighs, sorted-same, plan-rows-in}
 use Rattle.theory.specs.Unique.{Certified, certified-rows}
-
-abbrev pub Is-blank : Row → Type 0
-Is-blank x = x ≡ blank (x .due)
-
-pub blank-ticket : (x : Row) → Is-blank x → x .ticket ≡ 0
-unfolding blank
-blank-ticket x e = ap (λ (y : Row). y .ticket) e
-
-pub blank-weight : (x : Row) → Is-blank x → x .weight ≡ 0
-unfolding blank
-blank-weight x e = ap (λ (y : Row). y .weight) e
-
-pub blank-is : (s : ℕ) → Is-blank (blank s)
-unfolding blank
-blank-is s = refl
-
-pub blank-due : (s : ℕ) → blank s .due ≡ s
-unfolding blank
-blank-due s = refl
-
-pub plan-members : (r : Round) → All (λ x. Is-blank x ⊎ In x (r .rows)) (plan r)
-unfolding plan
-plan-members r =
-    all-kept (λ x. Is-blank x ⊎ In x (r .rows)) r (pool r) []
-    (all-append (λ x. Is-blank x ⊎ In x (r .rows)) (sorted heavier (r .rows)) (blanks r)
-    (all-sorted (λ x. Is-blank x ⊎ In x (r .rows)) heavier (r .rows) (all-of-in (λ x. Is-blank x ⊎ In x (r .rows)) (r .rows) (λ x i. inr i)))
-    (all-blanks (λ x. Is-blank x ⊎ In x (r .rows)) (λ s. inl (blank-is s)) _ _ _))
-    tt
 
 pub in-rows-only : (x : Row) (xs : List Row) → 1 ≤ x .ticket → In x xs → In x (rows-only xs)
 unfolding rows-only
@@ -68,19 +38,6 @@ rows-only-in x (y ∷ ys) i = elim (eqb? (y .ticket) 0) [
   where
     the-case : In x (y ∷ rows-only ys) → (x ≡ y) ⊎ In x (rows-only ys)
     the-case j = j
-
--- the order, from its test
-pub heavier-yes : (a b : Row) → heavier a b ≡ true → Heavier a b
-heavier-yes a b e = elim (heavier? a b) [ inl h ↦ h .1 | inr h ↦ absurd (true≢false (sym e ∙ h .0)) ]
-
-pub heavier-no : (a b : Row) → heavier a b ≡ false → Not-over a b
-heavier-no a b e = elim (heavier? a b) [ inl h ↦ absurd (true≢false (sym (h .0) ∙ e)) | inr h ↦ h .1 ]
-
-pub over-heavier : (a b : Row) → Heavier a b → heavier a b ≡ true
-over-heavier a b o = elim (heavier? a b) [ inl h ↦ h .0 | inr h ↦ absurd (over-absurd a b o (h .1)) ]
-
-pub not-over-heavier : (a b : Row) → Not-over a b → heavier a b ≡ false
-not-over-heavier a b o = elim (heavier? a b) [ inl h ↦ absurd (over-absurd a b (h .1) o) | inr h ↦ h .0 ]
 
 -- THE ROWS that a computation found: the plan's, in any order
 pub record Rows (r : Round) (rs : List Row) : Type 0 where
@@ -106,9 +63,9 @@ module _ (r : Round) (f : Fine r) (rs : List Row) (c : Rows r rs) where
   -- a member with a ticket is one of them
   pub member-found : (x : Row) → In x (plan r) → 1 ≤ x .ticket → In x rs
   member-found x i t =
-      let j : In x (r .rows) = elim (all-in (λ x. Is-blank x ⊎ In x (r .rows)) x (plan r) (plan-members r) i) [
-        | inl a ↦ absurd (omega (arith, t, blank-ticket x a))
-        | inr a ↦ a
+      let j : In x (r .rows) = elim (plan-member r x i) [
+        | inl a ↦ a
+        | inr a ↦ absurd (omega (arith, t, blank-ticket x (a .0)))
       ] in
       let w = with-tick (x .ticket) rs (omega (arith, c .same (ticks (x .ticket)), tick-self x, in-sum (ticks (x .ticket)) x (rows-only (plan r)) (in-rows-only x (plan r) t i))) in
       subst (λ (z : Row). In z rs) (rising-same 1 (r .next) (w .0) x (r .rows) (f .rising) (of-rows-in (w .0) (w .1)) j (w .2)) (w .1)
@@ -117,17 +74,17 @@ module _ (r : Round) (f : Fine r) (rs : List Row) (c : Rows r rs) where
   found-member x i =
       let w = with-tick (x .ticket) (rows-only (plan r)) (omega (arith, c .same (ticks (x .ticket)), tick-self x, in-sum (ticks (x .ticket)) x rs i)) in
       let j = rows-only-in (w .0) (plan r) (w .1) in
-      let k : In (w .0) (r .rows) = elim (all-in (λ x. Is-blank x ⊎ In x (r .rows)) (w .0) (plan r) (plan-members r) j) [
-        | inl a ↦ absurd (omega (arith, w .2, of-rows-ticket x i, blank-ticket (w .0) a))
-        | inr a ↦ a
+      let k : In (w .0) (r .rows) = elim (plan-member r (w .0) j) [
+        | inl a ↦ a
+        | inr a ↦ absurd (omega (arith, w .2, of-rows-ticket x i, blank-ticket (w .0) (a .0)))
       ] in
       subst (λ (z : Row). In z (plan r)) (rising-same 1 (r .next) (w .0) x (r .rows) (f .rising) k (of-rows-in x i) (w .2)) j
 
   -- A MEMBER is a blank or one of the rows
   pub member? : (x : Row) → In x (plan r) → Is-blank x ⊎ In x rs
-  member? x i = elim (all-in (λ x. Is-blank x ⊎ In x (r .rows)) x (plan r) (plan-members r) i) [
-    | inl a ↦ inl a
-    | inr a ↦ inr (member-found x i (all-in (λ y. 1 ≤ y .ticket) x (r .rows) (row-ticket r f) a))
+  member? x i = elim (plan-member r x i) [
+    | inl a ↦ inr (member-found x i (all-in (λ y. 1 ≤ y .ticket) x (r .rows) (row-ticket r f) a))
+    | inr a ↦ inl (a .0)
   ]
 
   pub in-plan-is : (x : Row) → In x (r .rows) → in-plan x (plan r) ≡ in-plan x rs

@@ -12,17 +12,17 @@ use Rattle.rules.specs.Plan.{plan, in-plan, feasible, tight, tight-after, segme
 use Rattle.rules.specs.Steps.{is-ordinary, sent}
 use Rattle.theory.specs.Tests.{leb?, ltb?, eqb?}
 use Rattle.theory.specs.Sum.{sum, sum-chosen}
-use Rattle.theory.specs.All.{all-map, all-in}
+use Rattle.theory.specs.All.{all-map, all-in, all-of-in, blank-weight, blank-is}
 use Rattle.theory.specs.Feas.{below, num, below-yes, below-light, num-heavy, num-weight, due-below, feas-made}
 use Rattle.theory.specs.Full.{Fine, Row-fine, plan-feas, plan-full}
-use Rattle.theory.specs.Marks.{Tight, tight?, Next, next, Start, start, box, box-num, spans, least-above, least-all}
-use Rattle.theory.specs.Change.{all-of-in, in-sum}
+use Rattle.theory.specs.Marks.{Tight-in, tight?, Next, next, Start, start, box, box-num, spans, least-above, least-all}
+use Rattle.theory.specs.Change.{in-sum}
 use Rattle.theory.specs.Send.{next-by}
 use Rattle.theory.specs.Same.{sum-none, planned-same}
 use Rattle.theory.specs.Score.{score-of}
 use Rattle.theory.specs.Unique.{Left-out, Certified, passed, plan-out}
 use Rattle.theory.specs.Slack.{slack, idle, rows-num, slack-is, tight-least, least-tight, mark-idle, mark-rows}
-use Rattle.theory.specs.Members.{blank-weight, blank-is, Rows, certified-found, of-rows-ticket, of-rows-fine, found-member, member?, in-plan-is}
+use Rattle.theory.specs.Members.{Rows, certified-found, of-rows-ticket, of-rows-fine, found-member, member?, in-plan-is}
 use Rattle.theory.specs.Substitute.{later-none, score-none}
 use Rattle.theory.specs.Best.{heaviest-beats, ordinary-is}
 use Rattle.theory.specs.Close.{after-slot, closed, sent-gone}
@@ -156,7 +156,7 @@ module _ (r : Round) (f : Fine r) (rs : List Row) (c : Rows r rs) (z : ℕ) (k :
       ]
 
   -- BEFORE IT a slot is tight where no slack is
-  pub near-last : r .slot < z → Tight r (plan r) (z - 1)
+  pub near-last : r .slot < z → Tight-in r (plan r) (z - 1)
   near-last h =
       let d : suc (z - 1) ≡ z = omega (arith, h) in
       omega (
@@ -169,7 +169,7 @@ module _ (r : Round) (f : Fine r) (rs : List Row) (c : Rows r rs) (z : ℕ) (k :
         plan-feas r f z (k .from) (k .by),
       )
 
-  pub near-tight-is : (s : ℕ) → r .slot ≤ s → s < z → Tight r (plan r) s → Tight r rs s
+  pub near-tight-is : (s : ℕ) → r .slot ≤ s → s < z → Tight-in r (plan r) s → Tight-in r rs s
   near-tight-is s h i t =
       let d : suc (z - 1) ≡ z = omega (arith, i) in
       let y : tight r (plan r) s ≡ true = elim (tight? r (plan r) s) [ inl a ↦ a .0 | inr a ↦ absurd (a .1 t) ] in
@@ -183,7 +183,7 @@ module _ (r : Round) (f : Fine r) (rs : List Row) (c : Rows r rs) (z : ℕ) (k :
         ap (λ v. num 0 v rs) d,
       )
 
-  pub near-is-tight : (s : ℕ) → r .slot ≤ s → s < z → Tight r rs s → Tight r (plan r) s
+  pub near-is-tight : (s : ℕ) → r .slot ≤ s → s < z → Tight-in r rs s → Tight-in r (plan r) s
   near-is-tight s h i t =
       omega (arith, t, rows-num r f rs (c .same) 0 (suc s), plan-feas r f (suc s) (omega (arith, h)) (omega (arith, i, k .by)))
 
@@ -194,7 +194,7 @@ module _ (r : Round) (f : Fine r) (rs : List Row) (c : Rows r rs) (z : ℕ) (k :
   ]
 
   -- THE NEXT TIGHT SLOT: the first without slack
-  pub near-next : (s e : ℕ) → r .slot ≤ s → s ≤ e → e < z → Tight r rs e → ((u : ℕ) → s ≤ u → u < e → Tight r rs u → ⊥) → tight-after r (plan r) s ≡ e
+  pub near-next : (s e : ℕ) → r .slot ≤ s → s ≤ e → e < z → Tight-in r rs e → ((u : ℕ) → s ≤ u → u < e → Tight-in r rs u → ⊥) → tight-after r (plan r) s ≡ e
   near-next s e h i j t g =
       let n = next r (plan r) s (omega (arith, i, j, k .by)) (plan-full r f) in
       let a = next-by r (plan r) s (tight-after r (plan r) s) e n i (near-is-tight e (omega (arith, h, i)) j t) in
@@ -220,7 +220,7 @@ module _ (r : Round) (f : Fine r) (rs : List Row) (c : Rows r rs) (z : ℕ) (k :
       )
 
   -- THE START of a segment
-  pub near-start : (d b : ℕ) → r .slot ≤ b → b ≤ d → d ≤ r .last → d ≤ z → num 0 b rs ≡ b - r .slot → ((u : ℕ) → b ≤ u → u < d → Tight r rs u → ⊥) →
+  pub near-start : (d b : ℕ) → r .slot ≤ b → b ≤ d → d ≤ r .last → d ≤ z → num 0 b rs ≡ b - r .slot → ((u : ℕ) → b ≤ u → u < d → Tight-in r rs u → ⊥) →
       segment-start r (plan r) d ≡ b
   near-start d b h i l j e g =
       start-same r (plan r) d (segment-start r (plan r) d) b (start r (plan r) d (plan-feas r f) (f .time) (omega (arith, h, i)))
@@ -244,7 +244,7 @@ module _ (r : Round) (f : Fine r) (rs : List Row) (c : Rows r rs) (z : ℕ) (k :
       (omega (arith, n .tight, slack-is r f rs (c .same) e (omega (arith, h, n .from)) (n .by)))
       (λ u b d. some u (omega (arith, h, b)) (omega (arith, d, n .by)) (n .first u b d))
     where
-      some : (u : ℕ) → r .slot ≤ u → u ≤ r .last → (Tight r rs u → ⊥) → 1 ≤ slack r rs u
+      some : (u : ℕ) → r .slot ≤ u → u ≤ r .last → (Tight-in r rs u → ⊥) → 1 ≤ slack r rs u
       some u a b t = elim (eqb? (slack r rs u) 0) [
         | inl d ↦ absurd (t (omega (arith, d .1, slack-is r f rs (c .same) u a b)))
         | inr d ↦ let n = d .1 in omega arith

@@ -47,13 +47,13 @@ found-later k x xs none n f =
     λ y m h. elim m [ inl e ↦ n (ap (λ (z : Row). z .ticket) (sym e) ∙ h) | inr l ↦ f y l h ]
 found-later k x xs (some y) n f = (inr (f .0), f .1)
 
-pub found : (k : ℕ) (xs : List Row) → Found k xs (with-ticket k xs)
+pub ticket-found : (k : ℕ) (xs : List Row) → Found k xs (with-ticket k xs)
 unfolding with-ticket
-found k [] = λ x m h. m
-found k (x ∷ xs) =
+ticket-found k [] = λ x m h. m
+ticket-found k (x ∷ xs) =
     elim (eqb? (x .ticket) k) [
       | inl e ↦ rw (e .0) (inl refl, e .1)
-      | inr e ↦ rw (e .0) (found-later k x xs (with-ticket k xs) (e .1) (found k xs))
+      | inr e ↦ rw (e .0) (found-later k x xs (with-ticket k xs) (e .1) (ticket-found k xs))
     ]
 
 abbrev pub missing : Option Row → Bool
@@ -128,8 +128,8 @@ substitute-is-given k t h =
     rw (substitute-number k t)
     (table-checked t h
     (checks-past t
-    (check 10 (missing o) (No-row k t) (λ e. missing? k t o (found k (r .rows)))
-    (check 11 (unplanned r o) (Not-planned k t) (λ e. unplanned? k t o (found k (r .rows))) passed))))
+    (check 10 (missing o) (No-row k t) (λ e. missing? k t o (ticket-found k (r .rows)))
+    (check 11 (unplanned r o) (Not-planned k t) (λ e. unplanned? k t o (ticket-found k (r .rows))) passed))))
 
 pub list-number : (n : ℕ) (t : List ℕ) → number-of (list-answer t n)
     ≡ first (table-refusal t) (cond (ltb (round-in t .last) (round-in t .slot)) 5 (cond (ltb n (length (listed (round-in t)))) 12 0))

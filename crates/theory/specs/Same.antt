@@ -1,24 +1,24 @@
 -- Lists with the same rows in any order, told by sums; sorting forgets the order; the plan's rows are the waiting rows in the plan. Assumes nothing.
-use mathlib.Core.Path.{_≡_, refl, sym, ap, ap₂, _∙_, subst}
+use mathlib.Core.Path.{_≡_, refl, sym, ap, ap₂, subst}
 use mathlib.Core.Logic.{_⊎_, inl, inr, _≢_}
-use mathlib.Core.Bool.{Bool, true, false, _&&_, _||_, not, cond, true≢false, false≢true}
-use mathlib.Core.List.{List, [], _∷_, _++_}
-use Prim.Native.Nat.{ℕ, zero, suc, _+_, _*_, _-_, _≤_, _<_}
+use mathlib.Core.Bool.{Bool, true, false, cond, false≢true}
+use mathlib.Core.List.{List, [], _∷_}
+use Prim.Native.Nat.{ℕ, suc, _+_, _-_, _≤_, _<_}
 use native.Mathlib.Omega.{arith}
-use lib.Dec.{ltb, leb, eqb}
+use lib.Dec.{eqb}
 use borrow.Author.Tests.{le-leb, ne-eqb}
-use lib.ListN.{length}
-use Rattle.rules.specs.Rows.{Row, Round, heavier, canonical, into, sorted, chosen, rows-only, All, In, Heavier}
+use Rattle.rules.specs.Rows.{Row, Round, canonical, sorted, chosen, rows-only, All, In}
 use Rattle.rules.specs.Plan.{plan, same-row, in-plan, total, total-weight, flags, planned, listed}
+use Rattle.rules.specs.PlanM.{Member}
 use Rattle.rules.specs.Demands.{member, in-time, turns}
-use Rattle.theory.specs.Tests.{either, leb?, ltb?, eqb?}
-use Rattle.theory.specs.Sum.{sum, sum-sorted, sum-kept, total-sum}
-use Rattle.theory.specs.All.{all-map, all-in, all-append, all-into, all-sorted}
+use Rattle.theory.specs.Tests.{either, eqb?}
+use Rattle.theory.specs.Sum.{sum, sum-sorted, total-sum}
+use Rattle.theory.specs.All.{blank-weight, blank-ticket, ticketless-blanks, all-map, all-in, all-sorted, all-of-in}
+use Rattle.theory.specs.Order.{Sorted, Not-before, sorted-sorted, not-before-both, not-before-due}
 use Rattle.theory.specs.Feas.{below, num, below-yes, Feas}
-use Rattle.theory.specs.Full.{Fine, Row-fine, Rising, blanks, outside, plan-feas, plan-sum, plan-due}
-use Rattle.theory.specs.Change.{Member, plan-rows, rising-same, rising-above, in-sum, ticketless, all-of-in, in-sorted, not-in-plan}
-use Rattle.theory.specs.Times.{is, is?, ticks, no-ticks, rising-ticks, Apart, apart-of, rank-due, in-slots, slots-of, rank, all-chosen, sum-rows-only, all-rows-only, plan-ticks}
-use Rattle.theory.specs.Order.{Not-over, heavier?, not-over-trans, over-not, over-absurd}
+use Rattle.theory.specs.Full.{plan-members, Fine, Row-fine, Rising, blanks, outside, plan-feas, plan-sum, plan-due}
+use Rattle.theory.specs.Change.{rising-same, rising-above, in-sum, not-in-plan}
+use Rattle.theory.specs.Times.{is?, ticks, no-ticks, rising-ticks, apart-of, rank-due, in-slots, slots-of, rank, all-chosen, sum-rows-only, all-rows-only, plan-ticks}
 
 -- THE SAME ROWS in any order
 abbrev pub Same : List Row → List Row → Type 0
@@ -35,64 +35,6 @@ with-tick k (x ∷ xs) h =
 
 pub tick-self : (x : Row) → ticks (x .ticket) x ≡ 1
 tick-self x = elim (is? (x .ticket) (x .ticket)) [ inl a ↦ a .0 | inr a ↦ absurd (a .1 refl) ]
-
--- canonical order, without tests
-abbrev pub Not-before : Row → Row → Type 0
-Not-before a b = (b .due < a .due) ⊎ ((a .due ≡ b .due) × Not-over a b)
-
-pub canonical? : (a b : Row) → ((canonical a b ≡ true) × Not-before b a) ⊎ ((canonical a b ≡ false) × Not-before a b)
-unfolding canonical
-canonical? a b =
-    elim (ltb? (a .due) (b .due)) [
-      | inl h ↦ inl (rw (h .0), inl (h .1))
-      | inr h ↦ elim (eqb? (a .due) (b .due)) [
-        | inl k ↦ elim (heavier? a b) [
-          | inl l ↦ inl (rw (h .0, k .0, l .0), inr (sym (k .1), over-not a b (l .1)))
-          | inr l ↦ inr (rw (h .0, k .0, l .0), inr (k .1, l .1))
-        ]
-        | inr k ↦ let n = k .1 in inr (rw (h .0, k .0), inl (omega arith))
-      ]
-    ]
-
-pub not-before-trans : (z y x : Row) → Not-before z y → Not-before y x → Not-before z x
-not-before-trans z y x (inl a) (inl b) = inl (omega arith)
-not-before-trans z y x (inl a) (inr b) = inl (omega (arith, b .0))
-not-before-trans z y x (inr a) (inl b) = inl (omega (arith, a .0))
-not-before-trans z y x (inr a) (inr b) = inr (a .0 ∙ b .0, not-over-trans z y x (a .1) (b .1))
-
-pub not-over-both : (a b : Row) → Not-over a b → Not-over b a → a .ticket ≡ b .ticket
-not-over-both a b (inl h) (inl k) = omega arith
-not-over-both a b (inl h) (inr k) = omega (arith, k .0)
-not-over-both a b (inr h) (inl k) = omega (arith, h .0)
-not-over-both a b (inr (e, inl h)) (inr (g, inl k)) = omega arith
-not-over-both a b (inr (e, inl h)) (inr (g, inr k)) = omega (arith, k .0)
-not-over-both a b (inr (e, inr h)) (inr (g, inl k)) = omega (arith, h .0)
-not-over-both a b (inr (e, inr h)) (inr (g, inr k)) = omega (arith, h .1, k .1)
-
-pub not-before-both : (a b : Row) → Not-before a b → Not-before b a → a .ticket ≡ b .ticket
-not-before-both a b (inl h) (inl k) = omega arith
-not-before-both a b (inl h) (inr k) = omega (arith, k .0)
-not-before-both a b (inr h) (inl k) = omega (arith, h .0)
-not-before-both a b (inr h) (inr k) = not-over-both a b (h .1) (k .1)
-
-abbrev pub Sorted : List Row → Type 0
-Sorted [] = Unit {0}
-Sorted (x ∷ xs) = All (λ z. Not-before z x) xs × Sorted xs
-
-pub sorted-into : (x : Row) (ys : List Row) → Sorted ys → Sorted (into canonical x ys)
-unfolding into
-sorted-into x [] o = (tt, tt)
-sorted-into x (y ∷ ys) o =
-    elim (canonical? x y) [
-      | inl h ↦ rw (h .0)
-          ((h .1, all-map {Q = λ z. Not-before z x} (λ z (k : Not-before z y). not-before-trans z y x k (h .1)) ys (o .0)), o)
-      | inr h ↦ rw (h .0) (all-into (λ z. Not-before z y) canonical x ys (h .1) (o .0), sorted-into x ys (o .1))
-    ]
-
-pub sorted-sorted : (xs : List Row) → Sorted (sorted canonical xs)
-unfolding sorted
-sorted-sorted [] = tt
-sorted-sorted (x ∷ xs) = sorted-into x (sorted canonical xs) (sorted-sorted xs)
 
 -- two sorted lists with the same rows are one, where a ticket says the row
 module _ (rows : List Row) (a b : ℕ) (s : Rising a b rows) where
@@ -192,7 +134,7 @@ tick-once r f k h =
       arith,
       plan-sum (ticks k) r,
       rising-ticks 1 (r .next) k (r .rows) (f .rising) .0,
-      no-ticks k (blanks r) (all-map {Q = λ x. x .ticket ≢ k} (λ x (a : (x .weight ≤ 0) × (x .ticket ≡ 0)). omega arith) (blanks r) (ticketless _ _ _)),
+      no-ticks k (blanks r) (all-map {Q = λ x. x .ticket ≢ k} (λ x (a : x .ticket ≡ 0). omega arith) (blanks r) (ticketless-blanks _ _ _)),
     )
 
 pub of-outside : (r : Round) → Fine r → (μ : Row → ℕ) (x : Row) → In x (outside r) → of-plan (plan r) μ x ≡ 0
@@ -226,8 +168,8 @@ planned-same r f μ =
       of-chosen (plan r) μ (r .rows) (row-ticket r f),
       sum-none (of-plan (plan r) μ) (outside r) (all-of-in (λ x. of-plan (plan r) μ x ≡ 0) (outside r) (λ x i. of-outside r f μ x i)),
       sum-none (of-plan (plan r) μ) (blanks r)
-          (all-map {Q = λ x. of-plan (plan r) μ x ≡ 0} (λ x (h : (x .weight ≤ 0) × (x .ticket ≡ 0)). of-none (plan r) μ x (h .1)) (blanks r)
-          (ticketless _ _ _)),
+          (all-map {Q = λ x. of-plan (plan r) μ x ≡ 0} (λ x (h : x .ticket ≡ 0). of-none (plan r) μ x h) (blanks r)
+          (ticketless-blanks _ _ _)),
     )
 
 pub chosen-in : (ms : List Bool) (xs : List Row) → All (λ x. In x xs) (chosen ms xs)
@@ -236,8 +178,8 @@ chosen-in ms xs = all-chosen (λ x. In x xs) ms xs (all-of-in (λ x. In x xs) xs
 pub plan-rows-in : (r : Round) → Fine r → All (λ x. In x (r .rows)) (rows-only (plan r))
 plan-rows-in r f =
     all-map {Q = λ x. In x (r .rows)}
-    (λ x (h : (1 ≤ x .ticket) × Member r x). elim (h .1) [ inl a ↦ absurd (omega (arith, h .0, a .1)) | inr a ↦ a ])
-    (rows-only (plan r)) (all-rows-only (Member r) (plan r) (plan-rows r))
+    (λ x (h : (1 ≤ x .ticket) × Member r x). elim (h .1) [ inl a ↦ a | inr a ↦ absurd (omega (arith, h .0, blank-ticket x (a .0))) ])
+    (rows-only (plan r)) (all-rows-only (Member r) (plan r) (plan-members r))
 
 pub planned-in : (r : Round) → All (λ x. In x (r .rows)) (planned r)
 unfolding planned
@@ -252,8 +194,7 @@ unfolding listed
 listed-planned r f =
     sorted-same (r .rows) 1 (r .next) (f .rising) (rows-only (plan r)) (planned r) (plan-rows-in r f) (planned-in r) (planned-same r f)
 
--- its weight
--- a measure that is 0 for blanks
+-- its weight: a measure that is 0 for blanks
 pub sum-of-rows : (μ : Row → ℕ) (xs : List Row) → All (λ y. y .ticket ≡ 0 → μ y ≡ 0) xs → sum μ (rows-only xs) ≡ sum μ xs
 unfolding rows-only
 sum-of-rows μ [] a = refl
@@ -272,9 +213,9 @@ planned-weighs r f =
       planned-same r f (λ x. x .weight),
       sum-of-rows (λ x. x .weight) (plan r) (all-map {Q = λ y. y .ticket ≡ 0 → y .weight ≡ 0}
           (λ y (h : Member r y) (q : y .ticket ≡ 0). elim h [
-            | inl a ↦ omega (arith, a .0)
-            | inr a ↦ absurd (omega (arith, q, all-in (λ x. 1 ≤ x .ticket) y (r .rows) (row-ticket r f) a))
-          ]) (plan r) (plan-rows r)),
+            | inr a ↦ blank-weight y (a .0)
+            | inl a ↦ absurd (omega (arith, q, all-in (λ x. 1 ≤ x .ticket) y (r .rows) (row-ticket r f) a))
+          ]) (plan r) (plan-members r)),
     )
 
 pub listed-weighs : (r : Round) → Fine r → total r ≡ total-weight (listed r)
@@ -307,10 +248,6 @@ pub turn-fresh : (a b : ℕ) → a < b → (xs : List Row) → member a (turns b
 unfolding member turns
 turn-fresh a b h [] = refl
 turn-fresh a b h (x ∷ xs) = rw (ne-eqb b a (λ e. omega (arith, e))) (turn-fresh a (suc b) (omega arith) xs)
-
-pub not-before-due : (z x : Row) → Not-before z x → x .due ≤ z .due
-not-before-due z x (inl h) = omega arith
-not-before-due z x (inr h) = omega (arith, h .0)
 
 pub in-turn : (r : Round) (a d : ℕ) (xs : List Row) → r .slot ≤ a → Sorted xs → All (λ x. (r .slot ≤ x .due) × (x .due ≤ r .last)) xs → All (λ x. d ≤ x .due) xs →
     ((e : ℕ) → d < e → r .slot ≤ e → e ≤ suc (r .last) → a - r .slot + num 0 e xs ≤ e - r .slot) → in-time (r .slot) xs (turns a xs) ≡ true

@@ -1,15 +1,15 @@
 -- Sound rounds and their tables: calls on a sound round's table refuse, answer and leave what the model says. Assumes nothing.
-use mathlib.Core.Path.{_≡_, refl, sym, ap, ap₂, _∙_}
+use mathlib.Core.Path.{_≡_, refl, ap₂}
 use mathlib.Core.Bool.{Bool, true, false, _&&_, not, cond, true≢false, false≢true}
-use mathlib.Core.List.{List, [], _∷_, _++_}
-use Prim.Native.Nat.{ℕ, suc, _+_, _*_, _-_, _/_, _%_, _≤_, _<_}
+use mathlib.Core.List.{List, [], _∷_}
+use Prim.Native.Nat.{ℕ, suc, _-_, _/_, _%_, _≤_, _<_}
 use native.Mathlib.Omega.{arith}
 use lib.Dec.{ltb, leb, eqb}
 use borrow.Author.Tests.{ltb-true, leb-true, eqb-true}
 use lib.ListN.{length}
 use Rattle.rules.specs.Rows.{Row, Round, round, All}
 use Rattle.rules.specs.Table.{table, rows-of, round-in, length-good, rows-good, round-good, same, table-refusal}
-use Rattle.rules.specs.Calls.{Call, opening, taking, sending, marking, totalling, Reply, refused, first, open-refusal, round-refusal, table-first, refusal, says, leaves, answer, left, run, next-round, after}
+use Rattle.rules.specs.Calls.{Call, opening, taking, sending, marking, totalling, refused, first, round-refusal, table-first, refusal, says, leaves, answer, left, run, next-round, after}
 use Rattle.theory.specs.Tests.{and-true}
 use Rattle.theory.specs.Full.{Fine, Row-fine, Rising}
 use Rattle.theory.specs.Calls.{no-refusal, next-fine}
@@ -57,26 +57,31 @@ rows-good-true r a (x ∷ xs) h e =
       (leb-true a (x .ticket) (d .0), q .2),
     )
 
-pub good-true : (r : Round) → round-good r ≡ true → 1 ≤ r .room → r .room ≤ 1024 → Sane r
+-- a round within bounds is fine, and sized where its room is
+pub good-true : (r : Round) → round-good r ≡ true → Fine r × (r .room ≤ 1024 → Sized r)
 unfolding round-good
-good-true r e h k =
+good-true r e =
     let a = and-true ((leb (r .last) 4095 && leb (r .slot) (suc (r .last))) && (leb 1 (r .next) && leb (r .next) 16777216)) _ e in
     let b = and-true (leb (r .last) 4095 && leb (r .slot) (suc (r .last))) (leb 1 (r .next) && leb (r .next) 16777216) (a .0) in
     let c = and-true (leb (r .last) 4095) (leb (r .slot) (suc (r .last))) (b .0) in
     let d = and-true (leb 1 (r .next)) (leb (r .next) 16777216) (b .1) in
     let g = and-true (leb (length (r .rows)) (r .room)) (rows-good r 1 (r .rows)) (a .1) in
-    let q = rows-good-true r 1 (r .rows) (leb-true 1 (r .next) (d .0)) (g .1) in
-    record {
-      fine = record { time = leb-true (r .slot) (suc (r .last)) (c .1); fine = q .0; rising = q .2 };
-      size = record {
+    let q = rows-good-true r 1 (r .rows) (leb-true 1 (r .next) (d .0)) (g .1) in (
+      record { time = leb-true (r .slot) (suc (r .last)) (c .1); fine = q .0; rising = q .2 },
+      λ k. record {
         last = leb-true (r .last) 4095 (c .0);
         room = k;
         next = leb-true (r .next) 16777216 (d .1);
         long = leb-true (length (r .rows)) (r .room) (g .0);
         kinds = q .1;
-      };
-      some = h;
-    }
+      },
+    )
+
+pub good-fine : (r : Round) → round-good r ≡ true → Fine r
+good-fine r e = good-true r e .0
+
+pub good-sane : (r : Round) → round-good r ≡ true → 1 ≤ r .room → r .room ≤ 1024 → Sane r
+good-sane r e h k = record { fine = good-fine r e; size = good-true r e .1 k; some = h }
 
 pub record Stands-for (t : List ℕ) : Type 0 where
   pub bytes : table (round-in t) ≡ t
@@ -92,7 +97,7 @@ sound t e =
     let d = and-true (eqb ((length t - 16) % 24) 0) (leb ((length t - 16) / 24) 1024) (c .1) in
     record {
       bytes = same-true (table (round-in t)) t (b .1);
-      sane = good-true (round-in t) (b .0) (omega (arith, leb-true 40 (length t) (c .0))) (leb-true ((length t - 16) / 24) 1024 (d .1));
+      sane = good-sane (round-in t) (b .0) (omega (arith, leb-true 40 (length t) (c .0))) (leb-true ((length t - 16) / 24) 1024 (d .1));
     }
   where
     accepted : (c : Bool) → _≡_ {A = ℕ} (cond c 0 3) 0 → c ≡ true

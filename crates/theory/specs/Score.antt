@@ -1,20 +1,21 @@
 -- Which member goes, by one score: weight × F(38) + weight of the substitute × F(39), among equals the canonical first. Assumes nothing.
-use mathlib.Core.Path.{_≡_, refl, sym, ap, ap₂, _∙_}
-use mathlib.Core.Logic.{_⊎_, inl, inr}
-use mathlib.Core.Bool.{Bool, true, false, _&&_, _||_, not, cond}
-use mathlib.Core.List.{List, [], _∷_}
-use Prim.Native.Nat.{ℕ, zero, suc, _+_, _*_, _-_, _≤_, _<_}
+use mathlib.Core.Path.{_≡_, ap₂, _∙_}
+use mathlib.Core.Logic.{inl, inr}
+use mathlib.Core.Bool.{Bool, _&&_, _||_, not}
+use mathlib.Core.List.{[]}
+use Prim.Native.Nat.{ℕ, suc, _≤_, _<_}
 use native.Mathlib.Omega.{arith}
 use lib.Dec.{ltb, leb, eqb}
-use borrow.Author.Tests.{le-ltb, eq-eqb, ne-eqb}
+use borrow.Author.Tests.{eq-eqb, ne-eqb}
 use Rattle.rules.specs.Rows.{Row, Round, blank, canonical, All, In}
-use Rattle.rules.specs.Plan.{plan, first-end, segment-start, lightest-by, heaviest-outside, substitute, golden-more, sends-before}
-use Rattle.theory.specs.Tests.{either, leb?, ltb?, pick}
+use Rattle.rules.specs.Plan.{plan, first-end, segment-start, substitute, sends-before}
+use Rattle.rules.specs.PlanM.{score}
+use Rattle.theory.specs.Tests.{ltb?, pick}
 use Rattle.theory.specs.All.{all-map, all-in}
 use Rattle.theory.specs.Full.{Fine, Row-fine}
 use Rattle.theory.specs.Totals.{plan-weights}
 use Rattle.theory.specs.Back.{lightest-all, outside-all}
-use Rattle.theory.specs.Golden.{score, golden-score}
+use Rattle.theory.specs.Golden.{golden-score}
 
 abbrev pub Bounded : Row → Type 0
 Bounded x = x .weight ≤ 16777216
@@ -36,7 +37,7 @@ substitute-bounded r f p h =
 
 -- THE SCORE of a plan member; it fits 51 bits
 unfoldable pub score-of : Round → Row → ℕ
-score-of r p = p .weight * 39088169 + substitute r (plan r) p .weight * 63245986
+score-of r p = score (p .weight) (substitute r (plan r) p .weight)
 
 pub score-bound : (r : Round) → Fine r → (p : Row) → In p (plan r) → score-of r p ≤ 1716882222612480
 unfolding score-of

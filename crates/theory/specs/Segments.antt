@@ -12,15 +12,15 @@ use Rattle.theory.specs.Tests.{ltb?}
 use Rattle.theory.specs.Sum.{sum}
 use Rattle.theory.specs.Feas.{num}
 use Rattle.theory.specs.Full.{Fine, plan-full}
-use Rattle.theory.specs.Marks.{Tight, next}
+use Rattle.theory.specs.Marks.{Tight-in, next}
 use Rattle.theory.specs.Send.{next-by, between-count}
 use Rattle.theory.specs.Score.{score-of}
 use Rattle.theory.specs.Members.{Rows, found-member}
 use Rattle.theory.specs.Substitute.{later-row, later-none, score-first, score-sub, score-none}
 use Rattle.theory.specs.Best.{first-same, later-same, heaviest-beats}
 use Rattle.theory.specs.Chain.{Chain, chain-extend}
-use Rattle.theory.specs.Count.{under, Sweep, kept-counts}
 use Rattle.theory.specs.Near.{Near, near-is-tight, near-next, near-start, near-mark-least}
+use Rattle.theory.specs.Count.{under, Sweep, kept-counts}
 
 -- A SEGMENT from b to e: no slack before b and by e, some by each slot between
 pub record Segment (r : Round) (rs : List Row) (b e : ℕ) : Type 0 where
@@ -48,7 +48,7 @@ module _ (r : Round) (f : Fine r) (o : r .slot ≤ r .last) (rs : List Row) (c :
   later-segment h =
       let n = next r (plan r) (r .slot) o (plan-full r f) in
       let d : suc (b - 1) ≡ b = omega (arith, h) in
-      let t : Tight r (plan r) (b - 1) =
+      let t : Tight-in r (plan r) (b - 1) =
       near-is-tight r f rs c z k (b - 1) (omega (arith, h)) (omega (arith, h, s .by, near)) (omega (arith, s .edge, d, ap (λ v. num 0 v rs) d)) in
       omega (arith, h, next-by r (plan r) (r .slot) (tight-after r (plan r) (r .slot)) (b - 1) n (omega (arith, h)) t)
 
@@ -109,7 +109,7 @@ module _ (r : Round) (f : Fine r) (o : r .slot ≤ r .last) (rs : List Row) (c :
       Chain r rs e0 e (ks ++ (m ∷ []))
   segment-chain e0 ks ls m l ch i h j g a u v =
       let d : suc (b - 1) ≡ b = omega (arith, a) in
-      let t : Tight r (plan r) (b - 1) =
+      let t : Tight-in r (plan r) (b - 1) =
       near-is-tight r f rs c z k (b - 1) (omega (arith, a)) (omega (arith, a, s .by, near)) (omega (arith, s .edge, d, ap (λ v. num 0 v rs) d)) in
       chain-extend r f rs c e0 (b - 1) e ks ls m (omega (arith, l)) t ch
       (record { inside = i; after = omega (arith, h, a); by = j; most = λ y w x n. g y w (omega (arith, x)) n })

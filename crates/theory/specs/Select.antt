@@ -1,30 +1,29 @@
 -- Full selections of rows and blanks, certified by their next tight slots, have the plan's rows. Assumes nothing.
-use mathlib.Core.Path.{_≡_, refl, sym, ap, ap₂, _∙_, subst}
-use mathlib.Core.Logic.{_⊎_, inl, inr, _≢_}
-use mathlib.Core.Bool.{Bool, true, false, _&&_, _||_, not, cond, true≢false, false≢true}
-use mathlib.Core.List.{List, [], _∷_, _++_}
-use Prim.Native.Nat.{ℕ, zero, suc, _+_, _*_, _-_, _≤_, _<_}
+use mathlib.Core.Path.{_≡_, refl, sym, ap, _∙_, subst}
+use mathlib.Core.Logic.{inl, inr, _≢_}
+use mathlib.Core.Bool.{Bool, true, false, _||_, true≢false}
+use mathlib.Core.List.{List, [], _∷_}
+use Prim.Native.Nat.{ℕ, suc, _+_, _-_, _≤_, _<_}
 use native.Mathlib.Omega.{arith}
-use lib.Dec.{ltb, leb, eqb}
-use borrow.Author.Tests.{eq-eqb, ne-eqb}
-use lib.ListN.{length}
-use Rattle.rules.specs.Rows.{Row, Round, heavier, slots-left, chosen, rows-only, All, In}
+use Rattle.rules.specs.Rows.{Row, Round, heavier, slots-left, rows-only, All, In}
 use Rattle.rules.specs.Plan.{due-by, feasible, plan, same-row, in-plan, tight-after}
-use Rattle.theory.specs.Tests.{either, leb?, ltb?, eqb?}
+use Rattle.rules.specs.PlanM.{Member}
+use Rattle.theory.specs.Tests.{leb?, eqb?}
 use Rattle.theory.specs.Sum.{sum, sum-le}
-use Rattle.theory.specs.All.{all-map, all-in}
-use Rattle.theory.specs.Feas.{below, num, below-yes, below-late, due-below, Feas, feas-yes, feas-made}
-use Rattle.theory.specs.Full.{Fine, Row-fine, Rising, plan-feas, plan-full, plan-due}
-use Rattle.theory.specs.Marks.{Next, next}
-use Rattle.theory.specs.Change.{Member, plan-rows, row-outside, not-in-plan, rising-above, all-of-in, in-sum}
+use Rattle.theory.specs.All.{blank-weight, blank-ticket, all-map, all-in, all-of-in}
+use Rattle.theory.specs.Order.{heavier?, over-absurd}
+use Rattle.theory.specs.Feas.{below, num, below-late, due-below, Feas, feas-yes, feas-made}
+use Rattle.theory.specs.Full.{member-due, plan-members, Fine, Row-fine, Rising, plan-feas, plan-full}
+use Rattle.theory.specs.Marks.{next}
+use Rattle.theory.specs.Change.{row-outside, not-in-plan, rising-above, in-sum}
 use Rattle.theory.specs.Times.{ticks, sum-rows-only, all-rows-only}
-use Rattle.theory.specs.Order.{heavier?, over-absurd, over-light, within, from-row, outside-by-order}
-use Rattle.theory.specs.Same.{in-plan?, of-plan, of-yes, of-no, row-ticket, tick-self, tick-once, sum-none, sum-of-rows, not-over-both}
+use Rattle.theory.specs.Border.{from-row-over, within, from-row, outside-by-order}
+use Rattle.theory.specs.Same.{of-plan, of-yes, of-no, row-ticket, tick-self, tick-once, sum-none, sum-of-rows}
 use Rattle.theory.specs.Unique.{Left-out, in-plan-other, in-plan-self, rising-other, not-there, plan-selected, within-below, all-within}
 
 -- A FULL SELECTION: rows, each at most once, and blanks, feasible and filling every slot; a row left out is lighter than every member due by its next tight slot
 pub record Selection (r : Round) (ps : List Row) : Type 0 where
-  pub members : All (λ y. (r .slot ≤ y .due) × Member r y) ps
+  pub members : All (Member r) ps
   pub once : (k : ℕ) → 1 ≤ k → sum (ticks k) ps ≤ 1
   pub fits : feasible r ps ≡ true
   pub full : due-by (r .last) ps ≡ slots-left r
@@ -83,12 +82,12 @@ module _ (r : Round) (f : Fine r) (ps : List Row) (c : Selection r ps) where
   pub selection-in : All (λ y. In y (r .rows)) (rows-only ps)
   selection-in =
       all-map {Q = λ y. In y (r .rows)}
-      (λ y (h : (1 ≤ y .ticket) × ((r .slot ≤ y .due) × Member r y)). elim (h .1 .1) [ inl a ↦ absurd (omega (arith, h .0, a .1)) | inr a ↦ a ])
-      (rows-only ps) (all-rows-only (λ y. (r .slot ≤ y .due) × Member r y) ps (c .members))
+      (λ y (h : (1 ≤ y .ticket) × Member r y). elim (h .1) [ inl a ↦ a | inr a ↦ absurd (omega (arith, h .0, blank-ticket y (a .0))) ])
+      (rows-only ps) (all-rows-only (Member r) ps (c .members))
 
   pub selection-feas : Feas r ps
   selection-feas =
-      feas-yes r ps (c .fits) (all-map {Q = λ y. r .slot ≤ y .due} (λ y (h : (r .slot ≤ y .due) × Member r y). h .0) ps (c .members))
+      feas-yes r ps (c .fits) (all-map {Q = λ y. r .slot ≤ y .due} (λ y (h : Member r y). member-due r f y h .0) ps (c .members))
 
   -- the certificate of the rows alone
   pub selection-out : (x : Row) → In x (r .rows) → in-plan x (rows-only ps) ≡ false → Left-out r (rows-only ps) x
@@ -109,9 +108,9 @@ module _ (r : Round) (f : Fine r) (ps : List Row) (c : Selection r ps) where
           k .tight,
           sum-of-rows (below 0 (suc z)) ps (all-of-in (λ y. y .ticket ≡ 0 → below 0 (suc z) y ≡ 0) ps (λ y j e.
               elim (leb? (y .due) z) [
-                | inl l ↦ elim (all-in (λ y. (r .slot ≤ y .due) × Member r y) y ps (c .members) j .1) [
-                  | inl a ↦ absurd (light y (a .0) (g .2) (all-in (λ y. y .due ≤ z → heavier y x ≡ true) y ps o j (l .1)))
-                  | inr a ↦ absurd (omega (arith, e, all-in (λ x. 1 ≤ x .ticket) y (r .rows) (row-ticket r f) a))
+                | inl l ↦ elim (all-in (Member r) y ps (c .members) j) [
+                  | inr a ↦ absurd (light y (blank-weight y (a .0)) (g .2) (all-in (λ y. y .due ≤ z → heavier y x ≡ true) y ps o j (l .1)))
+                  | inl a ↦ absurd (omega (arith, e, all-in (λ x. 1 ≤ x .ticket) y (r .rows) (row-ticket r f) a))
                 ]
                 | inr l ↦ below-late 0 (suc z) y (l .1)
               ])),
@@ -120,7 +119,7 @@ module _ (r : Round) (f : Fine r) (ps : List Row) (c : Selection r ps) where
             (all-rows-only (λ y. y .due ≤ z → heavier y x ≡ true) ps o);
       }
     where
-      light : (y : Row) → y .weight ≤ 0 → 1 ≤ x .weight → heavier y x ≡ true → ⊥
+      light : (y : Row) → y .weight ≡ 0 → 1 ≤ x .weight → heavier y x ≡ true → ⊥
       light y h k e = elim (heavier? y x) [
         | inl a ↦ over-absurd y x (a .1) (inl (omega (arith, h, k)))
         | inr a ↦ true≢false (sym e ∙ a .0)
@@ -142,10 +141,7 @@ pub plan-selection : (r : Round) → Fine r → Selection r (plan r)
 unfolding slots-left
 plan-selection r f =
     record {
-      members = all-of-in (λ y. (r .slot ≤ y .due) × Member r y) (plan r) (λ y i. (
-        all-in (λ x. (r .slot ≤ x .due) × (x .due ≤ r .last)) y (plan r) (plan-due r f) i .0,
-        all-in (Member r) y (plan r) (plan-rows r) i,
-      ));
+      members = plan-members r;
       once = λ k h. omega (arith, tick-once r f k h);
       fits = feas-made r (plan r) (plan-feas r f);
       full = omega (arith, due-below (r .last) (plan r), plan-full r f);
@@ -166,14 +162,4 @@ plan-selection r f =
           | inr h ↦ absurd (q .first (e - 1) (omega (arith, b .1)) (h .1) (omega (arith, t, z, ap (λ v. num 0 v (plan r)) z)))
         ] in
         all-of-in (λ y. y .due ≤ tight-after r (plan r) (x .due) → heavier y x ≡ true) (plan r) (λ y j h.
-        over y j (all-in (λ y. y .due < e → from-row x y ≡ true) y (plan r) (all-within (from-row x) e (plan r) (omega (arith, k, b .3))) j (omega (arith, h, m, z))))
-      where
-        over : (y : Row) → In y (plan r) → from-row x y ≡ true → heavier y x ≡ true
-        over y j h =
-            elim (heavier? y x) [
-              | inl a ↦ a .0
-              | inr a ↦ elim (heavier? x y) [
-                | inl b ↦ let q : false ≡ true = (rw (b .0) at h) in absurd (false≢true q)
-                | inr b ↦ absurd (not-in-plan x (plan r) n y j (not-over-both x y (b .1) (a .1)))
-              ]
-            ]
+        from-row-over x y (not-in-plan x (plan r) n y j) (all-in (λ y. y .due < e → from-row x y ≡ true) y (plan r) (all-within (from-row x) e (plan r) (omega (arith, k, b .3))) j (omega (arith, h, m, z))))

@@ -1,23 +1,24 @@
 -- Sending: what leaves and what is shifted, and that the rows after fill as far. Assumes nothing.
-use mathlib.Core.Path.{_≡_, refl, sym, ap, _∙_, subst}
+use mathlib.Core.Path.{_≡_, refl, sym, _∙_}
 use mathlib.Core.Logic.{_⊎_, inl, inr}
-use mathlib.Core.Bool.{Bool, true, false, _&&_, _||_, not, cond, true≢false, false≢true}
-use mathlib.Core.List.{List, [], _∷_, _++_}
-use Prim.Native.Nat.{ℕ, zero, suc, _+_, _*_, _-_, _≤_, _<_, min, max}
+use mathlib.Core.Bool.{true, false, _&&_, not, cond, true≢false}
+use mathlib.Core.List.{List, [], _∷_}
+use Prim.Native.Nat.{ℕ, zero, suc, _+_, _-_, _≤_, _<_}
 use native.Mathlib.Omega.{arith}
-use lib.Dec.{ltb, leb, eqb}
-use borrow.Author.Tests.{lt-ltb, le-ltb, le-leb, ltb-true, leb-true}
-use lib.ListN.{length, replicate}
-use Rattle.rules.specs.Rows.{Row, Round, blank, heavier, row, All, In}
-use Rattle.rules.specs.Plan.{plan, in-plan, tight-after, segment-start, mark-in, mark, first-end, heaviest-outside, substitute, sends-before, best-from, best}
-use Rattle.rules.specs.Steps.{changed, without, still-due, heaviest-between, shifted, replaced, leapt}
-use Rattle.theory.specs.Tests.{either, leb?, ltb?, eqb?, and-true, not-true′, pick, one-if}
+use lib.Dec.{ltb, leb}
+use borrow.Author.Tests.{lt-ltb, le-leb, ltb-true, leb-true}
+use lib.ListN.{length}
+use Rattle.rules.specs.Rows.{Row, Round, heavier, All, In}
+use Rattle.rules.specs.Plan.{plan, in-plan, first-end, heaviest-outside, sends-before, best-from, best}
+use Rattle.rules.specs.Steps.{without, heaviest-between}
+use Rattle.rules.specs.PlanM.{Member}
+use Rattle.theory.specs.Tests.{either, leb?, ltb?, and-true, not-true′, pick, one-if}
 use Rattle.theory.specs.Sum.{sum}
-use Rattle.theory.specs.All.{all-map, all-in}
-use Rattle.theory.specs.Feas.{below, below?, num, below-yes, below-late, below-mono, below-light, num-mono, num-weight, Feas, Edge}
-use Rattle.theory.specs.Full.{Fine, Row-fine, Rising, outside, plan-feas, plan-edge, plan-full, plan-due}
-use Rattle.theory.specs.Marks.{Tight, Next, next, Start, start, box, box?, box-yes, box-num, filled, Marked, mark-above, mark-all, mark-limit}
-use Rattle.theory.specs.Change.{First, changed-sum, without-sum, changed-first, rising-first, rising-same, all-of-in, Member, plan-rows, in-sum, not-in-plan, row-outside, without-none, changed-none, still-box, all-changed, all-without, rising-changed, rising-without}
+use Rattle.theory.specs.All.{blank-ticket, all-of-in}
+use Rattle.theory.specs.Feas.{num, below-yes, below-late}
+use Rattle.theory.specs.Full.{plan-member, Fine, plan-feas, plan-full}
+use Rattle.theory.specs.Marks.{Tight-in, Next, next, box, box?, filled, Marked}
+use Rattle.theory.specs.Change.{without-sum, rising-first, without-none}
 
 -- choices from a list
 pub best-from-in : (r : Round) (ps xs : List Row) (b : Row) (all : List Row) → In b all → All (λ x. In x all) xs → In (best-from r ps xs b) all
@@ -108,7 +109,7 @@ between-count v e (x ∷ xs) h =
     ]
 
 -- tight slots
-pub next-by : (r : Round) (ps : List Row) (s e u : ℕ) → Next r ps s e → s ≤ u → Tight r ps u → e ≤ u
+pub next-by : (r : Round) (ps : List Row) (s e u : ℕ) → Next r ps s e → s ≤ u → Tight-in r ps u → e ≤ u
 next-by r ps s e u n h t = elim (leb? e u) [ inl a ↦ a .1 | inr a ↦ absurd (n .first u h (a .1) t) ]
 
 -- 1 for a slot from v on and before e
@@ -128,8 +129,8 @@ point-yes v e u h k = elim (point? v e u) [ inl a ↦ a .0 | inr (inl a) ↦ ome
 
 -- the rows that are gone or changed
 pub gone : (r : Round) → Fine r → (μ : Row → ℕ) (p : Row) → Member r p → sum μ (r .rows) ≤ sum μ (without (p .ticket) (r .rows)) + μ p
-gone r g μ p (inl h) = rw (h .1, without-none 1 (r .next) 0 (r .rows) (omega arith) (g .rising)) (omega arith)
-gone r g μ p (inr i) = omega (arith, without-sum μ p (r .rows) (rising-first 1 (r .next) p (r .rows) (g .rising) i))
+gone r g μ p (inr b) = rw (blank-ticket p (b .0), without-none 1 (r .next) 0 (r .rows) (omega arith) (g .rising)) (omega arith)
+gone r g μ p (inl i) = omega (arith, without-sum μ p (r .rows) (rising-first 1 (r .next) p (r .rows) (g .rising) i))
 
 -- AN ORDINARY STEP
 pub ordinary-fills : (r : Round) → Fine r → r .slot ≤ r .last → (p : Row) → In p (plan r) → p .due ≤ first-end r (plan r) →
@@ -138,7 +139,7 @@ pub ordinary-fills : (r : Round) → Fine r → r .slot ≤ r .last → (p : Row
 unfolding first-end
 ordinary-fills r g o p i a w d e m zero h k = omega arith
 ordinary-fills r g o p i a w d e m (suc u) h k =
-    let gn = gone r g (box w (suc u) (suc e)) p (all-in (Member r) p (plan r) (plan-rows r) i) in
+    let gn = gone r g (box w (suc u) (suc e)) p (plan-member r p i) in
     let n = next r (plan r) (r .slot) o (plan-full r g) in
     let f : num 0 (suc u) (plan r) ≤ suc u - r .slot = plan-feas r g (suc u) (omega arith) (omega (arith, m .next .by)) in
     elim (box? w (suc u) (suc e) p k) [

@@ -1,19 +1,19 @@
 -- Sending on a sound table: what is answered and every byte left, from what the laws above find. Assumes nothing.
-use mathlib.Core.Path.{_≡_, refl, sym, ap, ap₂, _∙_}
-use mathlib.Core.Bool.{Bool, true, false, _&&_, not, cond, true≢false, false≢true}
-use mathlib.Core.List.{List, [], _∷_, _++_, append-assoc}
-use Prim.Native.Nat.{ℕ, suc, _+_, _*_, _-_, _/_, _%_, _≤_, _<_}
+use mathlib.Core.Path.{_≡_, sym, ap, ap₂, _∙_}
+use mathlib.Core.Bool.{cond}
+use mathlib.Core.List.{List, [], _++_, append-assoc}
+use Prim.Native.Nat.{ℕ, suc, _+_, _*_, _-_, _≤_}
 use native.Mathlib.Omega.{arith}
-use lib.Dec.{ltb, leb, eqb}
-use borrow.Author.Tests.{ltb-true, leb-true, eqb-true, le-ltb}
+use lib.Dec.{leb}
+use borrow.Author.Tests.{le-ltb}
 use lib.ListN.{length, take, replicate}
 use lib.Seq.{sets}
-use Rattle.rules.specs.Rows.{Row, Round, round, All}
+use Rattle.rules.specs.Rows.{Row, round}
 use Rattle.rules.specs.Plan.{plan, first-end, best}
 use Rattle.rules.specs.Steps.{sent, is-ordinary}
-use Rattle.rules.specs.Table.{low, rows-bytes, table, round-in, length-good, rows-good, round-good, same, table-refusal}
+use Rattle.rules.specs.Table.{low, rows-bytes, table, round-in, table-refusal}
 use Rattle.rules.specs.Calls.{first, table-first, round-refusal, step, send-refusal, sending, ordinary, leap, out-of, says, leaves, refusal, answer, left}
-use Rattle.theory.specs.Sane.{Sane, Stands-for, sound}
+use Rattle.theory.specs.Sane.{sound}
 use Rattle.theory.specs.Close.{closed, after-slot, head-bytes, length-head, table-is, Closing, closing-rows, length-closed}
 use Rattle.theory.specs.Write.{head-sets, zeros-join, zero-byte}
 

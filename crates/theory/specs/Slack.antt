@@ -1,23 +1,21 @@
 -- Blanks as suffix minima: tight slots and marks from the plan's rows alone. Assumes nothing.
-use mathlib.Core.Path.{_≡_, refl, sym, ap, ap₂, _∙_, subst}
-use mathlib.Core.Logic.{_⊎_, inl, inr, _≢_}
-use mathlib.Core.Bool.{Bool, true, false, _&&_, _||_, not, cond, true≢false, false≢true}
+use mathlib.Core.Path.{_≡_, refl, sym, ap, _∙_}
+use mathlib.Core.Logic.{_⊎_, inl, inr}
+use mathlib.Core.Bool.{Bool, true, false, cond, true≢false}
 use mathlib.Core.List.{List, [], _∷_, _++_}
-use Prim.Native.Nat.{ℕ, zero, suc, _+_, _*_, _-_, _≤_, _<_, min}
+use Prim.Native.Nat.{ℕ, zero, suc, _+_, _-_, _≤_, _<_, min}
 use native.Mathlib.Omega.{arith}
 use lib.Dec.{ltb, leb, eqb}
-use lib.ListN.{length, replicate}
+use lib.ListN.{replicate}
 use Rattle.rules.specs.Rows.{Row, Round, blank, slots-left, heavier, sorted, rows-only, All, In}
-use Rattle.rules.specs.Plan.{due-by, kept, blanks-from, plan, tight, tight-from, tight-after, segment-from, segment-start, least-weight, mark-in, mark, planned}
-use Rattle.theory.specs.Tests.{either, leb?, ltb?, eqb?}
-use Rattle.theory.specs.Sum.{sum, sum-le, rejected}
-use Rattle.theory.specs.All.{all-map, all-in, all-append, all-sorted, all-replicate}
-use Rattle.theory.specs.Feas.{below, below?, num, below-yes, below-late, below-light, below-mono, below-weight, num-mono, num-weight, due-below, Feas}
-use Rattle.theory.specs.Full.{Fine, Row-fine, blanks, pool, outside, pool-from, feas-none, plan-feas, plan-sum, plan-full, blanks-at, blanks-due}
-use Rattle.theory.specs.Marks.{Tight, tight?, Next, next, next-later, least-above, least-below, least-all, all-heavy, heavy-num, mark-all}
-use Rattle.theory.specs.Change.{Member, plan-rows, all-of-in}
-use Rattle.theory.specs.Times.{sum-rows-only}
-use Rattle.theory.specs.Order.{Of, Not, Downward, Border, border, within, within-yes, within-no, many}
+use Rattle.rules.specs.Plan.{due-by, blanks-from, plan, tight, tight-from, tight-after, segment-from, segment-start, least-weight, mark-in, mark, planned}
+use Rattle.theory.specs.Tests.{positive, either, leb?, ltb?, eqb?}
+use Rattle.theory.specs.Sum.{sum, sum-le}
+use Rattle.theory.specs.All.{blank-weight, all-map, all-in, all-append, all-sorted, all-replicate}
+use Rattle.theory.specs.Feas.{below, num, below-yes, below-late, below-mono, below-weight, num-mono, due-below}
+use Rattle.theory.specs.Full.{plan-member, Fine, blanks, pool, outside, pool-from, feas-none, plan-feas, plan-sum, plan-full, blanks-at}
+use Rattle.theory.specs.Marks.{Tight-in, tight?, Next, next, next-later, least-above, least-below, least-all, all-heavy, heavy-num, mark-all}
+use Rattle.theory.specs.Border.{Of, Not, Downward, Border, border, within, within-yes, within-no, many}
 use Rattle.theory.specs.Same.{Same, row-ticket, planned-same}
 
 -- slots up to one that the rows leave free
@@ -52,7 +50,7 @@ slack-some (suc n) r rs s =
 
 -- the first slot without slack, as the first tight slot of the rows alone; one past the last if there is none
 pub search : (n s : ℕ) (r : Round) (ps : List Row) → s + n ≡ suc (r .last) →
-    Next r ps s (tight-from n s r ps) ⊎ ((u : ℕ) → s ≤ u → u ≤ r .last → Tight r ps u → ⊥)
+    Next r ps s (tight-from n s r ps) ⊎ ((u : ℕ) → s ≤ u → u ≤ r .last → Tight-in r ps u → ⊥)
 unfolding tight-from
 search zero s r ps e = inr (λ u a b. absurd (omega arith))
 search (suc n) s r ps e = elim (tight? r ps s) [
@@ -101,9 +99,9 @@ early-by s x h = elim (either (eqb (x .ticket) 0)) [
   | inr k ↦ rw k
 ]
 
-pub late : (s : ℕ) (x : Row) → eqb (x .ticket) 0 ≡ true → leb (x .due) s ≡ false → Not (early s) x
+pub not-early : (s : ℕ) (x : Row) → eqb (x .ticket) 0 ≡ true → leb (x .due) s ≡ false → Not (early s) x
 unfolding early
-late s x e g = rw (e, g)
+not-early s x e g = rw (e, g)
 
 pub late-blank : (s d : ℕ) → s < d → Not (early s) (blank d)
 unfolding early blank
@@ -159,13 +157,10 @@ early-many s m h (x ∷ xs) = elim (eqb? (x .ticket) 0) [
       below-yes 0 m x (omega arith) (omega (arith, l .1)),
       below-yes 0 (suc s) x (omega arith) (omega (arith, l .1)),
     )
-    | inr l ↦ omega (arith, early-many s m h xs, within-no (early s) m x (late s x (k .0) (l .0)), below-late 0 (suc s) x (l .1))
+    | inr l ↦ omega (arith, early-many s m h xs, within-no (early s) m x (not-early s x (k .0) (l .0)), below-late 0 (suc s) x (l .1))
   ])
   | inr k ↦ rw (k .0) (omega (arith, early-many s m h xs, within-yes (early s) m x (early-row s x (positive (x .ticket) (k .1)))))
 ]
-  where
-    positive : (n : ℕ) → n ≢ 0 → 1 ≤ n
-    positive n h = omega arith
 
 -- where the run's border comes by s, no slot is left after it
 pub none-at : (s m : ℕ) → m ≤ s → (xs : List Row) → All (λ x. Of (early s) x → x .due < m) xs → num 0 (suc s) xs ≡ num 0 s xs
@@ -295,9 +290,9 @@ module _ (r : Round) (f : Fine r) (rs : List Row) (same : Same (rows-only (plan 
       omega (arith, n .tight, n .from, rows-num 0 (suc e), slack-is e (omega (arith, n .from)) (n .by), g e (n .from) (n .by)) in
       let p = with-blank (suc e) (plan r) b in
       let c = all-in (λ x. x .due ≤ e → mark-in r (plan r) s ≤ x .weight) (p .0) (plan r) (mark-all r (plan r) s) (p .1) (omega (arith, p .3)) in
-      elim (all-in (Member r) (p .0) (plan r) (plan-rows r) (p .1)) [
-        | inl a ↦ omega (arith, a .0, c)
-        | inr a ↦ absurd (omega (arith, p .2, all-in (λ x. 1 ≤ x .ticket) (p .0) (r .rows) (row-ticket r f) a))
+      elim (plan-member r (p .0) (p .1)) [
+        | inr a ↦ omega (arith, blank-weight (p .0) (a .0), c)
+        | inl a ↦ absurd (omega (arith, p .2, all-in (λ x. 1 ≤ x .ticket) (p .0) (r .rows) (row-ticket r f) a))
       ]
 
   -- else the least weight of the rows due by the first slot without
@@ -307,7 +302,7 @@ module _ (r : Round) (f : Fine r) (rs : List Row) (same : Same (rows-only (plan 
   mark-rows s z h i k e g =
       let n = next r (plan r) s (omega arith) (plan-full r f) in
       let c : sum (idle (below 0 (suc z))) (plan r) ≡ 0 = omega (arith, idlers-most z z (omega arith) (omega arith) k) in
-      let t : Tight r (plan r) z = omega (arith, slack-is z (omega arith) k, rows-num 0 (suc z)) in
+      let t : Tight-in r (plan r) z = omega (arith, slack-is z (omega arith) k, rows-num 0 (suc z)) in
       let a : tight-after r (plan r) s ≤ z = elim (leb? (tight-after r (plan r) s) z) [
         | inl l ↦ l .1
         | inr l ↦ absurd (n .first z i (l .1) t)
@@ -373,7 +368,7 @@ module _ (r : Round) (f : Fine r) (rs : List Row) (same : Same (rows-only (plan 
         ])
   ]
     where
-      some-slack : (u : ℕ) → r .slot ≤ u → u ≤ r .last → (Tight r rs u → ⊥) → 1 ≤ slack r rs u
+      some-slack : (u : ℕ) → r .slot ≤ u → u ≤ r .last → (Tight-in r rs u → ⊥) → 1 ≤ slack r rs u
       some-slack u a b t = elim (eqb? (slack r rs u) 0) [
         | inl c ↦ absurd (t (omega (arith, c .1, slack-is u a b)))
         | inr c ↦ let d = c .1 in omega arith

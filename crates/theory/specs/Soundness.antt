@@ -15,11 +15,11 @@ use Rattle.rules.specs.Demands.{Soundness}
 use Rattle.theory.specs.Tests.{either, eqb?}
 use Rattle.theory.specs.Third.{length-fits}
 use Rattle.theory.specs.Fields.{Zeros, field-drop}
-use Rattle.theory.specs.Clauses.{Row-right, first-row, Rows-right, Clauses, long, clauses-accepted, accepted-length, accepted-clauses}
+use Rattle.theory.specs.Clauses.{Row-right, front-row, Rows-right, Clauses, length-long, clauses-accepted, accepted-length, accepted-clauses}
 
 -- THE LENGTH
 pub length-not-bad : (t : List ℕ) → length-good (length t) ≡ true → Length-bad t → ⊥
-length-not-bad t g b = let l = long t g in b (rows-of t) (l .1) (l .2) (l .0)
+length-not-bad t g b = let l = length-long t g in b (rows-of t) (l .1) (l .2) (l .0)
 
 pub length-bad : (t : List ℕ) → length-good (length t) ≡ false → Length-bad t
 length-bad t e k a b h = true≢false (sym (length-fits t k 0 h a b (omega arith)) ∙ e)
@@ -39,7 +39,7 @@ Row-good t i = Row-right (slot-in t) (last-in t) (next-in t) (before t i) (row-i
 abbrev pub Rows-from : List ℕ → (left row : ℕ) → Type 0
 Rows-from t k i = Rows-right k (slot-in t) (last-in t) (next-in t) (before t i) (drop (row-at i) t)
 
-pub row-there : (t : List ℕ) (i : ℕ) → first-row (drop (row-at i) t) ≡ row-in t i
+pub row-there : (t : List ℕ) (i : ℕ) → front-row (drop (row-at i) t) ≡ row-in t i
 unfolding row
 row-there t i j =
     record {

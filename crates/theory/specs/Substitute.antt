@@ -1,6 +1,6 @@
 -- Substitutes from the plan's rows alone. Assumes nothing.
 use mathlib.Core.Path.{_≡_, sym, ap, _∙_, subst}
-use mathlib.Core.Logic.{_⊎_, inl, inr, _≢_}
+use mathlib.Core.Logic.{_⊎_, inl, inr}
 use mathlib.Core.Bool.{true, false, true≢false}
 use mathlib.Core.List.{List, []}
 use Prim.Native.Nat.{ℕ, suc, _+_, _*_, _-_, _≤_, _<_}
@@ -8,33 +8,29 @@ use native.Mathlib.Omega.{arith}
 use borrow.Author.Tests.{le-leb, lt-leb, eq-eqb}
 use Rattle.rules.specs.Rows.{Row, Round, blank, heavier, In}
 use Rattle.rules.specs.Plan.{plan, in-plan, tight-after, segment-start, mark-in, mark, first-end, lightest-by, heaviest-outside, substitute}
-use Rattle.theory.specs.Tests.{leb?, ltb?, eqb?}
-use Rattle.theory.specs.All.{all-in}
+use Rattle.theory.specs.Tests.{positive, leb?, ltb?, eqb?}
+use Rattle.theory.specs.All.{all-in, all-of-in, Is-blank, blank-ticket, blank-weight, blank-is}
+use Rattle.theory.specs.Order.{Not-over, over-absurd, not-over-both, heavier-yes, heavier-no, not-over-heavier, not-over-weight}
 use Rattle.theory.specs.Feas.{below, below-yes, below-late, below-mono}
 use Rattle.theory.specs.Full.{Fine, Row-fine, plan-feas, plan-full, plan-due}
 use Rattle.theory.specs.Marks.{tight?, next, start, least-above, mark-all}
-use Rattle.theory.specs.Change.{rising-same, all-of-in, in-sum}
+use Rattle.theory.specs.Change.{rising-same, in-sum}
 use Rattle.theory.specs.Send.{next-by}
 use Rattle.theory.specs.Times.{sum-less}
-use Rattle.theory.specs.Order.{Not-over, over-absurd}
-use Rattle.theory.specs.Same.{not-over-both, row-ticket}
-use Rattle.theory.specs.Select.{plan-selection}
+use Rattle.theory.specs.Same.{row-ticket}
 use Rattle.theory.specs.Score.{Bounded, plan-bounded, score-of}
+use Rattle.theory.specs.Select.{plan-selection}
 use Rattle.theory.specs.Slack.{slack, slack-all, tight-is, least-from, idle, idle-le, idlers, idlers-mono, with-blank, rows-num, slack-is, idlers-most, idlers-least, idlers-is}
-use Rattle.theory.specs.Members.{Is-blank, blank-ticket, blank-weight, blank-is, heavier-yes, heavier-no, not-over-heavier, Rows, of-rows-in, of-rows-ticket, of-rows-fine, found-member, member?, in-plan-is}
+use Rattle.theory.specs.Members.{Rows, of-rows-in, of-rows-ticket, of-rows-fine, found-member, member?, in-plan-is}
 use Rattle.theory.specs.Top.{lightest, Left-from, outside-top}
-
-pub not-over-weight : (a b : Row) → Not-over a b → a .weight ≤ b .weight
-not-over-weight a b (inl h) = omega arith
-not-over-weight a b (inr h) = omega (arith, h .0)
 
 pub idle-blank : (μ : Row → ℕ) (x : Row) → x .ticket ≡ 0 → idle μ x ≡ μ x
 unfolding idle
 idle-blank μ x e = rw (eq-eqb (x .ticket) 0 e)
 
-pub first-from : (r : Round) → Fine r → r .slot ≤ r .last → r .slot ≤ first-end r (plan r)
+pub first-end-from : (r : Round) → Fine r → r .slot ≤ r .last → r .slot ≤ first-end r (plan r)
 unfolding first-end
-first-from r f o = next r (plan r) (r .slot) o (plan-full r f) .from
+first-end-from r f o = next r (plan r) (r .slot) o (plan-full r f) .from
 
 -- a member due by the first segment's end that no member due by it is lighter than
 pub record Lightest-of (r : Round) (x : Row) : Type 0 where
@@ -66,6 +62,12 @@ first-weight r f p i h =
       least-above (x .weight) (tight-after r (plan r) (r .slot)) (plan r) 16777216 (all-in Bounded x (plan r) (plan-bounded r f) (l .inside))
           (all-of-in (λ y. y .due ≤ tight-after r (plan r) (r .slot) → x .weight ≤ y .weight) (plan r) (λ y j k. not-over-weight x y (l .least y j k))),
     )
+
+-- of a member due later, the heaviest outside the plan
+pub later-is : (r : Round) (p : Row) → first-end r (plan r) < p .due →
+    substitute r (plan r) p ≡ heaviest-outside (segment-start r (plan r) (p .due)) (r .rows) (plan r) (blank (segment-start r (plan r) (p .due)))
+unfolding substitute
+later-is r p h = rw (lt-leb (p .due) (first-end r (plan r)) h)
 
 module _ (r : Round) (f : Fine r) (rs : List Row) (c : Rows r rs) where
   -- no blanks are due after a slot and by its next tight one
@@ -133,7 +135,7 @@ module _ (r : Round) (f : Fine r) (rs : List Row) (c : Rows r rs) where
       ] in
       elim (member? r f rs c x (l .inside)) [
         | inl a ↦ first-blank o x (l .inside) a (l .by)
-        | inr a ↦ absurd (omega (arith, e, of-rows-fine r f rs c x a .2, not-over-weight x (y .0) (l .least (y .0) (y .1) (omega (arith, y .3, first-from r f o)))))
+        | inr a ↦ absurd (omega (arith, e, of-rows-fine r f rs c x a .2, not-over-weight x (y .0) (l .least (y .0) (y .1) (omega (arith, y .3, first-end-from r f o)))))
       ]
 
   -- else the lightest row due by it
@@ -190,16 +192,8 @@ module _ (r : Round) (f : Fine r) (rs : List Row) (c : Rows r rs) where
         let v = first-vacant o (positive (least-from r rs (r .slot)) (a .1)) in
         absurd (omega (arith, v .0, v .1 x j, k))
   ]
-    where
-      positive : (n : ℕ) → n ≢ 0 → 1 ≤ n
-      positive n h = omega arith
 
   -- DUE LATER: the heaviest row outside the plan that is due from the segment's start on
-  pub later-is : (p : Row) → first-end r (plan r) < p .due →
-      substitute r (plan r) p ≡ heaviest-outside (segment-start r (plan r) (p .due)) (r .rows) (plan r) (blank (segment-start r (plan r) (p .due)))
-  unfolding substitute
-  later-is p h = rw (lt-leb (p .due) (first-end r (plan r)) h)
-
   pub later-row : (p : Row) → first-end r (plan r) < p .due → (x : Row) → In x (r .rows) → in-plan x rs ≡ false → segment-start r (plan r) (p .due) ≤ x .due →
       ((y : Row) → In y (r .rows) → in-plan y rs ≡ false → segment-start r (plan r) (p .due) ≤ y .due → heavier y x ≡ false) →
       substitute r (plan r) p ≡ x
@@ -208,7 +202,7 @@ module _ (r : Round) (f : Fine r) (rs : List Row) (c : Rows r rs) where
       let z = heaviest-outside b (r .rows) (plan r) (blank b) in
       let t = outside-top b (plan r) (r .rows) (blank b) in
       let o : Not-over x z = all-in (λ y. Left-from b (plan r) y → Not-over y z) x (r .rows) (t .most) i (k, in-plan-is r f rs c x i ∙ n) in
-      later-is p h
+      later-is r p h
       ∙ (elim (t .found) [
         | inl e ↦ absurd (omega (
           arith,
@@ -229,7 +223,7 @@ module _ (r : Round) (f : Fine r) (rs : List Row) (c : Rows r rs) where
       let b = segment-start r (plan r) (p .due) in
       let z = heaviest-outside b (r .rows) (plan r) (blank b) in
       let t = outside-top b (plan r) (r .rows) (blank b) in
-      later-is p h
+      later-is r p h
       ∙ (elim (t .found) [
         | inl e ↦ e
         | inr j ↦ absurd (omega (arith, j .1 .0, m z (j .0) (sym (in-plan-is r f rs c z (j .0)) ∙ j .1 .1)))
@@ -249,8 +243,8 @@ module _ (r : Round) (f : Fine r) (rs : List Row) (c : Rows r rs) where
       let z = heaviest-outside b (r .rows) (plan r) (blank b) in
       let t = outside-top b (plan r) (r .rows) (blank b) in
       elim (t .found) [
-        | inl e ↦ inl (later-is p h ∙ e)
-        | inr j ↦ inr (subst (λ (v : Row). Later-sub p v) (sym (later-is p h)) (record {
+        | inl e ↦ inl (later-is r p h ∙ e)
+        | inr j ↦ inr (subst (λ (v : Row). Later-sub p v) (sym (later-is r p h)) (record {
           waiting = j .0;
           outside = sym (in-plan-is r f rs c z (j .0)) ∙ j .1 .1;
           from = j .1 .0;

@@ -1,15 +1,15 @@
 -- Sums of a measure over rows, and how lists that a round makes change them. Assumes nothing.
-use mathlib.Core.Path.{_≡_, refl, sym, ap, _∙_}
-use mathlib.Core.Logic.{_⊎_, inl, inr}
-use mathlib.Core.Bool.{Bool, true, false, _&&_, _||_, not, cond}
+use mathlib.Core.Path.{_≡_, refl}
+use mathlib.Core.Logic.{inl, inr}
+use mathlib.Core.Bool.{Bool, true, false, cond}
 use mathlib.Core.List.{List, [], _∷_, _++_}
-use Prim.Native.Nat.{ℕ, zero, suc, _+_, _*_, _-_, _≤_, _<_}
+use Prim.Native.Nat.{ℕ, _+_, _≤_}
 use native.Mathlib.Omega.{arith}
-use lib.Dec.{ltb, leb, eqb}
-use lib.ListN.{length, replicate}
-use Rattle.rules.specs.Rows.{Row, Round, heavier, into, sorted, chosen}
+use lib.Dec.{leb}
+use lib.ListN.{length}
+use Rattle.rules.specs.Rows.{Row, Round, into, sorted, chosen}
 use Rattle.rules.specs.Plan.{due-by, feasible, kept, total-weight}
-use Rattle.theory.specs.Tests.{either, leb?, ltb?, one-if}
+use Rattle.theory.specs.Tests.{either, one-if}
 
 abbrev pub sum : (Row → ℕ) → List Row → ℕ
 sum μ [] = 0

@@ -34,8 +34,8 @@ pub plan-over : (r : Round) → Fine r → r .last < r .slot → (plan r ≡ [])
 unfolding slots-left total total-weight
 plan-over r f h = let e = empty (plan r) (omega (arith, plan-length r f .0)) in (e, rw e)
 
-pub point : (r : Round) → Sane r → Point r (table r)
-point r s =
+pub point-holds : (r : Round) → Sane r → Point r (table r)
+point-holds r s =
     let f = s .fine in
     record {
       bytes = refl;
@@ -173,7 +173,7 @@ unfolding Demand-three round-refusal
 demand-three t k l cs e h i j =
     record {
       opens = opening-answers t k l e h i j;
-      points = λ xs ys _. rw (run-at t k l e h i j xs) (point (at k l xs) (at-sane t k l e h i j xs));
+      points = λ xs ys _. rw (run-at t k l e h i j xs) (point-holds (at k l xs) (at-sane t k l e h i j xs));
       marks = λ xs ys zs s _ n a b. marks-between k l xs ys s (at-sane t k l e h i j xs) n a b;
       newcomers = λ xs ys d w _ a. rw (at-taken k l xs d w a)
           (newcomer (at k l xs) (at-sane t k l e h i j xs .fine) d w (takes (at k l xs) d w a));

@@ -1,23 +1,21 @@
 -- Going out in time: slots for a feasible set, and a set with slots is feasible; the plan is best. Assumes nothing.
-use mathlib.Core.Path.{_≡_, refl, sym, ap, _∙_, subst}
+use mathlib.Core.Path.{_≡_, refl, subst}
 use mathlib.Core.Logic.{_⊎_, inl, inr, _≢_}
-use mathlib.Core.Bool.{Bool, true, false, _&&_, _||_, not, cond, true≢false, false≢true}
-use mathlib.Core.List.{List, [], _∷_, _++_}
-use Prim.Native.Nat.{ℕ, zero, suc, _+_, _*_, _-_, _≤_, _<_, min, max}
+use mathlib.Core.Bool.{Bool, true, false, _&&_, _||_, not, true≢false, false≢true}
+use mathlib.Core.List.{List, [], _∷_}
+use Prim.Native.Nat.{ℕ, zero, suc, _+_, _-_, _≤_, _<_}
 use native.Mathlib.Omega.{arith}
 use lib.Dec.{ltb, leb, eqb}
-use borrow.Author.Tests.{ltb-true, ltb-false, leb-true, leb-false, eqb-true, eqb-false, le-leb, lt-ltb, le-ltb, eq-eqb, ne-eqb}
-use lib.ListN.{length, replicate}
+use borrow.Author.Tests.{leb-true, le-leb, ne-eqb}
 use Rattle.rules.specs.Rows.{Row, Round, chosen, rows-only, All, In}
-use Rattle.rules.specs.Plan.{plan, total, total-weight}
+use Rattle.rules.specs.Plan.{plan}
 use Rattle.rules.specs.Demands.{member, in-time}
-use Rattle.theory.specs.Tests.{either, leb?, ltb?, eqb?, and-true, not-true′, pick, one-if}
-use Rattle.theory.specs.Sum.{sum, sum-append, sum-chosen, sum-le}
-use Rattle.theory.specs.All.{all-map, all-in, all-append}
-use Rattle.theory.specs.Feas.{below, below?, num, below-yes, below-late, num-mono, Feas}
-use Rattle.theory.specs.Full.{Fine, Row-fine, Rising, blanks, outside, plan-feas, plan-sum, plan-due}
-use Rattle.theory.specs.Change.{Member, plan-rows, rising-above, in-sum, ticketless, all-of-in}
-use Rattle.theory.specs.Totals.{best-weight}
+use Rattle.theory.specs.Tests.{positive, either, ltb?, eqb?, and-true, not-true′, one-if}
+use Rattle.theory.specs.Sum.{sum, sum-le}
+use Rattle.theory.specs.All.{ticketless-blanks, all-map, all-in, all-of-in}
+use Rattle.theory.specs.Feas.{below, below?, num, below-yes, Feas}
+use Rattle.theory.specs.Full.{Fine, Rising, blanks, plan-feas, plan-sum, plan-due}
+use Rattle.theory.specs.Change.{in-sum}
 
 -- SLOTS, NO TWO THE SAME
 abbrev pub Each : (ℕ → Type 0) → List ℕ → Type 0
@@ -251,9 +249,6 @@ all-rows-only P (x ∷ xs) a =
       | inl e ↦ rw (e .0) (all-rows-only P xs (a .1))
       | inr e ↦ rw (e .0) ((positive (x .ticket) (e .1), a .0), all-rows-only P xs (a .1))
     ]
-  where
-    positive : (n : ℕ) → n ≢ 0 → 1 ≤ n
-    positive n h = omega arith
 
 abbrev pub ticks : ℕ → Row → ℕ
 ticks k x = is k (x .ticket)
@@ -292,7 +287,7 @@ plan-ticks r f k h =
       sum-rows-only (ticks k) (plan r),
       plan-sum (ticks k) r,
       rising-ticks 1 (r .next) k (r .rows) (f .rising) .0,
-      no-ticks k (blanks r) (all-map {Q = λ x. x .ticket ≢ k} (λ x (a : (x .weight ≤ 0) × (x .ticket ≡ 0)). omega arith) (blanks r) (ticketless _ _ _)),
+      no-ticks k (blanks r) (all-map {Q = λ x. x .ticket ≢ k} (λ x (a : x .ticket ≡ 0). omega arith) (blanks r) (ticketless-blanks _ _ _)),
     )
 
 pub plan-in-time : (r : Round) → Fine r → in-time (r .slot) (rows-only (plan r)) (slots-of (r .slot) (rows-only (plan r)) (rows-only (plan r))) ≡ true

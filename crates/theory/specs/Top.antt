@@ -4,15 +4,13 @@ use mathlib.Core.Logic.{_⊎_, inl, inr}
 use mathlib.Core.Bool.{Bool, true, false, _&&_, not, cond, false≢true}
 use mathlib.Core.List.{List, [], _∷_}
 use Prim.Native.Nat.{ℕ, _≤_, _<_}
-use native.Mathlib.Omega.{arith}
 use lib.Dec.{ltb, leb}
 use borrow.Author.Tests.{lt-ltb, le-leb, ltb-true, leb-true}
 use Rattle.rules.specs.Rows.{Row, heavier, All, In}
 use Rattle.rules.specs.Plan.{in-plan, lightest-by, heaviest-outside}
 use Rattle.rules.specs.Steps.{heaviest-between}
 use Rattle.theory.specs.Tests.{and-true, not-true′}
-use Rattle.theory.specs.Order.{Not-over, not-over-trans, over-not}
-use Rattle.theory.specs.Members.{heavier-yes, heavier-no}
+use Rattle.theory.specs.Order.{Not-over, not-over-trans, over-not, heavier-yes, heavier-no, not-over-self}
 
 -- of a first row b and the rows of a list that C holds of, none is better than x; N a b: a isn't better than b
 pub record Top (C : Row → Type 0) (N : Row → Row → Type 0) (b : Row) (xs : List Row) (x : Row) : Type 0 where
@@ -41,9 +39,6 @@ top-pick C N t false y b ys x h k p =
 pub and-false : (a b : Bool) → (a && b) ≡ false → a ≡ true → b ≡ false
 and-false true b e h = e
 and-false false b e h = absurd (false≢true h)
-
-pub not-over-self : (x : Row) → Not-over x x
-not-over-self x = inr (refl, inr (refl, omega arith))
 
 -- the lightest due by a slot
 abbrev pub Lighter-not : Row → Row → Type 0

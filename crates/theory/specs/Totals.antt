@@ -1,23 +1,21 @@
 -- Totals as sums of counts over weights; the best set; the newcomer. Assumes nothing.
-use mathlib.Core.Path.{_≡_, refl, sym, ap, _∙_, subst}
+use mathlib.Core.Path.{_≡_, refl, sym, _∙_}
 use mathlib.Core.Logic.{_⊎_, inl, inr, _≢_}
-use mathlib.Core.Bool.{Bool, true, false, _&&_, _||_, not, cond, true≢false, false≢true}
-use mathlib.Core.List.{List, [], _∷_, _++_}
-use Prim.Native.Nat.{ℕ, zero, suc, _+_, _*_, _-_, _≤_, _<_, min, max}
+use mathlib.Core.Bool.{cond}
+use mathlib.Core.List.{List, [], _∷_}
+use Prim.Native.Nat.{ℕ, zero, suc, _+_, _-_, _≤_, _<_, min}
 use native.Mathlib.Omega.{arith}
-use lib.Dec.{ltb, leb, eqb}
-use lib.ListN.{length, replicate}
-use Rattle.rules.specs.Rows.{Row, Round, heavier, sorted, round, row, All, In}
-use Rattle.rules.specs.Plan.{kept, plan, total, total-weight, mark, mark-in, tight-after}
+use lib.Dec.{ltb, leb}
+use Rattle.rules.specs.Rows.{blank, Row, Round, round, row, All}
+use Rattle.rules.specs.Plan.{plan, total, total-weight, mark, mark-in, tight-after}
 use Rattle.rules.specs.Steps.{taken}
-use Rattle.rules.specs.Calls.{take-refusal}
-use Rattle.theory.specs.Tests.{either, leb?, ltb?, eqb?}
+use Rattle.theory.specs.Tests.{leb?, ltb?}
 use Rattle.theory.specs.Sum.{sum, sum-append, total-sum}
-use Rattle.theory.specs.All.{all-map, all-in, all-append, all-sorted, all-kept, light-blanks}
-use Rattle.theory.specs.Feas.{below, below?, num, below-yes, below-late, below-light, num-mono, num-weight, num-early, Feas, Edge}
-use Rattle.theory.specs.Full.{Fine, Row-fine, blanks, pool, outside, plan-feas, plan-edge, plan-sum, no-blanks, plan-full, plan-due}
-use Rattle.theory.specs.Marks.{Next, box, box?, box-yes, box-num, Marked, marked, mark-above}
-use Rattle.theory.specs.Calls.{Takes, takes, taken-fine}
+use Rattle.theory.specs.All.{all-map}
+use Rattle.theory.specs.Feas.{below, num, below-yes, below-light, num-weight, num-early, Feas, Edge}
+use Rattle.theory.specs.Full.{plan-all, Fine, Row-fine, blanks, outside, plan-feas, plan-edge, plan-sum, no-blanks, plan-full}
+use Rattle.theory.specs.Marks.{box, box?, box-yes, box-num, marked, mark-above}
+use Rattle.theory.specs.Calls.{Takes, taken-fine}
 
 -- g 1 + .. + g n; shut, so that no numeral is counted through
 unfoldable pub sum-to : ℕ → (ℕ → ℕ) → ℕ
@@ -107,21 +105,11 @@ best-count r f xs g s w h =
 
 -- weights of the plan
 pub plan-weights : (r : Round) → Fine r → All (λ x. (x .weight ≤ 16777216) × (x .due < suc (r .last))) (plan r)
-unfolding plan
+unfolding blank
 plan-weights r f =
-    both (kept r (pool r) [])
-    (all-kept (λ x. x .weight ≤ 16777216) r (pool r) []
-    (all-append (λ x. x .weight ≤ 16777216) (sorted heavier (r .rows)) (blanks r)
-    (all-sorted (λ x. x .weight ≤ 16777216) heavier (r .rows)
-    (all-map {Q = λ x. x .weight ≤ 16777216} (λ x (h : Row-fine r x). h .3) (r .rows) (f .fine)))
-    (all-map {Q = λ x. x .weight ≤ 16777216} (λ x (h : x .weight ≤ 0). omega arith) (blanks r) (light-blanks _ _ _)))
-    tt)
-    (plan-due r f)
-  where
-    both : (xs : List Row) → All (λ x. x .weight ≤ 16777216) xs → All (λ x. (r .slot ≤ x .due) × (x .due ≤ r .last)) xs →
-        All (λ x. (x .weight ≤ 16777216) × (x .due < suc (r .last))) xs
-    both [] a b = tt
-    both (x ∷ xs) a b = ((a .0, omega (arith, b .0)), both xs (a .1) (b .1))
+    plan-all (λ x. (x .weight ≤ 16777216) × (x .due < suc (r .last))) r
+    (all-map {Q = λ x. (x .weight ≤ 16777216) × (x .due < suc (r .last))} (λ x (h : Row-fine r x). (h .3, omega (arith, h .1))) (r .rows) (f .fine))
+    (λ s h k. (omega arith, omega arith))
 
 pub total-is : (r : Round) → Fine r → total r ≡ sum-to 16777216 (λ w. num w (suc (r .last)) (plan r))
 unfolding total

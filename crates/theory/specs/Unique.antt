@@ -1,24 +1,26 @@
 -- A selection of the rows is the plan's exactly if it is feasible and each row left out has a filled stretch of heavier members past its due slot. Assumes nothing.
 use mathlib.Core.Path.{_≡_, refl, sym, ap, ap₂, _∙_, subst}
 use mathlib.Core.Logic.{_⊎_, inl, inr, _≢_}
-use mathlib.Core.Bool.{Bool, true, false, _&&_, _||_, not, cond, true≢false, false≢true}
+use mathlib.Core.Bool.{Bool, true, false, _||_, cond, true≢false}
 use mathlib.Core.List.{List, [], _∷_, _++_}
-use Prim.Native.Nat.{ℕ, zero, suc, _+_, _*_, _-_, _≤_, _<_}
+use Prim.Native.Nat.{ℕ, zero, suc, _+_, _-_, _≤_, _<_}
 use native.Mathlib.Omega.{arith}
-use lib.Dec.{ltb, leb, eqb}
+use lib.Dec.{eqb}
 use borrow.Author.Tests.{eq-eqb, ne-eqb}
 use lib.ListN.{length, getD}
-use Rattle.rules.specs.Rows.{Row, Round, heavier, sorted, chosen, rows-only, All, In, Heavier}
+use Rattle.rules.specs.Rows.{Row, Round, heavier, sorted, chosen, rows-only, All, In}
 use Rattle.rules.specs.Plan.{due-by, feasible, kept, plan, same-row, in-plan, flags, planned}
-use Rattle.theory.specs.Tests.{either, leb?, ltb?, eqb?}
+use Rattle.rules.specs.PlanM.{Member}
+use Rattle.theory.specs.Tests.{either, leb?}
 use Rattle.theory.specs.Sum.{sum, sum-le, sum-sorted}
-use Rattle.theory.specs.All.{all-map, all-in, all-append, all-sorted, all-kept}
-use Rattle.theory.specs.Feas.{below, below?, num, below-yes, below-late, below-1, due-below, Feas, feas-yes, feas-made}
-use Rattle.theory.specs.Full.{Fine, Row-fine, Rising, blanks, pool, outside}
-use Rattle.theory.specs.Change.{Member, plan-rows, rising-same, rising-above, all-of-in, kept-keeps, row-outside, ticketless, in-sorted}
+use Rattle.theory.specs.All.{blank-weight, ticketless-blanks, all-map, all-in, all-sorted, all-kept, all-of-in}
+use Rattle.theory.specs.Order.{Not-over, heavier?, over-absurd, Ordered, ordered-sorted}
+use Rattle.theory.specs.Feas.{below, num, below-yes, below-late, due-below, Feas, feas-yes, feas-made}
+use Rattle.theory.specs.Full.{plan-members, Fine, Row-fine, Rising, blanks}
+use Rattle.theory.specs.Change.{rising-same, rising-above, kept-keeps, row-outside, in-sorted}
 use Rattle.theory.specs.Times.{all-chosen}
-use Rattle.theory.specs.Order.{Not-over, heavier?, over-absurd, Ordered, ordered-sorted, within, within-yes, within-no, many, from-row, over-light, outside-by-order}
-use Rattle.theory.specs.Same.{Same, in-plan?, of-plan, of-none, of-yes, of-no, of-chosen, sum-none, row-ticket, planned-same, planned-in, planned-feas, not-over-both, chosen-in, sum-of-rows}
+use Rattle.theory.specs.Border.{from-row-over, within, within-yes, within-no, many, from-row, over-light, outside-by-order}
+use Rattle.theory.specs.Same.{Same, in-plan?, of-plan, of-yes, of-no, of-chosen, row-ticket, planned-same, planned-feas, chosen-in, sum-of-rows}
 
 -- THE CERTIFICATE of a row left out: a slot from its due slot on, filled up to it by members that are heavier
 pub record Left-out (r : Round) (rs : List Row) (x : Row) : Type 0 where
@@ -188,7 +190,7 @@ module _ (r : Round) (f : Fine r) (rs : List Row) (members : All (λ y. In y (r 
   plan-follows e =
       follows (sorted heavier (r .rows)) (blanks r) [] (ordered-sorted (r .rows))
       (all-sorted (λ y. In y (r .rows)) heavier (r .rows) (all-of-in (λ y. In y (r .rows)) (r .rows) (λ y i. i)))
-      (all-map {Q = λ y. y .ticket ≡ 0} (λ y (h : (y .weight ≤ 0) × (y .ticket ≡ 0)). h .1) (blanks r) (ticketless _ _ _)) tt tt
+      (ticketless-blanks _ _ _) tt tt
       (λ μ. omega (arith, e μ, sum-sorted (of-plan rs μ) heavier (r .rows)))
 
   -- SO THE PLAN HAS JUST THE SELECTED ROWS
@@ -284,9 +286,9 @@ plan-out r f x i n =
     let p : sum (within (from-row x) e) (rows-only (plan r)) ≡ many (from-row x) e (plan r) =
     sum-of-rows (within (from-row x) e) (plan r) (all-map {Q = λ y. y .ticket ≡ 0 → within (from-row x) e y ≡ 0}
     (λ y (h : Member r y) (q : y .ticket ≡ 0). elim h [
-      | inl a ↦ within-no (from-row x) e y (over-light x y w (a .0))
-      | inr a ↦ absurd (omega (arith, q, all-in (λ x. 1 ≤ x .ticket) y (r .rows) (row-ticket r f) a))
-    ]) (plan r) (plan-rows r)) in
+      | inr a ↦ within-no (from-row x) e y (over-light x y w (omega (arith, blank-weight y (a .0))))
+      | inl a ↦ absurd (omega (arith, q, all-in (λ x. 1 ≤ x .ticket) y (r .rows) (row-ticket r f) a))
+    ]) (plan r) (plan-members r)) in
     let m : many (from-row x) e (planned r) ≡ e - r .slot = sym (planned-same r f (within (from-row x) e)) ∙ p ∙ b .3 in
     let k : num 0 e (planned r) ≤ e - r .slot =
     planned-feas r f e (omega (arith, b .1, all-in (Row-fine r) x (r .rows) (f .fine) i .0)) (b .2) in
@@ -304,18 +306,8 @@ plan-out r f x i n =
         sum-le (within (from-row x) e) (below 0 e) (within-below (from-row x) e) (planned r),
       );
       heavy = all-of-in (λ y. y .due ≤ e - 1 → heavier y x ≡ true) (planned r) (λ y j h.
-          over y j (all-in (λ y. y .due < e → from-row x y ≡ true) y (planned r) (all-within (from-row x) e (planned r) (omega (arith, k, m))) j (omega (arith, h, z))));
+          from-row-over x y (λ q. true≢false (sym (in-planned r y j) ∙ in-plan-ticket y x (plan r) (sym q) ∙ n)) (all-in (λ y. y .due < e → from-row x y ≡ true) y (planned r) (all-within (from-row x) e (planned r) (omega (arith, k, m))) j (omega (arith, h, z))));
     }
-  where
-    over : (y : Row) → In y (planned r) → from-row x y ≡ true → heavier y x ≡ true
-    over y j h =
-        elim (heavier? y x) [
-          | inl a ↦ a .0
-          | inr a ↦ elim (heavier? x y) [
-            | inl b ↦ let q : false ≡ true = (rw (b .0) at h) in absurd (false≢true q)
-            | inr b ↦ absurd (true≢false (sym (in-planned r y j) ∙ in-plan-ticket y x (plan r) (not-over-both y x (a .1) (b .1)) ∙ n))
-          ]
-        ]
 
 pub plan-certified : (r : Round) → Fine r → Certified r (flags (plan r) (r .rows))
 unfolding planned

@@ -8,19 +8,19 @@ use lib.Dec.{leb}
 use lib.ListN.{length}
 use borrow.Author.Tests.{le-leb, lt-leb, leb-true}
 use Rattle.rules.specs.Rows.{Row, Round, blank, heavier, row, In}
-use Rattle.rules.specs.Plan.{plan, in-plan, tight-after, mark, first-end, best}
+use Rattle.rules.specs.Plan.{plan, in-plan, tight-after, first-end, best}
 use Rattle.rules.specs.Steps.{changed, sent, is-ordinary}
 use Rattle.rules.specs.Table.{round-in, table-refusal}
 use Rattle.rules.specs.Calls.{step, sending, ordinary, leap, out-of, answer}
 use Rattle.theory.specs.Full.{Fine}
 use Rattle.theory.specs.Back.{length-changed}
 use Rattle.theory.specs.Members.{Rows, of-rows-fine, found-member}
-use Rattle.theory.specs.Best.{silence, silence-ordinary, ordinary-is}
+use Rattle.theory.specs.Best.{silent-best, silence-ordinary, ordinary-is}
 use Rattle.theory.specs.Chain.{Chain, moves, moved-to}
+use Rattle.theory.specs.Close.{after-slot, closed, sent-ordinary, sent-none, sent-row, sent-kept}
 use Rattle.theory.specs.Near.{Near, far-sent}
 use Rattle.theory.specs.Segments.{Segment, segment-end, segment-begin, first-segment, later-segment, segment-row, segment-none, segment-mark}
 use Rattle.theory.specs.Lead.{Leads, lead-best}
-use Rattle.theory.specs.Close.{after-slot, closed, sent-ordinary, sent-none, sent-row, sent-kept}
 use Rattle.theory.specs.Sender.{answer-sent}
 
 -- WHAT A STEP DOES: p goes; of the rows xs those still due are left, but for one ticket
@@ -41,7 +41,7 @@ module _ (r : Round) (f : Fine r) (o : r .slot ≤ r .last) (rs : List Row) (c :
   pub sends-silence : r .rows ≡ [] → Sends r (blank (r .slot)) true 0 []
   unfolding closed
   sends-silence e =
-      let g = silence r f o rs c e in
+      let g = silent-best r f o rs c e in
       let t = silence-ordinary r f o rs c e in
       record {
         goes = g;

@@ -1,0 +1,19 @@
+-- P10, for every last slot and room: a round just opened sends silence, in an ordinary step. Assumes nothing.
+use mathlib.Core.Path.{refl}
+use native.Mathlib.Omega.{arith}
+use Rattle.rules.specs.Rows.{blank, round}
+use Rattle.rules.specs.Plan.{planned}
+use Rattle.rules.specs.Steps.{opened}
+use Rattle.rules.specs.Calls.{says, out-of}
+use Rattle.rules.specs.Demands.{Opened-silent}
+use Rattle.theory.specs.Calls.{opened-fine}
+use Rattle.theory.specs.Members.{planned-rows}
+use Rattle.theory.specs.Best.{silent-best, silence-ordinary}
+
+pub opened-silent : Opened-silent
+unfolding Opened-silent says opened round out-of blank
+opened-silent l k =
+    let r = opened l k in
+    let f = opened-fine l k in
+    let c = planned-rows r f in
+    rw (silence-ordinary r f (omega arith) (planned r) c refl, silent-best r f (omega arith) (planned r) c refl)

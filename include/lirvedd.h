@@ -1,0 +1,91 @@
+/* Lirvedd: which frame a shelf label station sends in which slot.
+ *
+ * One header for C11 and C++17. Link with the archive libstation.a (x86-64).
+ *
+ * The caller lends a table of bytes, and each call works on it and returns one number. Nothing is kept between calls
+ * but that table: there is no heap, no global state and no input or output. docs/TABLE.md has the table's bytes,
+ * docs/REPLIES.md the rule by which replies are packed.
+ *
+ * What the caller owes, in every call:
+ *   - `table` points to `length` bytes that may be read and written for as long as the call runs. With length 0 any
+ *     pointer will do, NULL too: the reply is refusal 2. No alignment is needed.
+ *   - nobody else reads or writes these bytes meanwhile: one caller at a time for each table, and no two tables that
+ *     are in use at once overlap. Two callers with two tables need no lock.
+ *
+ * All else is checked. Any bytes, any length and any numbers get a reply, and a refused call changes no byte.
+ */
+#ifndef LIRVEDD_H
+#define LIRVEDD_H
+
+#include <stddef.h>
+#include <stdint.h>
+
+#ifdef __cplusplus
+#define LIRVEDD_STATIC_ASSERT static_assert
+extern "C" {
+#else
+#define LIRVEDD_STATIC_ASSERT _Static_assert
+#endif
+
+/* The table: a head, then 1 to LIRVEDD_MOST_ROWS rows. Sizes are in bytes. */
+#define LIRVEDD_HEAD_SIZE 16u
+#define LIRVEDD_ROW_SIZE 24u
+#define LIRVEDD_MOST_ROWS 1024u
+#define LIRVEDD_TABLE_SIZE(rows) (LIRVEDD_HEAD_SIZE + LIRVEDD_ROW_SIZE * (size_t)(rows))
+
+/* The last slot of a round is at most LIRVEDD_MOST_LAST, a weight is 1 to LIRVEDD_MOST_WEIGHT, and every ticket is
+ * below LIRVEDD_TICKET_LIMIT. */
+#define LIRVEDD_MOST_LAST 4095u
+#define LIRVEDD_MOST_WEIGHT 16777216u
+#define LIRVEDD_TICKET_LIMIT 16777216u
+
+/* Why a call was refused. Where several apply, the call gives the first in its own order. */
+enum lirvedd_refusal_number {
+    LIRVEDD_ACCEPTED = 0,
+    LIRVEDD_BAD_LENGTH = 2,     /* the length is not LIRVEDD_TABLE_SIZE(n) for an n from 1 to 1,024 */
+    LIRVEDD_NOT_SOUND = 3,      /* the table is not sound */
+    LIRVEDD_LAST_TOO_LATE = 4,  /* the last slot asked for is above 4,095 */
+    LIRVEDD_ROUND_OVER = 5,     /* the current slot is past the last */
+    LIRVEDD_BAD_WEIGHT = 6,     /* the weight is 0 or above 16,777,216 */
+    LIRVEDD_BAD_SLOT = 7,       /* the slot is before the current one or after the last */
+    LIRVEDD_NO_TICKET_LEFT = 8, /* the next ticket is 16,777,216 */
+    LIRVEDD_TABLE_FULL = 9      /* every row is in use */
+};
+
+/* Opens a round of the slots 0 to `last`, whatever the table held before: current slot 0, next ticket 1, no row in use,
+ * every other byte 0.
+ *
+ * Reply: 0, or one of the refusals 2 and 4, in this order.
+ */
+uint64_t lirvedd_open(uint32_t last, uint8_t *table, size_t length);
+
+/* Takes a frame that is to go out in slot `due` at the latest. It fills the first unused row; the next ticket and the
+ * rows in use rise by 1, and nothing else changes.
+ *
+ * Reply: the frame's ticket (lirvedd_ticket), or one of the refusals 2, 3, 5, 6, 7, 8 and 9, in this order.
+ */
+uint64_t lirvedd_take(uint32_t due, uint32_t weight, uint8_t *table, size_t length);
+
+/* Of any reply: the refusal's number, LIRVEDD_ACCEPTED (0) where the call was accepted. */
+static inline uint32_t lirvedd_refusal(uint64_t reply)
+{
+    return (uint32_t)(reply & 0xFFu);
+}
+
+/* Of an accepted reply of lirvedd_take: the ticket, 1 to LIRVEDD_TICKET_LIMIT - 1. Of a refusal: 0. */
+static inline uint32_t lirvedd_ticket(uint64_t reply)
+{
+    return (uint32_t)((reply >> 8) & 0xFFFFFFu);
+}
+
+LIRVEDD_STATIC_ASSERT(sizeof(size_t) == 8, "the archive is for x86-64: a length has 64 bits");
+LIRVEDD_STATIC_ASSERT(LIRVEDD_TABLE_SIZE(1) == 40, "the least table has 40 bytes");
+LIRVEDD_STATIC_ASSERT(LIRVEDD_TABLE_SIZE(LIRVEDD_MOST_ROWS) == 24592, "the largest table has 24,592 bytes");
+LIRVEDD_STATIC_ASSERT(LIRVEDD_TICKET_LIMIT - 1 <= 0xFFFFFFu, "a ticket has 24 bits in a reply");
+
+#ifdef __cplusplus
+}
+#endif
+#undef LIRVEDD_STATIC_ASSERT
+
+#endif

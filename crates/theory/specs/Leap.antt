@@ -304,7 +304,8 @@ leap-kept r f p b e i n o h j =
           (rows-kept r f 0 .okay);
       rising = rising-changed 1 (r .next) (p .ticket) x refl (r .rows) (f .rising);
       fills = λ w d t v m k l. elim (plan-member r p i) [
-        | inr a ↦ rw (blank-ticket p (a .0), changed-none 1 (r .next) 0 (row 0 b (mark-in r (plan r) b) 1) (r .rows) (omega arith) (f .rising)) (plain r f w d t v m (omega arith) l)
+        | inr a ↦ rw (blank-ticket p (a .0), changed-none 1 (r .next) 0 (row 0 b (mark-in r (plan r) b) 1) (r .rows) (omega arith) (f .rising))
+            (plain r f w d t v m (omega arith) l)
         | inl a ↦
             let c = stands-in r f x e o h refl w d t v m k l in
             omega (

@@ -68,7 +68,9 @@ module _ (rows : List Row) (a b : ℕ) (s : Rising a b rows) where
       (λ μ. omega (arith, e μ, sum-sorted μ canonical xs, sum-sorted μ canonical ys)) (sorted-sorted xs) (sorted-sorted ys)
 
 -- THE PLAN'S ROWS
-pub in-plan? : (x : Row) (ps : List Row) → ((in-plan x ps ≡ true) × ((y : Row) × In y ps × (y .ticket ≡ x .ticket))) ⊎ ((in-plan x ps ≡ false) × ((y : Row) → In y ps → x .ticket ≡ y .ticket → ⊥))
+pub in-plan? : (x : Row) (ps : List Row) →
+    ((in-plan x ps ≡ true) × ((y : Row) × In y ps × (y .ticket ≡ x .ticket)))
+    ⊎ ((in-plan x ps ≡ false) × ((y : Row) → In y ps → x .ticket ≡ y .ticket → ⊥))
 unfolding in-plan same-row
 in-plan? x ps = elim (either (in-plan x ps)) [ inl e ↦ inl (e, there x ps e) | inr e ↦ inr (e, not-in-plan x ps e) ]
   where

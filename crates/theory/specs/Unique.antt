@@ -306,7 +306,8 @@ plan-out r f x i n =
         sum-le (within (from-row x) e) (below 0 e) (within-below (from-row x) e) (planned r),
       );
       heavy = all-of-in (λ y. y .due ≤ e - 1 → heavier y x ≡ true) (planned r) (λ y j h.
-          from-row-over x y (λ q. true≢false (sym (in-planned r y j) ∙ in-plan-ticket y x (plan r) (sym q) ∙ n)) (all-in (λ y. y .due < e → from-row x y ≡ true) y (planned r) (all-within (from-row x) e (planned r) (omega (arith, k, m))) j (omega (arith, h, z))));
+          from-row-over x y (λ q. true≢false (sym (in-planned r y j) ∙ in-plan-ticket y x (plan r) (sym q) ∙ n))
+          (all-in (λ y. y .due < e → from-row x y ≡ true) y (planned r) (all-within (from-row x) e (planned r) (omega (arith, k, m))) j (omega (arith, h, z))));
     }
 
 pub plan-certified : (r : Round) → Fine r → Certified r (flags (plan r) (r .rows))

@@ -19,7 +19,7 @@ use Rattle.theory.specs.All.{all-map}
 use Rattle.theory.specs.Full.{Fine, Row-fine, plan-length}
 use Rattle.theory.specs.Calls.{no-refusal, or-false, takes, opened-fine, after-stays, after-append}
 use Rattle.theory.specs.Totals.{newcomer, best-weight}
-use Rattle.theory.specs.Times.{timed-feas, all-chosen, slots-of}
+use Rattle.theory.specs.Times.{timed-feas, all-of-chosen, slots-of}
 use Rattle.theory.specs.Back.{sized-opened, read-back, table-good}
 use Rattle.theory.specs.Same.{listed-planned, planned-in-time, listed-in-order, planned-weighs, listed-weighs}
 use Rattle.theory.specs.Sane.{Sane, next-sane, after-sane, answer-is, run-is}
@@ -46,7 +46,7 @@ point-holds r s =
       goes-out = (slots-of (r .slot) (planned r) (planned r), planned-in-time r f);
       in-order = listed-in-order r f;
       none-heavier = λ ms ss h. best-weight r f (chosen ms (r .rows)) (timed-feas r (chosen ms (r .rows)) ss h) (λ μ. sum-chosen μ ms (r .rows))
-          (all-chosen (λ x. (x .weight ≤ 16777216) × (x .due < suc (r .last))) ms (r .rows)
+          (all-of-chosen (λ x. (x .weight ≤ 16777216) × (x .due < suc (r .last))) ms (r .rows)
           (all-map {Q = λ x. (x .weight ≤ 16777216) × (x .due < suc (r .last))} (λ x (h : Row-fine r x). (h .3, omega (arith, h .1))) (r .rows) (f .fine)));
       weighs = (planned-weighs r f, listed-weighs r f);
       over = plan-over r f;

@@ -121,12 +121,12 @@ timed-feas r xs ss i e h k =
     let z : r .slot + (e - r .slot) ≡ e = omega arith in
     omega (arith, q .count e, rw z at (few (r .slot) (e - r .slot) ss (q .distinct) (q .from)))
 
-pub all-chosen : (P : Row → Type 0) (ms : List Bool) (xs : List Row) → All P xs → All P (chosen ms xs)
+pub all-of-chosen : (P : Row → Type 0) (ms : List Bool) (xs : List Row) → All P xs → All P (chosen ms xs)
 unfolding chosen
-all-chosen P [] xs a = tt
-all-chosen P (m ∷ ms) [] a = tt
-all-chosen P (true ∷ ms) (x ∷ xs) a = (a .0, all-chosen P ms xs (a .1))
-all-chosen P (false ∷ ms) (x ∷ xs) a = all-chosen P ms xs (a .1)
+all-of-chosen P [] xs a = tt
+all-of-chosen P (m ∷ ms) [] a = tt
+all-of-chosen P (true ∷ ms) (x ∷ xs) a = (a .0, all-of-chosen P ms xs (a .1))
+all-of-chosen P (false ∷ ms) (x ∷ xs) a = all-of-chosen P ms xs (a .1)
 
 -- SLOTS FOR A FEASIBLE SET: by rank
 unfoldable pub before : Row → Row → ℕ

@@ -1,3 +1,4 @@
 pub mod NumberLaws
 pub mod ZeroLaws
 pub mod RowLaws
+pub mod WriteLaws

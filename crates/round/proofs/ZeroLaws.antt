@@ -2,15 +2,16 @@
 use mathlib.Core.Path.{_≡_, refl, sym, ap, _∙_}
 use mathlib.Core.Logic.{inl, inr}
 use mathlib.Core.Bool.{Bool, true, false, _&&_}
-use mathlib.Core.List.{List, [], _∷_, _++_}
-use Prim.Native.Nat.{ℕ, zero, suc, _+_, _*_, _≤_, _<_}
+use mathlib.Core.List.{List, [], _∷_, _++_, append-assoc, append-nil}
+use Prim.Native.Nat.{ℕ, suc, _+_, _*_, _-_, _≤_, _<_}
 use native.Mathlib.Omega.{arith}
+use native.Mathlib.Numerals.{add-one}
 use lib.Dec.{leb, eqb}
-use borrow.Author.Tests.{eqb-true, eq-eqb, ne-eqb, le-leb, lt-leb}
-use lib.ListN.{length, getD, take, drop}
-use lib.Seq.{take-add, drop-drop}
+use borrow.Author.Tests.{eq-eqb, ne-eqb, le-leb, lt-leb}
+use lib.ListN.{length, set, take, drop, replicate, take-append-drop, drop-of-length-le, replicate-append-replicate}
+use lib.Seq.{take-add, drop-drop, take-suc-set}
 use Rattle.rules.specs.Table.{value, field}
-use Rattle.theory.specs.Tests.{either, leb?, eqb?, and-true}
+use Rattle.theory.specs.Tests.{leb?, eqb?}
 use Rattle.theory.specs.Judge.{zeros}
 
 -- a sum is zero when both parts are
@@ -56,12 +57,68 @@ zeros-split bs a m n =
     ∙ zeros-append (take m (drop a bs)) (take n (drop m (drop a bs)))
     ∙ rw (zeros-field bs a m, drop-drop m a bs)
 
--- every byte of zeros is zero
-pub zeros-at : (bs : List ℕ) → zeros bs ≡ true → (i : ℕ) → getD bs i 0 ≡ 0
+-- six numbers of four bytes, as two sums of three
+pub zeros-row : (bs : List ℕ) (a : ℕ) →
+    eqb (field a 4 bs + (field (a + 4) 4 bs + field (a + 8) 4 bs) + (field (a + 12) 4 bs + (field (a + 16) 4 bs + field (a + 20) 4 bs))) 0
+    ≡ zeros (take 24 (drop a bs))
+zeros-row bs a =
+    let p : a + 4 + 4 ≡ a + 8 = omega arith in
+    let q : a + 8 + 4 ≡ a + 12 = omega arith in
+    let r : a + 12 + 4 ≡ a + 16 = omega arith in
+    let s : a + 16 + 4 ≡ a + 20 = omega arith in
+    rw (
+      zeros-split bs a 4 20,
+      zeros-split bs (a + 4) 4 16,
+      p,
+      zeros-split bs (a + 8) 4 12,
+      q,
+      zeros-split bs (a + 12) 4 8,
+      r,
+      zeros-split bs (a + 16) 4 4,
+      s,
+      zeros-field bs (a + 20) 4,
+    )
+    (six (field a 4 bs) (field (a + 4) 4 bs) (field (a + 8) 4 bs) (field (a + 12) 4 bs) (field (a + 16) 4 bs) (field (a + 20) 4 bs))
+  where
+    six : (a b c d e f : ℕ) → eqb (a + (b + c) + (d + (e + f))) 0 ≡ eqb a 0 && (eqb b 0 && (eqb c 0 && (eqb d 0 && (eqb e 0 && eqb f 0))))
+    six a b c d e f =
+        let k : a + (b + c) + (d + (e + f)) ≡ a + (b + (c + (d + (e + f)))) = omega arith in
+        rw (sum-zero e f, sum-zero d (e + f), sum-zero c (d + (e + f)), sum-zero b (c + (d + (e + f))), sum-zero a (b + (c + (d + (e + f)))), k)
+
+-- the bytes from a place on: so many, and the rest
+pub zeros-rest : (bs : List ℕ) (a n : ℕ) → zeros (drop a bs) ≡ zeros (take n (drop a bs)) && zeros (drop (a + n) bs)
+zeros-rest bs a n =
+    ap zeros (sym (take-append-drop n (drop a bs)))
+    ∙ zeros-append (take n (drop a bs)) (drop n (drop a bs))
+    ∙ rw (drop-drop n a bs)
+
+-- what was said of a row goes in front of the rest
+pub zeros-more : (bs : List ℕ) (f a : ℕ) (x v : Bool) → x ≡ zeros (take 24 (drop a bs)) → x ≡ v →
+    zeros (drop f bs) ≡ zeros (drop a bs) → zeros (drop f bs) ≡ v && zeros (drop (a + 24) bs)
+zeros-more bs f a x v e k inv =
+    inv ∙ zeros-rest bs a 24 ∙ ap (λ (t : Bool). t && zeros (drop (a + 24) bs)) (sym e ∙ k)
+
+pub zeros-none : (bs : List ℕ) (a : ℕ) → length bs ≤ a → zeros (drop a bs) ≡ true
 unfolding zeros
-zeros-at [] h i = refl
-zeros-at (b ∷ bs) h zero = eqb-true b 0 (and-true (eqb b 0) (zeros bs) h .0)
-zeros-at (b ∷ bs) h (suc i) = zeros-at bs (and-true (eqb b 0) (zeros bs) h .1) i
+zeros-none bs a h = rw (drop-of-length-le bs h)
+
+-- CLEARED from f up to i, and one byte more
+pub cleared-none : (t : List ℕ) (f : ℕ) → take f t ≡ take f t ++ replicate (f - f) 0
+cleared-none t f =
+    let e : f - f ≡ 0 = omega arith in
+    rw e (sym (append-nil (take f t)))
+
+pub cleared-more : (t z : List ℕ) (f i : ℕ) → f ≤ i → i < length z → take i z ≡ take f t ++ replicate (i - f) 0 →
+    take (i + 1) (set z i 0) ≡ take f t ++ replicate (i + 1 - f) 0
+cleared-more t z f i h k inv =
+    let e : i + 1 - f ≡ i - f + 1 = omega arith in
+    let n : take (i + 1) (set z i 0) ≡ take (suc i) (set z i 0) = rw add-one in
+    n
+    ∙ take-suc-set z i 0 k
+    ∙ ap (λ (bs : List ℕ). bs ++ replicate 1 0) inv
+    ∙ append-assoc (take f t) (replicate (i - f) 0) (replicate 1 0)
+    ∙ ap (λ (bs : List ℕ). take f t ++ bs) (replicate-append-replicate (i - f) 1 0)
+    ∙ ap (λ (m : ℕ). take f t ++ replicate m 0) (sym e)
 
 -- A WORD IS AT MOST 1 when its first byte is and the others are zero
 pub value-small : (b : ℕ) (bs : List ℕ) → leb (value (b ∷ bs)) 1 ≡ leb b 1 && zeros bs

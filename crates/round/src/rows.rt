@@ -24,15 +24,15 @@ pub fn row_at(row: usize) -> usize
     Round::HEAD_SIZE + Round::ROW_SIZE * row
 }
 
-// The judge of one row on its own 24 bytes; before is the ticket of the row before it.
-pub fn row_is_sound(row: &[u8], round: Round, before: Ticket) -> bool
+// The judge of one row on its own 24 bytes; previous is the ticket of the row before it.
+pub fn row_is_sound(row: &[u8], round: Round, previous: Ticket) -> bool
     requires { ⌜ length (now row) ≡ 24 ⌝ }
-    ensures { λ r. ⌜ r ≡ row-judged (round .slot .0) (round .last .0) (round .next .0) (before .0) (now (row .entry)) ⌝ }
+    ensures { λ r. ⌜ r ≡ row-judged (round .slot .0) (round .last .0) (round .next .0) (previous .0) (now (row .entry)) ⌝ }
 {
     let ticket = read4(row, Round::TICKET_AT);
     let due = read2(row, Round::DUE_AT);
     let weight = read4(row, Round::WEIGHT_AT);
-    let placed = (before.0 < ticket) & (ticket < round.next.0);
+    let placed = (previous.0 < ticket) & (ticket < round.next.0);
     let timely = (round.slot.0 <= due) & (due <= round.last.0);
     let weighed = (1 <= weight) & (weight <= Round::WEIGHT);
     // A word is at most 1 when its first byte is and the others are zero; two that overlap hold kind and zeros.
@@ -46,15 +46,15 @@ pub fn rows_are_sound(table: &[u8], round: Round) -> bool
     ensures { λ r. ⌜ r ≡ rows-judged (round .used) (round .slot .0) (round .last .0) (round .next .0) 0 (drop 16 (now (table .entry))) ⌝ }
 {
     let used = round.used;
-    let mut before = 0;
+    let mut previous = 0;
     let mut i: usize = 0;
     while i < used {
         let a = row_at(i);
         let e = a + Round::ROW_SIZE;
-        if !row_is_sound(&table[a..e], round, Ticket(before)) {
+        if !row_is_sound(&table[a..e], round, Ticket(previous)) {
             return false;
         }
-        before = read4(table, a);
+        previous = read4(table, a);
         i += 1;
     }
     true

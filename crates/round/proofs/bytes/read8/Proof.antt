@@ -1,3 +1,5 @@
+use Rattle.round.proofs.NumberLaws.{field8}
+use native.Mathlib.Omega.{arith}
 use borrow.Author.Needs.{needs}
 use Rattle.round.proofs.bytes.read8.Statement.{statement}
 use Rattle.round.proofs.bytes.read8.Tie as tie
@@ -24,7 +26,7 @@ join8-requires c κs = search needs
 
 -- src/bytes.rt:41:1
 returns : tie.Need-returns
-returns c = ?
+returns c = omega (arith, field8 (c .before .before .before .before .args .bytes .now) (c .before .before .before .before .args .at) (search needs))
 
 pub read8-spec : {M : Type 1} → statement M
 read8-spec = tie.close (tie.spec read4-requires add-read4 read4-requires-2 join8-requires returns)

@@ -1,3 +1,4 @@
+use Rattle.round.proofs.RowLaws.{head-is}
 use borrow.Author.Needs.{needs}
 use Rattle.round.proofs.head.head_is_sound.Statement.{statement}
 use Rattle.round.proofs.head.head_is_sound.Tie as tie
@@ -32,7 +33,7 @@ read4-requires c κs = search needs
 
 -- src/head.rt:53:1
 returns : tie.Need-returns
-returns c = ?
+returns c = rw (c .before .read2 .ensures, c .read4 .ensures) (head-is (c .before .before .before .before .before .before .before .before .before .args .table .now) (c .before .before .before .before .before .before .before .before .before .args .round) (c .before .before .before .before .before .before .before .before .before .pre .1))
 
 pub head-is-sound-spec : {M : Type 1} → statement M
 head-is-sound-spec =

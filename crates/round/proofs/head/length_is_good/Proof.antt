@@ -22,7 +22,7 @@ sub-behind c = search needs
 -- src/head.rt:20:1
 returns-2 : tie.Need-returns-2
 unfolding length-good
-returns-2 c = simp (le-leb _ _ (c .before .if1 .left))
+returns-2 c = simp (le-leb _ _ (c .if1 .left))
 
 pub length-is-good-spec : {M : Type 1} → statement M
 length-is-good-spec = tie.close (tie.spec add-if1 returns sub-behind returns-2)

@@ -1,3 +1,4 @@
+use Rattle.round.proofs.RowLaws.{row-is}
 use borrow.Author.Needs.{needs}
 use Rattle.round.proofs.rows.row_is_sound.Statement.{statement}
 use Rattle.round.proofs.rows.row_is_sound.Tie as tie
@@ -33,7 +34,9 @@ read8-requires-2 c κs = search needs
 
 -- src/rows.rt:28:1
 returns : tie.Need-returns
-returns c = ?
+returns c = 
+    rw (c .before .before .before .before .before .before .before .before .read4 .ensures, c .before .before .before .before .before .before .before .read2 .ensures, c .before .before .before .before .before .before .read42 .ensures, c .before .read8 .ensures, c .read82 .ensures)
+    (row-is (c .before .before .before .before .before .before .before .before .before .before .args .round .slot .0) (c .before .before .before .before .before .before .before .before .before .before .args .round .last .0) (c .before .before .before .before .before .before .before .before .before .before .args .round .next .0) (c .before .before .before .before .before .before .before .before .before .before .args .previous .0) (c .before .before .before .before .before .before .before .before .before .before .args .row .now) (c .before .before .before .before .before .before .before .before .before .before .pre))
 
 pub row-is-sound-spec : {M : Type 1} → statement M
 row-is-sound-spec =

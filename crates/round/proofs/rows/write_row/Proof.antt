@@ -1,3 +1,6 @@
+use Rattle.round.proofs.WriteLaws.{row-stored}
+use native.Mathlib.Omega.{arith}
+use lib.ListN.{length-set}
 use borrow.Author.Needs.{needs}
 use Rattle.round.proofs.rows.write_row.Statement.{statement}
 use Rattle.round.proofs.rows.write_row.Tie as tie
@@ -40,11 +43,12 @@ slice-write-table c = search needs
 
 -- src/rows.rt:64:1
 same-length : tie.Need-same-length
-same-length c = ?
+same-length c = simp length-set (omega arith)
 
 -- src/rows.rt:64:1
 returns : tie.Need-returns
-returns c = ?
+returns c = 
+    row-stored _ _ _ _ _ _ _ _ _ (c .before .before .before .before .before .before .before .before .before .before .write4 .ensures) (c .before .before .before .before .before .before .write2 .ensures) (c .before .before .write42 .ensures)
 
 pub write-row-spec : {M : Type 1} → statement M
 write-row-spec =

@@ -1,3 +1,4 @@
+use Rattle.round.proofs.ZeroLaws.{zeros-row}
 use borrow.Author.Needs.{needs}
 use Rattle.round.proofs.zeros.row_is_zero.Statement.{statement}
 use Rattle.round.proofs.zeros.row_is_zero.Tie as tie
@@ -64,7 +65,18 @@ add-result c = search needs
 
 -- src/zeros.rt:26:1
 returns : tie.Need-returns
-returns c = ?
+returns c = 
+    rw (
+      c .before .before .before .before .sum3 .ensures .0,
+      c .sum32 .ensures .0,
+      c .before .before .before .before .before .before .before .read4 .ensures,
+      c .before .before .before .before .before .before .read42 .ensures,
+      c .before .before .before .before .before .read43 .ensures,
+      c .before .before .before .read44 .ensures,
+      c .before .before .read45 .ensures,
+      c .before .read46 .ensures,
+    )
+    (zeros-row (c .before .before .before .before .before .before .before .before .before .args .table .now) (c .before .before .before .before .before .before .before .before .before .args .at))
 
 pub row-is-zero-spec : {M : Type 1} → statement M
 row-is-zero-spec =

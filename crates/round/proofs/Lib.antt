@@ -3,3 +3,4 @@ pub mod ZeroLaws
 pub mod RowLaws
 pub mod WriteLaws
 pub mod JudgeLaws
+pub mod TableLaws

@@ -3,3 +3,5 @@ pub mod ZeroLaws
 pub mod RowLaws
 pub mod WriteLaws
 pub mod JudgeLaws
+pub mod HeadLaws
+pub mod TableLaws

@@ -1,5 +1,4 @@
 pub mod Outcomes
-pub mod Bytes
 pub mod Opened
 pub mod TakingNumber
 pub mod Taken

@@ -1,14 +1,14 @@
 -- `calls::opening::open_round` meets its contract. Assumes nothing.
 use borrow.Author.Needs.{needs}
 use borrow.Author.Tests.{not-true, not-false}
-use mathlib.Core.Path.{_≡_, sym, ap, _∙_}
+use mathlib.Core.Path.{_≡_, sym, _∙_}
 use mathlib.Core.Bool.{true}
 use native.Mathlib.Omega.{arith}
 use lib.ListN.{length}
 use Rattle.rules.specs.Table.{length-good}
 use Rattle.rules.specs.Calls.{opening}
 use Rattle.calls.proofs.Outcomes.{says-refused, opening-length}
-use Rattle.calls.proofs.Opened.{last-refused, head-fits, opened-says, head-behind}
+use Rattle.calls.proofs.Opened.{last-refused, head-fits, cleared-fits, opened-says}
 use Rattle.calls.proofs.opening.open_round.Statement.{statement}
 use Rattle.calls.proofs.opening.open_round.Tie as tie
 
@@ -36,12 +36,14 @@ rows-of-requires c κs = head-fits (c .before .before .before .before .before .b
 new-requires : tie.Need-new-requires
 new-requires c κs = search needs
 
-write-head-requires : tie.Need-write-head-requires
-write-head-requires c κs =
-    (head-fits (c .before .before .before .before .before .before .before .before .before .args .last .0) (c .before .before .before .before .before .before .before .before .before .args .table .now) (good (c .before .before .before .before .before .before)), omega (arith, c .before .new .ensures .3))
-
 clear-requires : tie.Need-clear-requires
-clear-requires c κs = head-behind _ _ _ _ (c .before .before .before .write-head .last .0) _ (c .before .before .before .write-head .ensures)
+clear-requires c κs = head-fits (c .before .before .before .before .before .before .before .before .before .args .last .0) (c .before .before .before .before .before .before .before .before .before .args .table .now) (good (c .before .before .before .before .before .before))
+
+write-head-requires : tie.Need-write-head-requires
+write-head-requires c κs = (
+  cleared-fits (c .before .before .before .before .before .before .before .before .before .before .before .before .before .args .last .0) (c .before .before .before .before .before .before .before .before .before .before .before .before .before .args .table .now) (good (c .before .before .before .before .before .before .before .before .before .before)) (c .before .before .before .clear .last .0) (c .before .before .before .clear .ensures),
+  omega (arith, c .before .before .before .before .before .new .ensures .3),
+)
 
 same-length : tie.Need-same-length
 same-length c = search needs
@@ -50,8 +52,8 @@ returns-3 : tie.Need-returns-3
 returns-3 c =
     let s = c .before .before .before .before .before .before .before .before .before .before .before .before .before .before .before .before in
     let n = c .before .before .before .before .before .before .before .before .new .ensures in
-    opened-says (s .args .last .0) (s .args .table .now) (good (c .before .before .before .before .before .before .before .before .before .before .before .before .before)) (omega arith) _ _ _ _ (c .before .before .before .before .before .before .write-head .last .0) (c .before .before .clear .last .0)
-    (n .0, n .1, n .2, n .3) (c .before .before .before .before .before .before .write-head .ensures) (c .before .before .clear .ensures)
+    opened-says (s .args .last .0) (s .args .table .now) (good (c .before .before .before .before .before .before .before .before .before .before .before .before .before)) (omega arith) _ _ _ _ (c .before .before .before .before .before .before .clear .last .0) (c .before .before .write-head .last .0)
+    (n .0, n .1, n .2, n .3) (c .before .before .before .before .before .before .clear .ensures) (c .before .before .write-head .ensures)
 
 pub open-round-spec : {M : Type 1} → statement M
 open-round-spec =
@@ -62,7 +64,7 @@ open-round-spec =
     returns-2
     rows-of-requires
     new-requires
-    write-head-requires
     clear-requires
+    write-head-requires
     same-length
     returns-3)

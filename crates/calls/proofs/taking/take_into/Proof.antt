@@ -28,7 +28,7 @@ returns c =
 
 row-at-requires : tie.Need-row-at-requires
 row-at-requires c κs =
-    let s = c .before .before .before .before in used-room (s .args .table .now) (s .args .round) (s .pre .0) (s .pre .1) (s .args .due .0) (s .args .weight .0) .0
+    let s = c .before .before .before .before in used-room (s .args .table .now) (s .args .round) (s .pre .0) (s .pre .1) (s .args .due .0) (s .args .weight .0)
 
 write-row-requires : tie.Need-write-row-requires
 write-row-requires c κs =

@@ -42,13 +42,13 @@ module _ (t : List ℕ) (h : Round) (sound : table-refusal t ≡ 0) (head : Head
         let m = n .0 in
         (omega (arith, s .long, n .1), omega (arith, s .few, n .1), omega (arith, s .most))
 
-    -- ALL WRITTEN
-    pub taken-says : (g : Round) (v z : List ℕ) (a : ℕ) → One-more h g → a ≡ row-at (h .used) → v ≡ sets t a (row-numbers (h .next .0) d w 0) →
-        z ≡ head-bytes (g .slot .0) (g .last .0) (g .next .0) (g .used) ++ drop 16 v → Says (taking d w) (ticket (h .next .0)) t z
+    -- ALL WRITTEN: the numbers that the writers were given are those of the frame and of the head
+    pub taken-says : (g : Round) (v z : List ℕ) (a k e m : ℕ) → One-more h g → a ≡ row-at (h .used) → k ≡ h .next .0 → e ≡ d → m ≡ w →
+        v ≡ sets t a (row-numbers k e m 0) → z ≡ head-bytes (g .slot .0) (g .last .0) (g .next .0) (g .used) ++ drop 16 v →
+        Says (taking d w) (ticket k) t z
     unfolding says leaves round-in round
-    taken-says g v z a o i j k =
+    taken-says g v z a k e m o i x y u j q =
         let n = number-none (h .slot .0) (h .last .0) (h .next .0) (h .used) (h .room) d w free in
-        let b = taken-table t h d w v z sound head (n .1) (j ∙ ap (λ (m : ℕ). sets t m (row-numbers (h .next .0) d w 0)) i)
-        (k ∙ rw (o .slot, o .last, o .next, o .used)) in
+        let b = taken-table t h d w v z sound head (n .1) (j ∙ rw (i, x, y, u)) (q ∙ rw (o .slot, o .last, o .next, o .used)) in
         let f = says-accepted (taking d w) t z (taking-refused ∙ free) b in
-        (ap ticket (head .next) ∙ f .0, f .1)
+        (ap ticket (x ∙ head .next) ∙ f .0, f .1)

@@ -1,6 +1,6 @@
 -- `station::lirvedd_open` meets its contract. Assumes nothing.
-use mathlib.Core.Path.{ap, _∙_}
-use Rattle.station.specs.Packing.{pack}
+use native.Mathlib.Omega.{arith}
+use Rattle.station.proofs.Exported.{opening-exported}
 use borrow.Author.Needs.{needs}
 use Rattle.station.proofs.lirvedd_open.Statement.{statement}
 use Rattle.station.proofs.lirvedd_open.Tie as tie
@@ -15,7 +15,8 @@ same-length : tie.Need-same-length
 same-length c = search needs
 
 returns : tie.Need-returns
-returns c = (c .pack-opened .ensures ∙ ap pack (c .before .before .before .open-round .ensures .0), c .before .before .before .open-round .ensures .1)
+returns c =
+    opening-exported _ _ _ _ _ _ (omega arith) (c .pack-opened .ensures) (c .before .before .before .open-round .ensures)
 
 pub lirvedd-open-spec : {M : Type 1} → statement M
 lirvedd-open-spec =

@@ -1,6 +1,6 @@
 -- `station::lirvedd_take` meets its contract. Assumes nothing.
-use mathlib.Core.Path.{ap, _∙_}
-use Rattle.station.specs.Packing.{pack}
+use native.Mathlib.Omega.{arith}
+use Rattle.station.proofs.Exported.{taking-exported}
 use borrow.Author.Needs.{needs}
 use Rattle.station.proofs.lirvedd_take.Statement.{statement}
 use Rattle.station.proofs.lirvedd_take.Tie as tie
@@ -15,7 +15,8 @@ same-length : tie.Need-same-length
 same-length c = search needs
 
 returns : tie.Need-returns
-returns c = (c .pack-taken .ensures ∙ ap pack (c .before .before .before .take-frame .ensures .0), c .before .before .before .take-frame .ensures .1)
+returns c =
+    taking-exported _ _ _ _ _ _ _ _ (omega arith) (omega arith) (c .pack-taken .ensures) (c .before .before .before .take-frame .ensures)
 
 pub lirvedd-take-spec : {M : Type 1} → statement M
 lirvedd-take-spec =

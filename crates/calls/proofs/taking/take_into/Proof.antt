@@ -28,7 +28,8 @@ returns c =
 
 row-at-requires : tie.Need-row-at-requires
 row-at-requires c κs =
-    let s = c .before .before .before .before in used-room (s .args .table .now) (s .args .round) (s .pre .0) (s .pre .1) (s .args .due .0) (s .args .weight .0)
+    let s = c .before .before .before .before in
+    omega (arith, used-room (s .args .table .now) (s .args .round) (s .pre .0) (s .pre .1) (s .args .due .0) (s .args .weight .0))
 
 write-row-requires : tie.Need-write-row-requires
 write-row-requires c κs =
@@ -61,8 +62,9 @@ returns-2 c =
     let s = c .before .before .before .before .before .before .before .before .before .before .before .before .before .before in
     taken-says (s .args .table .now) (s .args .round) (s .pre .0) (s .pre .1) (s .args .due .0) (s .args .weight .0)
     (none (c .before .before .before .before .before .before .before .before .before .before .before .before .taking-refusal .result) _ (c .before .before .before .before .before .before .before .before .before .before .before .before .taking-refusal .ensures) (c .before .before .before .before .before .before .before .before .before .before .before .if1 .left))
-    (c .before .before .before .one-more .result) (c .before .before .before .before .before .before .before .write-row .last .0) (c .before .before .write-head .last .0) (c .before .before .before .before .before .before .before .before .before .row-at .result)
-    (c .before .before .before .one-more .ensures) (c .before .before .before .before .before .before .before .before .before .row-at .ensures) (c .before .before .before .before .before .before .before .write-row .ensures) (c .before .before .write-head .ensures)
+    (c .before .before .before .one-more .result) (c .before .before .before .before .before .before .before .write-row .last .0) (c .before .before .write-head .last .0) (c .before .before .before .before .before .before .before .before .before .row-at .result) _ _ _
+    (c .before .before .before .one-more .ensures) (omega (arith, c .before .before .before .before .before .before .before .before .before .row-at .ensures)) (omega arith) (omega arith) (omega arith)
+    (c .before .before .before .before .before .before .before .write-row .ensures) (c .before .before .write-head .ensures)
 
 pub take-into-spec : {M : Type 1} → statement M
 take-into-spec =

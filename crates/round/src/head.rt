@@ -6,8 +6,8 @@ ghost use Prim.Native.Nat.{ℕ, _-_, _/_, _≤_};
 ghost use lib.ListN.{length, drop};
 ghost use Rattle.rules.specs.Table.{length-good, rows-of};
 ghost use Rattle.theory.specs.Judge.{head-judged};
-ghost use Rattle.theory.specs.Close.{head-bytes};
 ghost use Rattle.round.specs.Head.{Head-of};
+ghost use Rattle.round.specs.Numbers.{head-numbers};
 use crate::Round;
 use crate::Slot;
 use crate::Ticket;
@@ -62,15 +62,13 @@ pub fn head_is_sound(table: &[u8], round: Round) -> bool
     fits & ((time & next) & zeros)
 }
 
-// A round's head written, its six zero bytes with it.
+// A round's numbers written into the head; its zero bytes stay as they are.
 pub fn write_head(table: &mut [u8], round: Round)
-    requires { ⌜ (16 ≤ length (now table)) × (round .used ≤ 1024) ⌝ }
-    ensures { λ _. ⌜ now (table .exit) ≡ head-bytes (round .slot .0) (round .last .0) (round .next .0) (round .used) ++ drop 16 (now (table .entry)) ⌝ }
+    requires { ⌜ (10 ≤ length (now table)) × (round .used ≤ 1024) ⌝ }
+    ensures { λ _. ⌜ now (table .exit) ≡ head-numbers (round .slot .0) (round .last .0) (round .next .0) (round .used) ++ drop 10 (now (table .entry)) ⌝ }
 {
     write2(table, Round::SLOT_AT, round.slot.0);
     write2(table, Round::LAST_AT, round.last.0);
     write4(table, Round::NEXT_AT, round.next.0);
     write2(table, Round::USED_AT, round.used as u32);
-    write2(table, Round::HEAD_ZEROS_AT, 0);
-    write4(table, Round::HEAD_ZEROS_AT + 2, 0);
 }

@@ -5,7 +5,7 @@ ghost use lib.ListN.{length, take, drop};
 ghost use lib.Seq.{sets};
 ghost use Rattle.rules.specs.Conditions.{row-at};
 ghost use Rattle.theory.specs.Judge.{row-judged, rows-judged};
-ghost use Rattle.round.specs.Row.{row-numbers};
+ghost use Rattle.round.specs.Numbers.{row-numbers};
 use crate::Round;
 use crate::Slot;
 use crate::Ticket;

@@ -27,27 +27,14 @@ cast-write2 c = search needs
 write2-requires-3 : tie.Need-write2-requires-3
 write2-requires-3 c κs = search needs
 
--- src/head.rt:74:5
-write2-requires-4 : tie.Need-write2-requires-4
-write2-requires-4 c κs = search needs
-
--- src/head.rt:75:19
-add-write4 : tie.Need-add-write4
-add-write4 c = search needs
-
--- src/head.rt:75:5
-write4-requires-2 : tie.Need-write4-requires-2
-write4-requires-2 c κs = search needs
-
 -- src/head.rt:66:1
 same-length : tie.Need-same-length
 same-length c = search needs
 
 -- src/head.rt:66:1
 returns : tie.Need-returns
-returns c =
-    head-stored _ _ _ _ _ _ _ _ _ _ _ (c .before .before .before .before .before .before .before .before .before .before .before .before .before .before .before .before .before .before .before .before .before .before .before .before .before .before .pre .0) (c .before .before .before .before .before .before .before .before .before .before .before .before .before .before .before .before .before .before .before .before .before .before .before .write2 .ensures) (c .before .before .before .before .before .before .before .before .before .before .before .before .before .before .before .before .before .before .before .write22 .ensures) (c .before .before .before .before .before .before .before .before .before .before .before .before .before .before .before .write4 .ensures)
-    (c .before .before .before .before .before .before .before .before .before .before .write23 .ensures) (c .before .before .before .before .before .before .write24 .ensures) (c .before .before .write42 .ensures)
+returns c = 
+    head-stored _ _ _ _ _ _ _ _ _ (c .before .before .before .before .before .before .before .before .before .before .before .before .before .before .before .before .before .before .pre .0) (c .before .before .before .before .before .before .before .before .before .before .before .before .before .before .before .write2 .ensures) (c .before .before .before .before .before .before .before .before .before .before .before .write22 .ensures) (c .before .before .before .before .before .before .before .write4 .ensures) (c .before .before .write23 .ensures)
 
 pub write-head-spec : {M : Type 1} → statement M
 write-head-spec =
@@ -58,8 +45,5 @@ write-head-spec =
     write4-requires
     cast-write2
     write2-requires-3
-    write2-requires-4
-    add-write4
-    write4-requires-2
     same-length
     returns)

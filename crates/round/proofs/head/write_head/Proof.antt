@@ -24,7 +24,12 @@ same-length c = search needs
 
 returns : tie.Need-returns
 returns c =
-    head-stored _ _ _ _ _ _ _ _ _ (c .before .before .before .before .before .before .before .before .before .before .before .before .before .before .before .before .before .before .pre .0) (c .before .before .before .before .before .before .before .before .before .before .before .before .before .before .before .write2 .ensures) (c .before .before .before .before .before .before .before .before .before .before .before .write22 .ensures) (c .before .before .before .before .before .before .before .write4 .ensures) (c .before .before .write23 .ensures)
+    head-stored _ _ _ _ _ _ _ _ _
+    (c .before .before .before .before .before .before .before .before .before .before .before .before .before .before .before .before .before .before .pre .0)
+    (c .before .before .before .before .before .before .before .before .before .before .before .before .before .before .before .write2 .ensures)
+    (c .before .before .before .before .before .before .before .before .before .before .before .write22 .ensures)
+    (c .before .before .before .before .before .before .before .write4 .ensures)
+    (c .before .before .write23 .ensures)
 
 pub write-head-spec : {M : Type 1} → statement M
 write-head-spec =

@@ -24,7 +24,13 @@ read8-requires-2 c κs = search needs
 
 returns : tie.Need-returns
 returns c =
-    rw (c .before .before .before .before .before .before .before .before .read4 .ensures, c .before .before .before .before .before .before .before .read2 .ensures, c .before .before .before .before .before .before .read42 .ensures, c .before .read8 .ensures, c .read82 .ensures)
+    rw (
+      c .before .before .before .before .before .before .before .before .read4 .ensures,
+      c .before .before .before .before .before .before .before .read2 .ensures,
+      c .before .before .before .before .before .before .read42 .ensures,
+      c .before .read8 .ensures,
+      c .read82 .ensures,
+    )
     (row-is _ _ _ _ _ (c .before .before .before .before .before .before .before .before .before .before .pre))
 
 pub row-is-sound-spec : {M : Type 1} → statement M

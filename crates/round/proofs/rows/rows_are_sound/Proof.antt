@@ -14,7 +14,9 @@ use Rattle.round.proofs.rows.rows_are_sound.Tie as tie
 
 abbrev Inv-loop : tie.InvT-loop
 Inv-loop table round used previous₀ i₀ previous i =
-    (i ≤ used) × (rows-judged used (round .slot .0) (round .last .0) (round .next .0) 0 (drop 16 table) ≡ rows-judged (used - i) (round .slot .0) (round .last .0) (round .next .0) previous (drop (16 + 24 * i) table))
+    (i ≤ used)
+    × (rows-judged used (round .slot .0) (round .last .0) (round .next .0) 0 (drop 16 table)
+    ≡ rows-judged (used - i) (round .slot .0) (round .last .0) (round .next .0) previous (drop (16 + 24 * i) table))
 
 abbrev μ-loop : tie.MeasureT-loop
 μ-loop table round used previous₀ i₀ previous i = used - i

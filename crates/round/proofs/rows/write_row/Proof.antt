@@ -35,7 +35,10 @@ same-length c = simp length-set (omega arith)
 
 returns : tie.Need-returns
 returns c =
-    row-stored _ _ _ _ _ _ _ _ _ (c .before .before .before .before .before .before .before .before .before .before .write4 .ensures) (c .before .before .before .before .before .before .write2 .ensures) (c .before .before .write42 .ensures)
+    row-stored _ _ _ _ _ _ _ _ _
+    (c .before .before .before .before .before .before .before .before .before .before .write4 .ensures)
+    (c .before .before .before .before .before .before .write2 .ensures)
+    (c .before .before .write42 .ensures)
 
 pub write-row-spec : {M : Type 1} → statement M
 write-row-spec =

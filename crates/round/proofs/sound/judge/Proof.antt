@@ -60,11 +60,21 @@ zeros-from-requires c κs = omega (arith, fit (c .before .before .before) .withi
 
 returns-4 : tie.Need-returns-4
 returns-4 c =
-    refused-3 (read (c .before .before .before .before .before .before .before)) (rw (head (c .before .before .before .before .before), sym (c .before .before .before .before .rows-are-sound .ensures) ∙ not-false _ (c .before .before .before .if3 .left), unused (c .before) ∙ not-true _ (c .if4 .taken)))
+    refused-3 (read (c .before .before .before .before .before .before .before))
+    (rw (
+      head (c .before .before .before .before .before),
+      sym (c .before .before .before .before .rows-are-sound .ensures) ∙ not-false _ (c .before .before .before .if3 .left),
+      unused (c .before) ∙ not-true _ (c .if4 .taken),
+    ))
 
 returns-5 : tie.Need-returns-5
 returns-5 c =
-    accepted (read (c .before .before .before .before .before .before .before)) (rw (head (c .before .before .before .before .before), sym (c .before .before .before .before .rows-are-sound .ensures) ∙ not-false _ (c .before .before .before .if3 .left), unused (c .before) ∙ not-false _ (c .if4 .left)))
+    accepted (read (c .before .before .before .before .before .before .before))
+    (rw (
+      head (c .before .before .before .before .before),
+      sym (c .before .before .before .before .rows-are-sound .ensures) ∙ not-false _ (c .before .before .before .if3 .left),
+      unused (c .before) ∙ not-false _ (c .if4 .left),
+    ))
 
 pub judge-spec : {M : Type 1} → statement M
 judge-spec =

@@ -34,7 +34,8 @@ loop-again c = (
   search needs,
   search needs,
   simp length-set (search needs),
-  cleared-more (c .before .before .args .table .now) (c .before .loop .table) (c .before .before .args .from) (c .before .loop .i) (search needs) (search needs) (c .before .loop .inv .3),
+  cleared-more (c .before .before .args .table .now) (c .before .loop .table) (c .before .before .args .from) (c .before .loop .i)
+      (search needs) (search needs) (c .before .loop .inv .3),
 )
 
 same-length : tie.Need-same-length Inv-loop μ-loop

@@ -19,6 +19,9 @@ add-read4-2 c = search needs
 read4-requires-3 : tie.Need-read4-requires-3
 read4-requires-3 c κs = search needs
 
+sum3-requires : tie.Need-sum3-requires
+sum3-requires c κs = search needs
+
 add-read4-3 : tie.Need-add-read4-3
 add-read4-3 c = search needs
 
@@ -37,21 +40,25 @@ add-read4-5 c = search needs
 read4-requires-6 : tie.Need-read4-requires-6
 read4-requires-6 c κs = search needs
 
-sum6-requires : tie.Need-sum6-requires
-sum6-requires c κs = search needs
+sum3-requires-2 : tie.Need-sum3-requires-2
+sum3-requires-2 c κs = search needs
+
+add-result : tie.Need-add-result
+add-result c = search needs
 
 returns : tie.Need-returns
 returns c =
     rw (
-      c .sum6 .ensures,
-      c .before .before .before .before .before .before .read4 .ensures,
-      c .before .before .before .before .before .read42 .ensures,
-      c .before .before .before .before .read43 .ensures,
+      c .before .before .before .before .sum3 .ensures .0,
+      c .sum32 .ensures .0,
+      c .before .before .before .before .before .before .before .read4 .ensures,
+      c .before .before .before .before .before .before .read42 .ensures,
+      c .before .before .before .before .before .read43 .ensures,
       c .before .before .before .read44 .ensures,
       c .before .before .read45 .ensures,
       c .before .read46 .ensures,
     )
-    (zeros-row (c .before .before .before .before .before .before .before .before .args .table .now) (c .before .before .before .before .before .before .before .before .args .at))
+    (zeros-row _ _)
 
 pub row-is-zero-spec : {M : Type 1} → statement M
 row-is-zero-spec =
@@ -62,11 +69,13 @@ row-is-zero-spec =
     read4-requires-2
     add-read4-2
     read4-requires-3
+    sum3-requires
     add-read4-3
     read4-requires-4
     add-read4-4
     read4-requires-5
     add-read4-5
     read4-requires-6
-    sum6-requires
+    sum3-requires-2
+    add-result
     returns)

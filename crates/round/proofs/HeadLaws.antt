@@ -8,8 +8,8 @@ use native.Mathlib.Numerals.{add-one}
 use lib.Dec.{leb, eqb}
 use lib.ListN.{length, drop}
 use Rattle.rules.specs.Rows.{round}
-use Rattle.rules.specs.Table.{field, table, rows-of, round-in, table-refusal}
-use Rattle.rules.specs.Conditions.{slot-in, last-in, next-in, used-in}
+use Rattle.rules.specs.Table.{field, round-in, table-refusal}
+use Rattle.rules.specs.Conditions.{used-in}
 use Rattle.theory.specs.Back.{length-table, rising-le}
 use Rattle.theory.specs.Judge.{head-judged}
 use Rattle.theory.specs.Clauses.{rows-count}

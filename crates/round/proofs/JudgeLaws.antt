@@ -1,14 +1,14 @@
 -- The judge of a whole table. Assumes nothing.
-use mathlib.Core.Path.{_≡_, refl, sym, ap, _∙_}
+use mathlib.Core.Path.{_≡_, sym, _∙_}
 use mathlib.Core.Bool.{Bool, true, false, _&&_}
 use mathlib.Core.List.{List}
-use Prim.Native.Nat.{ℕ, _+_, _*_, _-_, _/_, _%_, _≤_}
+use Prim.Native.Nat.{ℕ, _-_, _/_, _%_, _≤_}
 use native.Mathlib.Omega.{arith}
 use lib.Dec.{leb, eqb}
 use borrow.Author.Tests.{leb-true, eqb-true}
 use lib.ListN.{length, drop}
-use Rattle.rules.specs.Table.{length-good, rows-of, table-refusal}
-use Rattle.rules.specs.Conditions.{Bytes, slot-in, last-in, next-in, used-in, row-at}
+use Rattle.rules.specs.Table.{length-good, rows-of}
+use Rattle.rules.specs.Conditions.{Bytes, used-in, row-at}
 use Rattle.theory.specs.Tests.{and-true}
 use Rattle.theory.specs.Judge.{zeros, rows-judged, head-judged, judged}
 use Rattle.theory.specs.Judged.{judged-refusal}
@@ -50,8 +50,10 @@ rows-fit {t} k e =
     }
 
 -- the judge, with the head as a value
-judged-is : (t : List ℕ) (h : Round) → Head-of t h →
-    judged t ≡ head-judged t && (rows-judged (h .used) (h .slot .0) (h .last .0) (h .next .0) 0 (drop 16 t) && zeros (drop (row-at (h .used)) t))
+abbrev pub judged-by : (t : List ℕ) (h : Round) → Bool
+judged-by t h = head-judged t && (rows-judged (h .used) (h .slot .0) (h .last .0) (h .next .0) 0 (drop 16 t) && zeros (drop (row-at (h .used)) t))
+
+judged-is : (t : List ℕ) (h : Round) → Head-of t h → judged t ≡ judged-by t h
 unfolding judged
 judged-is t h d = rw (d .used, d .slot, d .last, d .next)
 
@@ -59,10 +61,8 @@ judged-is t h d = rw (d .used, d .slot, d .last, d .next)
 pub refused-2 : (t : List ℕ) → length-good (length t) ≡ false → Judge-says t (Refused 2)
 refused-2 t g = (sym (refusal-two t g), λ e. omega arith)
 
-pub refused-3 : {t : List ℕ} {h : Round} → Read t h →
-    head-judged t && (rows-judged (h .used) (h .slot .0) (h .last .0) (h .next .0) 0 (drop 16 t) && zeros (drop (row-at (h .used)) t)) ≡ false → Judge-says t (Refused 3)
+pub refused-3 : {t : List ℕ} {h : Round} → Read t h → judged-by t h ≡ false → Judge-says t (Refused 3)
 refused-3 {t} {h} k e = (sym (judged-refusal t (k .bytes) (k .good) ∙ (rw (judged-is t h (k .head) ∙ e))), λ f. omega arith)
 
-pub accepted : {t : List ℕ} {h : Round} → Read t h →
-    head-judged t && (rows-judged (h .used) (h .slot .0) (h .last .0) (h .next .0) 0 (drop 16 t) && zeros (drop (row-at (h .used)) t)) ≡ true → Judge-says t (Sound h)
+pub accepted : {t : List ℕ} {h : Round} → Read t h → judged-by t h ≡ true → Judge-says t (Sound h)
 accepted {t} {h} k e = (judged-refusal t (k .bytes) (k .good) ∙ (rw (judged-is t h (k .head) ∙ e)), k .head)

@@ -2,14 +2,14 @@
 use mathlib.Core.Path.{_≡_, refl, sym, ap, ap₂, _∙_}
 use mathlib.Core.Bool.{true}
 use mathlib.Core.List.{List, [], _∷_, _++_, append-assoc}
-use Prim.Native.Nat.{ℕ, zero, suc, _+_, _*_, _-_, _/_, _≤_, _<_}
+use Prim.Native.Nat.{ℕ, suc, _+_, _*_, _-_, _/_, _<_}
 use native.Mathlib.Omega.{arith}
 use native.Mathlib.Numerals.{add-one}
 use lib.ListN.{length, take, drop, replicate, length-append, replicate-append-replicate}
 use lib.Seq.{sets, length-take-le, drop-at}
 use Rattle.rules.specs.Rows.{Row, row, round}
 use Rattle.rules.specs.Steps.{opened, taken}
-use Rattle.rules.specs.Table.{low, table, rows-in, rows-of, rows-bytes, row-bytes, round-in, length-good, table-refusal}
+use Rattle.rules.specs.Table.{low, table, rows-of, rows-bytes, row-bytes, round-in, length-good, table-refusal}
 use Rattle.rules.specs.Conditions.{slot-in, last-in, next-in, used-in, row-at}
 use Rattle.theory.specs.Back.{length-rows}
 use Rattle.theory.specs.Close.{head-bytes, length-head, table-is, rows-append, rows-one}

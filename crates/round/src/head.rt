@@ -1,8 +1,7 @@
 // The table's length and its head.
 ghost use mathlib.Core.Path.{_≡_};
-ghost use mathlib.Core.Bool.{true};
 ghost use mathlib.Core.List.{_++_};
-ghost use Prim.Native.Nat.{ℕ, _-_, _/_, _≤_};
+ghost use Prim.Native.Nat.{_≤_};
 ghost use lib.ListN.{length, drop};
 ghost use Rattle.rules.specs.Limits.{head-size, most-rows, head-zeros-at};
 ghost use Rattle.rules.specs.Table.{length-good, rows-of};

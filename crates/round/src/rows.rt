@@ -1,7 +1,7 @@
 // A row's bytes: judged on their own, and written.
 ghost use mathlib.Core.Path.{_≡_};
-ghost use Prim.Native.Nat.{ℕ, _+_, _*_, _≤_};
-ghost use lib.ListN.{length, take, drop};
+ghost use Prim.Native.Nat.{_+_, _≤_};
+ghost use lib.ListN.{length, drop};
 ghost use lib.Seq.{sets};
 ghost use Rattle.rules.specs.Limits.{head-size, row-size, most-rows};
 ghost use Rattle.rules.specs.Conditions.{row-at};

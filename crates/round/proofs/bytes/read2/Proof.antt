@@ -1,5 +1,5 @@
 -- `round::bytes::read2` meets its contract: the bytes joined are a field of two. Assumes nothing.
-use mathlib.Core.Path.{_≡_, sym, _∙_}
+use mathlib.Core.Path.{sym, _∙_}
 use borrow.Author.Needs.{needs}
 use Rattle.round.proofs.NumberLaws.{field2}
 use Rattle.round.proofs.bytes.read2.Statement.{statement}

@@ -1,5 +1,5 @@
 -- `round::bytes::read4` meets its contract: the bytes joined are a field of four. Assumes nothing.
-use mathlib.Core.Path.{_≡_, sym, _∙_}
+use mathlib.Core.Path.{sym, _∙_}
 use borrow.Author.Needs.{needs}
 use Rattle.round.proofs.NumberLaws.{field4}
 use Rattle.round.proofs.bytes.read4.Statement.{statement}

@@ -59,9 +59,9 @@ zeros-split bs a m n =
     ∙ zeros-append (take m (drop a bs)) (take n (drop m (drop a bs)))
     ∙ rw (zeros-field bs a m, drop-drop m a bs)
 
--- six numbers of four bytes, as two sums of three
+-- 24 bytes are zero when the sum of their six numbers is
 pub zeros-row : (bs : List ℕ) (a : ℕ) →
-    eqb (field a 4 bs + (field (a + 4) 4 bs + field (a + 8) 4 bs) + (field (a + 12) 4 bs + (field (a + 16) 4 bs + field (a + 20) 4 bs))) 0
+    eqb ((field a 4 bs + field (a + 4) 4 bs + field (a + 8) 4 bs) + (field (a + 12) 4 bs + field (a + 16) 4 bs + field (a + 20) 4 bs)) 0
     ≡ zeros (take 24 (drop a bs))
 zeros-row bs a =
     let p : a + 4 + 4 ≡ a + 8 = omega arith in
@@ -82,9 +82,9 @@ zeros-row bs a =
     )
     (six (field a 4 bs) (field (a + 4) 4 bs) (field (a + 8) 4 bs) (field (a + 12) 4 bs) (field (a + 16) 4 bs) (field (a + 20) 4 bs))
   where
-    six : (a b c d e f : ℕ) → eqb (a + (b + c) + (d + (e + f))) 0 ≡ eqb a 0 && (eqb b 0 && (eqb c 0 && (eqb d 0 && (eqb e 0 && eqb f 0))))
+    six : (a b c d e f : ℕ) → eqb ((a + b + c) + (d + e + f)) 0 ≡ eqb a 0 && (eqb b 0 && (eqb c 0 && (eqb d 0 && (eqb e 0 && eqb f 0))))
     six a b c d e f =
-        let k : a + (b + c) + (d + (e + f)) ≡ a + (b + (c + (d + (e + f)))) = omega arith in
+        let k : (a + b + c) + (d + e + f) ≡ a + (b + (c + (d + (e + f)))) = omega arith in
         rw (sum-zero e f, sum-zero d (e + f), sum-zero c (d + (e + f)), sum-zero b (c + (d + (e + f))), sum-zero a (b + (c + (d + (e + f)))), k)
 
 -- the bytes from a place on: so many, and the rest

@@ -42,3 +42,10 @@ pub mod Judge
 pub mod Digits
 pub mod Lines
 pub mod Flags
+pub mod Fields
+pub mod Clauses
+pub mod Judged
+pub mod Soundness
+pub mod Checks
+pub mod Refusals
+pub mod Stays

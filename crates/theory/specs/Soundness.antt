@@ -1,0 +1,148 @@
+-- SOUND IS DOCUMENT 01'S SOUND: a table is accepted exactly where its length is good and each clause holds: soundness. Assumes nothing.
+use mathlib.Core.Path.{_≡_, sym, ap, _∙_}
+use mathlib.Core.Logic.{inl, inr}
+use mathlib.Core.Bool.{true, false, true≢false}
+use mathlib.Core.List.{List}
+use Prim.Native.Nat.{ℕ, zero, suc, _+_, _*_, _≤_, _<_}
+use native.Mathlib.Omega.{arith}
+use lib.ListN.{length, drop}
+use lib.Seq.{getD-drop, drop-drop}
+use Rattle.rules.specs.Limits.{row-size, row-zeros-at}
+use Rattle.rules.specs.Rows.{Row, row}
+use Rattle.rules.specs.Table.{rows-of, length-good, table-refusal}
+use Rattle.rules.specs.Conditions.{Bytes, Sound, Length-bad, slot-in, last-in, next-in, used-in, row-at, ticket-in, due-in, weight-in, kind-in}
+use Rattle.rules.specs.Demands.{Soundness}
+use Rattle.theory.specs.Tests.{either, eqb?}
+use Rattle.theory.specs.Third.{length-fits}
+use Rattle.theory.specs.Fields.{Zeros, field-drop}
+use Rattle.theory.specs.Clauses.{Row-right, first-row, Rows-right, Clauses, long, clauses-accepted, accepted-length, accepted-clauses}
+
+-- THE LENGTH
+pub length-not-bad : (t : List ℕ) → length-good (length t) ≡ true → Length-bad t → ⊥
+length-not-bad t g b = let l = long t g in b (rows-of t) (l .1) (l .2) (l .0)
+
+pub length-bad : (t : List ℕ) → length-good (length t) ≡ false → Length-bad t
+length-bad t e k a b h = true≢false (sym (length-fits t k 0 h a b (omega arith)) ∙ e)
+
+-- ROW i of a table: its numbers by their places, the ticket before it, and its clauses
+abbrev pub row-in : List ℕ → (row : ℕ) → Row
+row-in t i = row (ticket-in t i) (due-in t i) (weight-in t i) (kind-in t i)
+
+abbrev pub before : List ℕ → (row : ℕ) → ℕ
+before t zero = 0
+before t (suc i) = ticket-in t i
+
+abbrev pub Row-good : List ℕ → (row : ℕ) → Type 0
+Row-good t i = Row-right (slot-in t) (last-in t) (next-in t) (before t i) (row-in t i) × Zeros row-zeros-at row-size (drop (row-at i) t)
+
+-- the clauses of k rows from row i on
+abbrev pub Rows-from : List ℕ → (left row : ℕ) → Type 0
+Rows-from t k i = Rows-right k (slot-in t) (last-in t) (next-in t) (before t i) (drop (row-at i) t)
+
+pub row-there : (t : List ℕ) (i : ℕ) → first-row (drop (row-at i) t) ≡ row-in t i
+unfolding row
+row-there t i j =
+    record {
+      ticket = field-drop (row-at i) 0 4 t j;
+      due = field-drop (row-at i) 4 2 t j;
+      weight = field-drop (row-at i) 6 4 t j;
+      kind = field-drop (row-at i) 10 1 t j;
+    }
+
+pub row-next : (t : List ℕ) (i : ℕ) → drop row-size (drop (row-at i) t) ≡ drop (row-at (suc i)) t
+row-next t i = let e : 16 + 24 * i + 24 ≡ 16 + 24 * suc i = omega arith in drop-drop 24 (row-at i) t ∙ ap (λ (j : ℕ). drop j t) e
+
+pub rows-each : (t : List ℕ) (k i : ℕ) → Rows-from t k i → (j : ℕ) → i ≤ j → j < i + k → Row-good t j
+rows-each t zero i c j a b = absurd (omega arith)
+rows-each t (suc k) i c j a b =
+    elim (eqb? i j) [
+      | inl e ↦ rw (← e .1) (rw (row-there t i) at c .0, c .1)
+      | inr e ↦ let n = e .1 in
+          rows-each t k (suc i) (rw (field-drop (row-at i) 0 4 t, row-next t i) at c .2) j (omega arith) (omega arith)
+    ]
+
+pub rows-all : (t : List ℕ) (k i : ℕ) → ((j : ℕ) → i ≤ j → j < i + k → Row-good t j) → Rows-from t k i
+rows-all t zero i c = tt
+rows-all t (suc k) i c =
+    let x = c i (omega arith) (omega arith) in
+    let r : Rows-from t k (suc i) = rows-all t k (suc i) (λ j a b. c j (omega arith) (omega arith)) in (
+      rw (row-there t i) (x .0),
+      x .1,
+      rw (field-drop (row-at i) 0 4 t, row-next t i) r,
+    )
+
+-- THE CLAUSES are document 01's
+module _ (t : List ℕ) (c : Clauses t) where
+  each : (i : ℕ) → i < used-in t → Row-good t i
+  each i h = rows-each t (used-in t) 0 (c .rows) i (omega arith) (omega arith)
+
+  pub clauses-sound : Sound t
+  unfolding row
+  clauses-sound =
+      record {
+        head-zeros = c .head-zeros;
+        row-zeros = λ i j h a b. sym (getD-drop (row-at i) t j 0) ∙ each i h .1 j a b;
+        kinds = λ i h. each i h .0 .kinds;
+        rows-fit = c .fit;
+        last-most = c .last-most;
+        slot-most = c .slot-most;
+        next-least = c .next-least;
+        next-most = c .next-most;
+        tickets-from = λ i h. omega (arith, each i h .0 .from);
+        tickets-rise = λ i h. each (suc i) h .0 .from;
+        tickets-below = λ i h. each i h .0 .below;
+        dues-from = λ i h. each i h .0 .due-from;
+        dues-by = λ i h. each i h .0 .due-by;
+        weights-least = λ i h. each i h .0 .some;
+        weights-most = λ i h. each i h .0 .most;
+        unused-zeros = c .rest-zeros;
+      }
+
+module _ (t : List ℕ) (s : Sound t) where
+  after-before : (i : ℕ) → i < used-in t → before t i < ticket-in t i
+  after-before zero h = s .tickets-from 0 h
+  after-before (suc i) h = s .tickets-rise i h
+
+  row-good : (i : ℕ) → i < used-in t → Row-good t i
+  unfolding row
+  row-good i h = (
+    record {
+      from = after-before i h;
+      below = s .tickets-below i h;
+      due-from = s .dues-from i h;
+      due-by = s .dues-by i h;
+      some = s .weights-least i h;
+      most = s .weights-most i h;
+      kinds = s .kinds i h;
+    },
+    λ j a b. getD-drop (row-at i) t j 0 ∙ s .row-zeros i j h a b,
+  )
+
+  pub sound-clauses : Clauses t
+  sound-clauses =
+      record {
+        fit = s .rows-fit;
+        last-most = s .last-most;
+        slot-most = s .slot-most;
+        next-least = s .next-least;
+        next-most = s .next-most;
+        head-zeros = s .head-zeros;
+        rows = rows-all t (used-in t) 0 (λ i a b. row-good i (omega arith));
+        rest-zeros = s .unused-zeros;
+      }
+
+pub sound-accepted : (t : List ℕ) → Bytes t → length-good (length t) ≡ true → Sound t → table-refusal t ≡ 0
+sound-accepted t h g s = clauses-accepted t h g (sound-clauses t s)
+
+pub accepted-sound : (t : List ℕ) → table-refusal t ≡ 0 → Sound t
+accepted-sound t e = clauses-sound t (accepted-clauses t e)
+
+pub soundness : Soundness
+unfolding Soundness
+soundness t h = (
+  λ e. (length-not-bad t (accepted-length t e), accepted-sound t e),
+  λ s. elim (either (length-good (length t))) [
+    | inl g ↦ sound-accepted t h g (s .1)
+    | inr g ↦ absurd (s .0 (length-bad t g))
+  ],
+)

@@ -5,11 +5,11 @@ ghost use lib.ListN.{replicate};
 ghost use Rattle.rules.specs.Table.{round-in};
 ghost use Rattle.pick.specs.Rows.{Ready, top-of};
 ghost use Rattle.pick.specs.Near.{Counted, Swept, Reaches, first-free};
-use round::Round;
 use crate::rows::bucket_of;
 use crate::rows::due_at;
 use crate::rows::top_of;
 use crate::rows::wide;
+use round::Round;
 
 // From bucket free on every row is in the plan; over rows are left out.
 pub struct Reach {

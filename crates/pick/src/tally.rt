@@ -6,16 +6,23 @@ ghost use Rattle.theory.specs.Flags.{Chosen};
 ghost use Rattle.pick.specs.Rows.{Ready};
 ghost use Rattle.pick.specs.Near.{Counted};
 ghost use Rattle.pick.specs.Tally.{Tallied};
-use round::Round;
 use crate::rows::bucket_of;
 use crate::rows::due_at;
 use crate::rows::key_of;
 use crate::rows::larger;
 use crate::rows::top_of;
 use crate::rows::weight_at;
+use round::Round;
 
 // Counts of all rows become those of the plan's; kept and left get the greatest key of each bucket, 0 where it has none.
-pub fn tally(table: &[u8], flags: &[u8], counts: &mut [u16; 1025], kept: &mut [u64; 1025], left: &mut [u64; 1025], round: Round)
+pub fn tally(
+    table: &[u8],
+    flags: &[u8],
+    counts: &mut [u16; 1025],
+    kept: &mut [u64; 1025],
+    left: &mut [u64; 1025],
+    round: Round,
+)
     requires { ⌜ Ready (now table) round × Chosen (round-in (now table)) (now flags) × Counted (round-in (now table)) (round-in (now table) .rows) (now counts) × (now kept ≡ replicate 1025 0) × (now left ≡ replicate 1025 0) ⌝ }
     ensures { λ _. ⌜ Tallied (round-in (now (table .entry))) (now (flags .entry)) (now (counts .exit)) (now (kept .exit)) (now (left .exit)) ⌝ }
 {

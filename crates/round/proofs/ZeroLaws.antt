@@ -18,9 +18,8 @@ use Rattle.theory.specs.Judge.{zeros}
 pub sum-zero : (a b : ℕ) → eqb a 0 && eqb b 0 ≡ eqb (a + b) 0
 sum-zero a b =
     elim (eqb? a 0) [
-      | inl h ↦ let e : b ≡ a + b = omega (arith, h .1) in rw (h .0) (ap (λ (n : ℕ). eqb n 0) e)
-      | inr h ↦ rw (h .0) (sym (ne-eqb (a + b) 0 (λ e. h .1 (omega arith))))
-    ]
+      inl h ↦ let e : b ≡ a + b = omega (arith, h .1) in rw (h .0) (ap (λ (n : ℕ). eqb n 0) e) |
+      inr h ↦ rw (h .0) (sym (ne-eqb (a + b) 0 (λ e. h .1 (omega arith)))) ]
 
 -- both of three tests, grouped either way
 pub and-assoc : (a b c : Bool) → (a && b) && c ≡ a && (b && c)
@@ -44,9 +43,8 @@ zeros-value (b ∷ bs) =
     scaled : (n : ℕ) → eqb n 0 ≡ eqb (256 * n) 0
     scaled n =
         elim (eqb? n 0) [
-          | inl h ↦ h .0 ∙ sym (eq-eqb (256 * n) 0 (omega (arith, h .1)))
-          | inr h ↦ h .0 ∙ sym (ne-eqb (256 * n) 0 (λ e. h .1 (omega arith)))
-        ]
+          inl h ↦ h .0 ∙ sym (eq-eqb (256 * n) 0 (omega (arith, h .1))) |
+          inr h ↦ h .0 ∙ sym (ne-eqb (256 * n) 0 (λ e. h .1 (omega arith))) ]
 
 pub zeros-field : (bs : List ℕ) (a n : ℕ) → zeros (take n (drop a bs)) ≡ eqb (field a n bs) 0
 unfolding field
@@ -130,10 +128,8 @@ value-small b bs = small b (value bs) ∙ ap (λ (t : Bool). leb b 1 && t) (sym 
     small : (b v : ℕ) → leb (b + 256 * v) 1 ≡ leb b 1 && eqb v 0
     small b v =
         elim (leb? b 1) [
-          | inl h ↦ rw (h .0)
+          inl h ↦ rw (h .0)
               (elim (eqb? v 0) [
-                | inl g ↦ le-leb (b + 256 * v) 1 (omega (arith, h .1, g .1)) ∙ sym (g .0)
-                | inr g ↦ lt-leb (b + 256 * v) 1 (omega (arith, g .1)) ∙ sym (g .0)
-              ])
-          | inr h ↦ rw (h .0) (lt-leb (b + 256 * v) 1 (omega (arith, h .1)))
-        ]
+                inl g ↦ le-leb (b + 256 * v) 1 (omega (arith, h .1, g .1)) ∙ sym (g .0) |
+                inr g ↦ lt-leb (b + 256 * v) 1 (omega (arith, g .1)) ∙ sym (g .0) ]) |
+          inr h ↦ rw (h .0) (lt-leb (b + 256 * v) 1 (omega (arith, h .1))) ]

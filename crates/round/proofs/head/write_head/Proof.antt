@@ -45,7 +45,7 @@ same-length c = search needs
 
 -- src/head.rt:66:1
 returns : tie.Need-returns
-returns c =
+returns c = 
     head-stored _ _ _ _ _ _ _ _ _ _ _ (c .before .before .before .before .before .before .before .before .before .before .before .before .before .before .before .before .before .before .before .before .before .before .before .before .before .before .pre .0) (c .before .before .before .before .before .before .before .before .before .before .before .before .before .before .before .before .before .before .before .before .before .before .before .write2 .ensures) (c .before .before .before .before .before .before .before .before .before .before .before .before .before .before .before .before .before .before .before .write22 .ensures) (c .before .before .before .before .before .before .before .before .before .before .before .before .before .before .before .write4 .ensures)
     (c .before .before .before .before .before .before .before .before .before .before .write23 .ensures) (c .before .before .before .before .before .before .write24 .ensures) (c .before .before .write42 .ensures)
 

@@ -34,7 +34,7 @@ read8-requires-2 c κs = search needs
 
 -- src/rows.rt:28:1
 returns : tie.Need-returns
-returns c =
+returns c = 
     rw (c .before .before .before .before .before .before .before .before .read4 .ensures, c .before .before .before .before .before .before .before .read2 .ensures, c .before .before .before .before .before .before .read42 .ensures, c .before .read8 .ensures, c .read82 .ensures)
     (row-is (c .before .before .before .before .before .before .before .before .before .before .args .round .slot .0) (c .before .before .before .before .before .before .before .before .before .before .args .round .last .0) (c .before .before .before .before .before .before .before .before .before .before .args .round .next .0) (c .before .before .before .before .before .before .before .before .before .before .args .previous .0) (c .before .before .before .before .before .before .before .before .before .before .args .row .now) (c .before .before .before .before .before .before .before .before .before .before .pre))
 

@@ -17,7 +17,7 @@ use Rattle.round.proofs.rows.row_at.Reads as row-at-reads
 use Rattle.round.proofs.rows.row_is_sound.Reads as row-is-sound-reads
 
 abbrev Inv-loop : tie.InvT-loop
-Inv-loop table round used previous₀ i₀ previous i =
+Inv-loop table round used previous₀ i₀ previous i = 
     (i ≤ used) × (rows-judged used (round .slot .0) (round .last .0) (round .next .0) 0 (drop 16 table) ≡ rows-judged (used - i) (round .slot .0) (round .last .0) (round .next .0) previous (drop (16 + 24 * i) table))
 
 abbrev μ-loop : tie.MeasureT-loop
@@ -53,7 +53,7 @@ row-is-sound-requires c κs = simp (length-take, length-drop) (omega arith)
 
 -- src/rows.rt:55:13
 returns : tie.Need-returns Inv-loop μ-loop
-returns c =
+returns c = 
     sym (rows-more (c .before .before .before .before .before .before .before .args .round .slot .0) (c .before .before .before .before .before .before .before .args .round .last .0) (c .before .before .before .before .before .before .before .args .round .next .0) (c .before .before .before .before .before .loop .previous) (c .before .before .before .before .before .before .before .args .table .now) (c .before .before .before .before .before .before .before .args .round .used) (c .before .before .before .before .before .loop .i) (c .before .before .before .row-at .result)
     _ false _ (search needs) (c .before .before .before .row-at .ensures) (c .before .row-is-sound .ensures) (not-true _ (c .if1 .taken)) (c .before .before .before .before .before .loop .inv .1))
 
@@ -71,11 +71,9 @@ loop-less c = search needs
 
 -- src/rows.rt:51:5
 loop-again : tie.Need-loop-again Inv-loop μ-loop
-loop-again c = (
-  search needs,
-  rw (c .read4 .ensures) (rows-more (c .before .before .before .before .before .before .before .before .args .round .slot .0) (c .before .before .before .before .before .before .before .before .args .round .last .0) (c .before .before .before .before .before .before .before .before .args .round .next .0) (c .before .before .before .before .before .before .loop .previous) (c .before .before .before .before .before .before .before .before .args .table .now) (c .before .before .before .before .before .before .before .before .args .round .used) (c .before .before .before .before .before .before .loop .i) (c .before .before .before .before .row-at .result)
-      _ true _ (search needs) (c .before .before .before .before .row-at .ensures) (c .before .before .row-is-sound .ensures) (not-false _ (c .before .if1 .left)) (c .before .before .before .before .before .before .loop .inv .1)),
-)
+loop-again c = 
+    (search needs, rw (c .read4 .ensures) (rows-more (c .before .before .before .before .before .before .before .before .args .round .slot .0) (c .before .before .before .before .before .before .before .before .args .round .last .0) (c .before .before .before .before .before .before .before .before .args .round .next .0) (c .before .before .before .before .before .before .loop .previous) (c .before .before .before .before .before .before .before .before .args .table .now) (c .before .before .before .before .before .before .before .before .args .round .used) (c .before .before .before .before .before .before .loop .i) (c .before .before .before .before .row-at .result)
+    _ true _ (search needs) (c .before .before .before .before .row-at .ensures) (c .before .before .row-is-sound .ensures) (not-false _ (c .before .if1 .left)) (c .before .before .before .before .before .before .loop .inv .1)))
 
 -- src/rows.rt:44:1
 returns-2 : tie.Need-returns-2 Inv-loop μ-loop

@@ -47,7 +47,7 @@ same-length c = simp length-set (omega arith)
 
 -- src/rows.rt:64:1
 returns : tie.Need-returns
-returns c =
+returns c = 
     row-stored _ _ _ _ _ _ _ _ _ (c .before .before .before .before .before .before .before .before .before .before .write4 .ensures) (c .before .before .before .before .before .before .write2 .ensures) (c .before .before .write42 .ensures)
 
 pub write-row-spec : {M : Type 1} → statement M

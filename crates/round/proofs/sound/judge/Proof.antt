@@ -54,7 +54,7 @@ head-is-sound-requires c κs = (good-long _ (good (c .before)) .0, c .read-head 
 
 -- src/sound.rt:25:9
 returns-2 : tie.Need-returns-2
-returns-2 c =
+returns-2 c = 
     says-three (c .before .before .before .before .before .before .args .table .now) (bytes (c .before .before .before)) (good (c .before .before .before)) (judged-is _ _ (c .before .before .read-head .ensures) ∙ (rw (sym (c .before .head-is-sound .ensures) ∙ not-true _ (c .if2 .taken))))
 
 -- src/sound.rt:27:9
@@ -63,7 +63,7 @@ rows-are-sound-requires c κs = (fit c .few, fit c .within)
 
 -- src/sound.rt:28:9
 returns-3 : tie.Need-returns-3
-returns-3 c =
+returns-3 c = 
     says-three (c .before .before .before .before .before .before .before .before .args .table .now) (bytes (c .before .before .before .before .before)) (good (c .before .before .before .before .before)) (judged-is _ _ (c .before .before .before .before .read-head .ensures) ∙ (rw (head (c .before .before), sym (c .before .rows-are-sound .ensures) ∙ not-true _ (c .if3 .taken))))
 
 -- src/sound.rt:30:27
@@ -76,12 +76,12 @@ zeros-from-requires c κs = omega (arith, fit (c .before .before .before) .withi
 
 -- src/sound.rt:31:9
 returns-4 : tie.Need-returns-4
-returns-4 c =
+returns-4 c = 
     says-three (c .before .before .before .before .before .before .before .before .before .before .before .args .table .now) (bytes (c .before .before .before .before .before .before .before .before)) (good (c .before .before .before .before .before .before .before .before)) (judged-is _ _ (c .before .before .before .before .before .before .before .read-head .ensures) ∙ (rw (head (c .before .before .before .before .before), sym (c .before .before .before .before .rows-are-sound .ensures) ∙ not-false _ (c .before .before .before .if3 .left), unused (c .before) ∙ not-true _ (c .if4 .taken))))
 
 -- src/sound.rt:17:1
 returns-5 : tie.Need-returns-5
-returns-5 c =
+returns-5 c = 
     says-sound (c .before .before .before .before .before .before .before .before .before .before .before .args .table .now) (c .before .before .before .before .before .before .before .read-head .result) (bytes (c .before .before .before .before .before .before .before .before)) (good (c .before .before .before .before .before .before .before .before)) (c .before .before .before .before .before .before .before .read-head .ensures) (judged-is _ _ (c .before .before .before .before .before .before .before .read-head .ensures) ∙ (rw (head (c .before .before .before .before .before), sym (c .before .before .before .before .rows-are-sound .ensures) ∙ not-false _ (c .before .before .before .if3 .left), unused (c .before) ∙ not-false _ (c .if4 .left))))
 
 pub judge-spec : {M : Type 1} → statement M

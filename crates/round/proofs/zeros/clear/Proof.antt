@@ -12,7 +12,7 @@ use Rattle.round.proofs.zeros.clear.Reads as reads
 use Rattle.round.proofs.zeros.clear.Lts as lts
 
 abbrev Inv-loop : tie.InvT-loop
-Inv-loop table₀ from i₀ table i =
+Inv-loop table₀ from i₀ table i = 
     (from ≤ i) × (i ≤ length table₀) × (length table ≡ length table₀) × (take i table ≡ take from table₀ ++ replicate (i - from) 0)
 
 abbrev μ-loop : tie.MeasureT-loop
@@ -36,12 +36,11 @@ loop-less c = simp length-set (search needs)
 
 -- src/zeros.rt:51:5
 loop-again : tie.Need-loop-again Inv-loop μ-loop
-loop-again c = (
-  search needs,
-  search needs,
-  simp length-set (search needs),
-  cleared-more (c .before .before .args .table .now) (c .before .loop .table) (c .before .before .args .from) (c .before .loop .i) (search needs) (search needs) (c .before .loop .inv .3),
-)
+loop-again c = 
+    (search needs,
+    search needs,
+    simp length-set (search needs),
+    cleared-more (c .before .before .args .table .now) (c .before .loop .table) (c .before .before .args .from) (c .before .loop .i) (search needs) (search needs) (c .before .loop .inv .3))
 
 -- src/zeros.rt:46:1
 same-length : tie.Need-same-length Inv-loop μ-loop
@@ -49,7 +48,7 @@ same-length c = search needs
 
 -- src/zeros.rt:46:1
 returns : tie.Need-returns Inv-loop μ-loop
-returns c =
+returns c = 
     let e : c .before .loop .i ≡ length (c .before .before .args .table .now) = omega arith in
     sym (take-all (c .before .loop .i) (c .before .loop .table) (search needs)) ∙ c .before .loop .inv .3 ∙ (rw e)
 

@@ -65,7 +65,7 @@ add-result c = search needs
 
 -- src/zeros.rt:26:1
 returns : tie.Need-returns
-returns c =
+returns c = 
     rw (
       c .before .before .before .before .sum3 .ensures .0,
       c .sum32 .ensures .0,

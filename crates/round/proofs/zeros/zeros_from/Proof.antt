@@ -28,7 +28,7 @@ row-is-zero-requires c κs = search needs
 
 -- src/zeros.rt:18:13
 returns : tie.Need-returns Inv-loop μ-loop
-returns c =
+returns c = 
     sym (zeros-more (c .before .before .before .before .before .args .table .now) (c .before .before .before .before .before .args .from) (c .before .before .before .loop .at) _ false (c .before .row-is-zero .ensures) (not-true _ (c .if1 .taken)) (c .before .before .before .loop .inv .2))
 
 -- src/zeros.rt:20:9
@@ -41,11 +41,10 @@ loop-less c = search needs
 
 -- src/zeros.rt:16:5
 loop-again : tie.Need-loop-again Inv-loop μ-loop
-loop-again c = (
-  search needs,
-  search needs,
-  zeros-more (c .before .before .before .before .before .args .table .now) (c .before .before .before .before .before .args .from) (c .before .before .before .loop .at) _ true (c .before .row-is-zero .ensures) (not-false _ (c .if1 .left)) (c .before .before .before .loop .inv .2),
-)
+loop-again c = 
+    (search needs,
+    search needs,
+    zeros-more (c .before .before .before .before .before .args .table .now) (c .before .before .before .before .before .args .from) (c .before .before .before .loop .at) _ true (c .before .row-is-zero .ensures) (not-false _ (c .if1 .left)) (c .before .before .before .loop .inv .2))
 
 -- src/zeros.rt:11:1
 returns-2 : tie.Need-returns-2 Inv-loop μ-loop

@@ -1,3 +1,4 @@
 pub mod RowLaws
 pub mod NearLaws
 pub mod PeakLaws
+pub mod TallyLaws

@@ -5,3 +5,4 @@ pub mod TallyLaws
 pub mod LeastLaws
 pub mod SceneLaws
 pub mod LeadLaws
+pub mod PassLaws

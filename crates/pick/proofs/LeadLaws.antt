@@ -23,7 +23,7 @@ use Rattle.theory.specs.Best.{some-row}
 use Rattle.theory.specs.Flags.{raised, with-flag}
 use Rattle.pick.specs.Rows.{at, key-at, top-of, place}
 use Rattle.pick.specs.Tally.{kept-key, left-key}
-use Rattle.pick.specs.Lead.{most-key, leader-score, Fair, takes-lead, ahead-of, Lightest, Least-by}
+use Rattle.pick.specs.Lead.{most-key, leader-score, Fair, takes-lead, Lightest, Least-by}
 use Rattle.pick.specs.Choice.{leap-of, Leading, Within, Heaviest-left, None-left, Picks-far, Picks-later, Picked}
 use Rattle.pick.specs.declared.near.Reach.{Reach}
 use Rattle.pick.specs.declared.lead.Leader.{Leader}
@@ -65,6 +65,9 @@ pub record Led (r : Round) (fs : List ℕ) (z d : ℕ) (l : Leader) : Type 0 whe
 
 abbrev pub made : (key first last other : ℕ) → Leader
 made k b e o = record { key = k; first = b; last = e; other = o }
+
+abbrev pub ahead-of : (lead new : Leader) → Leader
+ahead-of l n = cond (takes-lead l n) n l
 
 -- WHO TAKES THE LEAD
 pub takes? : (l n : Leader) → (n .key ≤ l .key → n .key / 4194304 < l .key / 4194304) →

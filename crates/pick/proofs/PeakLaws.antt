@@ -7,7 +7,7 @@ use native.Mathlib.Omega.{arith}
 use lib.ListN.{length, getD, set, replicate, length-set, length-replicate, getD-replicate}
 use Rattle.theory.specs.Tests.{leb?, ltb?, eqb?}
 use Rattle.pick.specs.Tally.{Holds, Tops}
-use Rattle.pick.specs.Lead.{peak}
+use Rattle.pick.specs.Lead.{Greatest}
 use Rattle.pick.proofs.NearLaws.{set?}
 
 pub holds-more : (at number : ℕ → ℕ) (n b x : ℕ) → Holds at number n b x → Holds at number (suc n) b x
@@ -95,18 +95,56 @@ peak-more at number n a e x y ks h l t p d =
       ];
     }
 
--- the peak of places alone
-pub peak-step : (ks : List ℕ) (top s k x : ℕ) → 0 < s → s ≤ suc top → k ≡ peak ks s (suc top - s) → x ≡ max k (getD ks (s - 1) 0) → x ≡ peak ks (s - 1) (suc top - (s - 1))
-peak-step ks top zero k x h l e d = absurd (omega (arith, h))
-peak-step ks top (suc s) k x h l e d =
-    let p : suc s - 1 ≡ s = omega arith in
-    let q : suc top - s ≡ suc (suc top - suc s) = omega (arith, l) in
-    rw (p, q) (d ∙ rw (p, e))
+-- the greatest key at places from a to top is one
+pub peak-is : (at number : ℕ → ℕ) (n : ℕ) (ks : List ℕ) (a top k : ℕ) → Tops at number n ks → Greatest ks a top k → Peak at number n a (suc top) k
+peak-is at number n ks a top k t g =
+    record {
+      most = λ i h u v. omega (arith, t .most i h, g .most (at i) u (omega (arith, v)));
+      some = λ h.
+          let q = g .some h in
+          let w = t .some (q .0) (omega (arith, q .3, h)) in
+          (w .row, w .below, omega (arith, w .place, q .1), omega (arith, w .place, q .2), omega (arith, w .is, q .3));
+    }
 
-pub peak-is : (at number : ℕ → ℕ) (n : ℕ) (ks : List ℕ) → Tops at number n ks → (a m : ℕ) → Peak at number n a (a + m) (peak ks a m)
-peak-is at number n ks t a zero = let e : a + 0 ≡ a = omega arith in rw e (peak-none at number n a)
-peak-is at number n ks t a (suc m) =
-    let e : suc a + m ≡ a + suc m = omega arith in
-    let p : suc a - 1 ≡ a = omega arith in
-    rw p at (peak-more at number n (suc a) (a + suc m) (peak ks (suc a) m) (peak ks a (suc m)) ks (omega arith) (omega arith) t
-    (rw e at (peak-is at number n ks t (suc a) m)) (rw p))
+-- SCANNING places from a to s: the greatest key is at b
+pub record Scanning (ks : List ℕ) (a s b : ℕ) : Type 0 where
+  pub from : a ≤ b
+  pub by : b ≤ s
+  pub most : (u : ℕ) → a ≤ u → u ≤ s → getD ks u 0 ≤ getD ks b 0
+
+pub scan-start : (ks : List ℕ) (a : ℕ) → Scanning ks a a a
+scan-start ks a =
+    record {
+      from = omega arith;
+      by = omega arith;
+      most = λ u h k. let e : u ≡ a = omega (arith, h, k) in omega (arith, ap (λ (v : ℕ). getD ks v 0) e);
+    }
+
+pub scan-takes : (ks : List ℕ) (a s b : ℕ) → getD ks b 0 < getD ks (s + 1) 0 → Scanning ks a s b → Scanning ks a (s + 1) (s + 1)
+scan-takes ks a s b l w =
+    record {
+      from = omega (arith, w .from, w .by);
+      by = omega arith;
+      most = λ u h k. elim (eqb? u (s + 1)) [
+        | inl e ↦ omega (arith, ap (λ (v : ℕ). getD ks v 0) (e .1))
+        | inr e ↦ let n = e .1 in omega (arith, w .most u h (omega (arith, k)), l)
+      ];
+    }
+
+pub scan-keeps : (ks : List ℕ) (a s b : ℕ) → getD ks (s + 1) 0 ≤ getD ks b 0 → Scanning ks a s b → Scanning ks a (s + 1) b
+scan-keeps ks a s b l w =
+    record {
+      from = w .from;
+      by = omega (arith, w .by);
+      most = λ u h k. elim (eqb? u (s + 1)) [
+        | inl e ↦ omega (arith, ap (λ (v : ℕ). getD ks v 0) (e .1), l)
+        | inr e ↦ let n = e .1 in w .most u h (omega (arith, k))
+      ];
+    }
+
+pub scan-end : (ks : List ℕ) (a top s b : ℕ) → s ≡ top → Scanning ks a s b → Greatest ks a top (getD ks b 0)
+scan-end ks a top s b e w =
+    record { most = λ u h k. w .most u h (omega (arith, k, e)); some = λ _. (b, w .from, omega (arith, w .by, e), refl) }
+
+pub scan-none : (ks : List ℕ) (a top : ℕ) → top < a → Greatest ks a top 0
+scan-none ks a top h = record { most = λ u l k. absurd (omega (arith, h, l, k)); some = λ l. absurd (omega (arith, l)) }

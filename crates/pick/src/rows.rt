@@ -52,7 +52,7 @@ pub fn key_of(weight: u32, due: u32, row: usize) -> u64
     requires { ⌜ (weight ≤ 16777216) × (due ≤ 4095) × (row < 1024) ⌝ }
     ensures { λ r. ⌜ r ≡ key weight due row ⌝ }
 {
-    weight as u64 * 4194304 + (4095 - due) as u64 * 1024 + (1023 - row) as u64
+    weight as u64 * 4194304 + 4194303 - (due as u64 * 1024 + row as u64)
 }
 
 pub fn weight_of(key: u64) -> u64

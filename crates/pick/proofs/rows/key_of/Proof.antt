@@ -1,5 +1,5 @@
-use borrow.Author.Needs.{needs}
 use Rattle.theory.specs.Keys.{key}
+use borrow.Author.Needs.{needs}
 use Rattle.pick.proofs.rows.key_of.Statement.{statement}
 use Rattle.pick.proofs.rows.key_of.Tie as tie
 use Rattle.pick.proofs.rows.key_of.Reads as reads
@@ -9,29 +9,21 @@ use Rattle.pick.proofs.rows.key_of.Lts as lts
 mul-result : tie.Need-mul-result
 mul-result c = search needs
 
--- src/rows.rt:55:32
-sub-result : tie.Need-sub-result
-sub-result c = search needs
-
--- src/rows.rt:55:31
-cast-result : tie.Need-cast-result
-cast-result c = search needs
-
--- src/rows.rt:55:31
-mul-result-2 : tie.Need-mul-result-2
-mul-result-2 c = search needs
-
 -- src/rows.rt:55:5
 add-result : tie.Need-add-result
 add-result c = search needs
 
--- src/rows.rt:55:61
-sub-result-2 : tie.Need-sub-result-2
-sub-result-2 c = search needs
+-- src/rows.rt:55:42
+mul-result-2 : tie.Need-mul-result-2
+mul-result-2 c = search needs
 
--- src/rows.rt:55:5
+-- src/rows.rt:55:42
 add-result-2 : tie.Need-add-result-2
 add-result-2 c = search needs
+
+-- src/rows.rt:55:5
+sub-result : tie.Need-sub-result
+sub-result c = search needs
 
 -- src/rows.rt:51:1
 returns : tie.Need-returns
@@ -40,13 +32,4 @@ returns c = search needs
 
 pub key-of-spec : {M : Type 1} → statement M
 key-of-spec =
-    tie.close
-    (tie.spec
-    mul-result
-    sub-result
-    cast-result
-    mul-result-2
-    add-result
-    sub-result-2
-    add-result-2
-    returns)
+    tie.close (tie.spec mul-result add-result mul-result-2 add-result-2 sub-result returns)

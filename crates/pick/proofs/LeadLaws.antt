@@ -21,15 +21,15 @@ use Rattle.theory.specs.Index.{chosen-index, each-chosen}
 use Rattle.theory.specs.Members.{Rows, of-rows-fine}
 use Rattle.theory.specs.Best.{some-row}
 use Rattle.theory.specs.Flags.{raised, with-flag}
-use Rattle.pick.specs.Rows.{at, key-at, top-of, place}
-use Rattle.pick.specs.Tally.{kept-key, left-key}
+use Rattle.tally.specs.Rows.{at, key-at, top-of, place}
+use Rattle.tally.specs.Tally.{kept-key, left-key}
 use Rattle.pick.specs.Lead.{most-key, leader-score, Fair, takes-lead, Lightest, Least-by}
 use Rattle.pick.specs.Choice.{leap-of, Leading, Within, Heaviest-left, None-left, Picks-far, Picks-later, Picked}
-use Rattle.pick.specs.declared.near.Reach.{Reach}
+use Rattle.tally.specs.declared.near.Reach.{Reach}
 use Rattle.pick.specs.declared.lead.Leader.{Leader}
 use Rattle.pick.specs.declared.choice.Pick.{Pick}
 use Rattle.pick.specs.declared.choice.Pick.the-variants.{First, Far}
-use Rattle.pick.proofs.NearLaws.{place-by}
+use Rattle.tally.proofs.NearLaws.{place-by}
 use Rattle.pick.proofs.PeakLaws.{Peak}
 use Rattle.pick.proofs.SceneLaws.{Scene, Heaviest, plan-rows, fine-at, from-place, before-place, place-from, place-before, key-some, key-most, weight-key, not-over, peak-heaviest, peak-row, heaviest-in, heaviest-over, left-none, left-heaviest}
 

@@ -16,15 +16,15 @@ use Rattle.theory.specs.Count.{in-bucket, counts-next, counts-none, kept-counts
 use Rattle.theory.specs.Near.{near-edge}
 use Rattle.theory.specs.Segments.{Segment, segment-made}
 use Rattle.theory.specs.Flags.{with-flag}
-use Rattle.pick.specs.Rows.{at, top-of, place}
-use Rattle.pick.specs.Near.{before}
-use Rattle.pick.specs.Tally.{kept-key, left-key, Tallied}
+use Rattle.tally.specs.Rows.{at, top-of, place}
+use Rattle.tally.specs.Near.{before}
+use Rattle.tally.specs.Tally.{kept-key, left-key, Tallied}
 use Rattle.pick.specs.Lead.{Greatest, leader-score, Fair, takes-lead, Least-by, Alone}
 use Rattle.pick.specs.Choice.{leap-of, Picked}
-use Rattle.pick.specs.declared.near.Reach.{Reach}
+use Rattle.tally.specs.declared.near.Reach.{Reach}
 use Rattle.pick.specs.declared.lead.Leader.{Leader}
 use Rattle.pick.specs.declared.choice.Pick.the-variants.{First, Far}
-use Rattle.pick.proofs.NearLaws.{enough}
+use Rattle.tally.proofs.NearLaws.{enough}
 use Rattle.pick.proofs.PeakLaws.{Peak, peak-none, peak-more, peak-is}
 use Rattle.pick.proofs.SceneLaws.{Scene, Heaviest, plan-rows, fine-at, before-place, free-high, peak-heaviest, heaviest-in, key-most, weight-key, left-far}
 use Rattle.pick.proofs.LeadLaws.{Led, made, ahead-of, far-led, segment-key, Joins, joins, joined, first-goes, leap-goes, far-goes}

@@ -19,13 +19,13 @@ use Rattle.theory.specs.Members.{Rows}
 use Rattle.theory.specs.Near.{near-out}
 use Rattle.theory.specs.Flags.{raised, with-flag, Chosen, chosen-rows}
 use Rattle.round.specs.declared.Round.{Round as Head}
-use Rattle.pick.specs.Rows.{Ready, at, key-at, top-of, place}
-use Rattle.pick.specs.Near.{before, Reaches}
-use Rattle.pick.specs.Tally.{kept-key, left-key}
+use Rattle.tally.specs.Rows.{Ready, at, key-at, top-of, place}
+use Rattle.tally.specs.Near.{before, Reaches}
+use Rattle.tally.specs.Tally.{kept-key, left-key}
 use Rattle.pick.specs.Choice.{Heaviest-left, None-left}
-use Rattle.pick.specs.declared.near.Reach.{Reach}
-use Rattle.pick.proofs.RowLaws.{known}
-use Rattle.pick.proofs.NearLaws.{enough, place-by}
+use Rattle.tally.specs.declared.near.Reach.{Reach}
+use Rattle.tally.proofs.RowLaws.{known}
+use Rattle.tally.proofs.NearLaws.{enough, place-by}
 use Rattle.pick.proofs.PeakLaws.{Peak}
 
 -- THE SCENE of a pick: a sound, small round with a slot left, its plan's flags, and how far the plan is full

@@ -1,5 +1,2 @@
-pub mod Rows
-pub mod Near
-pub mod Tally
 pub mod Lead
 pub mod Choice

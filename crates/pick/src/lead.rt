@@ -4,12 +4,12 @@ ghost use Prim.Native.Nat.{ℕ, _+_, _-_, _≤_, min};
 ghost use Rattle.rules.specs.Table.{round-in};
 ghost use Rattle.rules.specs.PlanM.{score};
 ghost use Rattle.theory.specs.Flags.{Chosen};
-ghost use Rattle.pick.specs.Rows.{Ready};
+ghost use Rattle.tally.specs.Rows.{Ready};
 ghost use Rattle.pick.specs.Lead.{Greatest, Fair, leader-score, takes-lead, Least-by, Alone};
-use crate::rows::due_at;
-use crate::rows::larger;
-use crate::rows::weight_at;
-use crate::rows::weight_of;
+use tally::rows::due_at;
+use tally::rows::larger;
+use tally::rows::weight_at;
+use tally::rows::weight_of;
 use round::Round;
 
 // Its key, the first and last bucket of its segment, and the greatest key of the rows left out from first on, 0 for none.

@@ -5,8 +5,8 @@ use Prim.Native.Nat.{_-_, _≤_}
 use Rattle.rules.specs.Table.{round-in}
 use Rattle.pick.proofs.PassLaws.{Passing, pass-start, pass-index, pass-under, pass-fair, pass-lead, pass-on, first-index, first-fair, first-alone, pick-first, pick-leap, pick-far}
 use Rattle.pick.proofs.SceneLaws.{scene}
-use Rattle.pick.proofs.NearLaws.{top-is}
-use Rattle.pick.proofs.RowLaws.{known}
+use Rattle.tally.proofs.NearLaws.{top-is}
+use Rattle.tally.proofs.RowLaws.{known}
 use native.Mathlib.Omega.{arith}
 use Rattle.pick.proofs.choice.choose.Statement.{statement}
 use Rattle.pick.proofs.choice.choose.Tie as tie
@@ -18,10 +18,10 @@ use Rattle.pick.proofs.lead.leader_score.Reads as leader-score-reads
 use Rattle.pick.proofs.lead.peak_of.Reads as peak-of-reads
 use Rattle.pick.proofs.lead.score_of.Reads as score-of-reads
 use Rattle.pick.proofs.lead.takes.Reads as takes-reads
-use Rattle.pick.proofs.rows.larger.Reads as larger-reads
-use Rattle.pick.proofs.rows.top_of.Reads as top-of-reads
-use Rattle.pick.proofs.rows.weight_of.Reads as weight-of-reads
-use Rattle.pick.proofs.rows.wide.Reads as wide-reads
+use Rattle.tally.proofs.rows.larger.Reads as larger-reads
+use Rattle.tally.proofs.rows.top_of.Reads as top-of-reads
+use Rattle.tally.proofs.rows.weight_of.Reads as weight-of-reads
+use Rattle.tally.proofs.rows.wide.Reads as wide-reads
 
 abbrev Inv-loop : tie.InvT-loop
 Inv-loop table flags counts kept left round free top lead₀ s₀ end₀ under₀ key₀ other₀ lead s end under key other = Passing (round-in table) flags free lead s end under key other

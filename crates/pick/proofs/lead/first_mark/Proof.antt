@@ -3,14 +3,14 @@ use mathlib.Core.Path.{sym, subst}
 use Prim.Native.Nat.{ℕ, _-_, _≤_}
 use Rattle.rules.specs.Table.{round-in}
 use Rattle.pick.specs.Lead.{Least-by}
-use Rattle.pick.proofs.RowLaws.{known}
+use Rattle.tally.proofs.RowLaws.{known}
 use native.Mathlib.Omega.{arith}
 use Rattle.pick.proofs.lead.first_mark.Statement.{statement}
 use Rattle.pick.proofs.lead.first_mark.Tie as tie
 use Rattle.pick.proofs.lead.first_mark.Reads as reads
 use Rattle.pick.proofs.lead.first_mark.Lts as lts
 use Rattle.pick.proofs.lead.least_by.Reads as least-by-reads
-use Rattle.pick.proofs.rows.weight_of.Reads as weight-of-reads
+use Rattle.tally.proofs.rows.weight_of.Reads as weight-of-reads
 
 -- src/lead.rt:104:9
 weight-of-requires : tie.Need-weight-of-requires

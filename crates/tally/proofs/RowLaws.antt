@@ -14,7 +14,7 @@ use Rattle.theory.specs.Sane.{sound}
 use Rattle.theory.specs.Clauses.{rows-count, long, accepted-length}
 use Rattle.theory.specs.Soundness.{row-in, row-there, row-next}
 use Rattle.round.specs.declared.Round.{Round as Head}
-use Rattle.pick.specs.Rows.{Ready, Due-at, Weight-at, at}
+use Rattle.tally.specs.Rows.{Ready, Due-at, Weight-at, at}
 
 -- WHAT A READY TABLE IS: its round is sound and small, and the head's numbers are the round's
 pub record Known (t : List ℕ) (h : Head) : Type 0 where

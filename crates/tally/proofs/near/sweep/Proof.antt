@@ -1,14 +1,14 @@
 use borrow.Author.Needs.{needs}
 use mathlib.Core.Path.{_≡_, refl}
-use Rattle.pick.proofs.NearLaws.{Sweeping, sweeping-start, sweeping-step}
+use Rattle.tally.proofs.NearLaws.{Sweeping, sweeping-start, sweeping-step}
 use native.Mathlib.Omega.{arith}
-use Rattle.pick.proofs.near.sweep.Statement.{statement}
-use Rattle.pick.proofs.near.sweep.Tie as tie
-use Rattle.pick.proofs.near.sweep.Reads as reads
-use Rattle.pick.proofs.near.sweep.Lts as lts
-use Rattle.pick.proofs.near.freed.Reads as freed-reads
-use Rattle.pick.proofs.near.less_one.Reads as less-one-reads
-use Rattle.pick.proofs.rows.wide.Reads as wide-reads
+use Rattle.tally.proofs.near.sweep.Statement.{statement}
+use Rattle.tally.proofs.near.sweep.Tie as tie
+use Rattle.tally.proofs.near.sweep.Reads as reads
+use Rattle.tally.proofs.near.sweep.Lts as lts
+use Rattle.tally.proofs.near.freed.Reads as freed-reads
+use Rattle.tally.proofs.near.less_one.Reads as less-one-reads
+use Rattle.tally.proofs.rows.wide.Reads as wide-reads
 
 abbrev Inv-loop : tie.InvT-loop
 Inv-loop counts top s₀ over₀ free₀ s over free = Sweeping counts top s over free

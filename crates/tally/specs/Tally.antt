@@ -6,8 +6,8 @@ use Prim.Native.Nat.{ℕ, _≤_, _<_}
 use lib.ListN.{length, getD}
 use Rattle.rules.specs.Rows.{Round}
 use Rattle.theory.specs.Flags.{raised, with-flag}
-use Rattle.pick.specs.Rows.{key-at, place}
-use Rattle.pick.specs.Near.{Counted}
+use Rattle.tally.specs.Rows.{key-at, place}
+use Rattle.tally.specs.Near.{Counted}
 
 -- a row's key where it is in the plan, or where it isn't; else 0
 abbrev pub kept-key : Round → (flags : List ℕ) → (row : ℕ) → ℕ

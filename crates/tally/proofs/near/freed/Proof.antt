@@ -1,8 +1,8 @@
 use borrow.Author.Tests.{eq-eqb, ne-eqb}
-use Rattle.pick.proofs.near.freed.Statement.{statement}
-use Rattle.pick.proofs.near.freed.Tie as tie
-use Rattle.pick.proofs.near.freed.Reads as reads
-use Rattle.pick.proofs.near.freed.Lts as lts
+use Rattle.tally.proofs.near.freed.Statement.{statement}
+use Rattle.tally.proofs.near.freed.Tie as tie
+use Rattle.tally.proofs.near.freed.Reads as reads
+use Rattle.tally.proofs.near.freed.Lts as lts
 
 -- src/near.rt:50:9
 returns : tie.Need-returns

@@ -10,8 +10,8 @@ use Rattle.rules.specs.Plan.{feasible}
 use Rattle.theory.specs.Sum.{sum}
 use Rattle.theory.specs.Count.{in-bucket, under, Sweep}
 use Rattle.theory.specs.Near.{Near}
-use Rattle.pick.specs.Rows.{top-of}
-use Rattle.pick.specs.declared.near.Reach.{Reach}
+use Rattle.tally.specs.Rows.{top-of}
+use Rattle.tally.specs.declared.near.Reach.{Reach}
 
 -- how many of some rows each bucket has
 pub record Counted (r : Round) (xs : List Row) (cs : List ℕ) : Type 0 where

@@ -1,10 +1,10 @@
 use borrow.Author.Needs.{needs}
 use native.Mathlib.Omega.{arith}
-use Rattle.pick.proofs.RowLaws.{reads-within, weight-read}
-use Rattle.pick.proofs.rows.weight_at.Statement.{statement}
-use Rattle.pick.proofs.rows.weight_at.Tie as tie
-use Rattle.pick.proofs.rows.weight_at.Reads as reads
-use Rattle.pick.proofs.rows.weight_at.Lts as lts
+use Rattle.tally.proofs.RowLaws.{reads-within, weight-read}
+use Rattle.tally.proofs.rows.weight_at.Statement.{statement}
+use Rattle.tally.proofs.rows.weight_at.Tie as tie
+use Rattle.tally.proofs.rows.weight_at.Reads as reads
+use Rattle.tally.proofs.rows.weight_at.Lts as lts
 use Rattle.round.proofs.bytes.read4.Reads as read4-reads
 use Rattle.round.proofs.rows.row_at.Reads as row-at-reads
 

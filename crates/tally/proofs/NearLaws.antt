@@ -16,10 +16,10 @@ use Rattle.theory.specs.Sum.{sum, sum-le, length-sum}
 use Rattle.theory.specs.Count.{bucket, in-bucket, under, counts-next, counts-none, Sweep, sweep-start, sweep-more, sweep-idle, sweep-near, sweep-none}
 use Rattle.theory.specs.Index.{sum-next}
 use Rattle.round.specs.declared.Round.{Round as Head}
-use Rattle.pick.specs.Rows.{Ready, Due-at, at, top-of, place}
-use Rattle.pick.specs.Near.{Counted, before, upto, first-free, Swept, Reaches}
-use Rattle.pick.specs.declared.near.Reach.{Reach}
-use Rattle.pick.proofs.RowLaws.{known}
+use Rattle.tally.specs.Rows.{Ready, Due-at, at, top-of, place}
+use Rattle.tally.specs.Near.{Counted, before, upto, first-free, Swept, Reaches}
+use Rattle.tally.specs.declared.near.Reach.{Reach}
+use Rattle.tally.proofs.RowLaws.{known}
 
 -- a store at a place, read again
 pub set? : (ks : List ℕ) (b x v : ℕ) → b < length ks → ((b ≡ v) × (getD (set ks b x) v 0 ≡ x)) ⊎ ((b ≡ v → ⊥) × (getD (set ks b x) v 0 ≡ getD ks v 0))

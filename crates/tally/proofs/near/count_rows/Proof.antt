@@ -1,16 +1,16 @@
-use Rattle.pick.proofs.NearLaws.{bucket-read, Counting, count-start, count-step, count-end, count-bound}
+use Rattle.tally.proofs.NearLaws.{bucket-read, Counting, count-start, count-step, count-end, count-bound}
 use borrow.Author.Needs.{needs}
 use Prim.Native.Nat.{_-_, _≤_}
 use Rattle.rules.specs.Table.{round-in}
-use Rattle.pick.proofs.RowLaws.{known}
+use Rattle.tally.proofs.RowLaws.{known}
 use native.Mathlib.Omega.{arith}
-use Rattle.pick.proofs.near.count_rows.Statement.{statement}
-use Rattle.pick.proofs.near.count_rows.Tie as tie
-use Rattle.pick.proofs.near.count_rows.Reads as reads
-use Rattle.pick.proofs.near.count_rows.Lts as lts
-use Rattle.pick.proofs.rows.bucket_of.Reads as bucket-of-reads
-use Rattle.pick.proofs.rows.due_at.Reads as due-at-reads
-use Rattle.pick.proofs.rows.top_of.Reads as top-of-reads
+use Rattle.tally.proofs.near.count_rows.Statement.{statement}
+use Rattle.tally.proofs.near.count_rows.Tie as tie
+use Rattle.tally.proofs.near.count_rows.Reads as reads
+use Rattle.tally.proofs.near.count_rows.Lts as lts
+use Rattle.tally.proofs.rows.bucket_of.Reads as bucket-of-reads
+use Rattle.tally.proofs.rows.due_at.Reads as due-at-reads
+use Rattle.tally.proofs.rows.top_of.Reads as top-of-reads
 
 abbrev Inv-loop : tie.InvT-loop
 Inv-loop table counts₀ round top used slot i₀ counts i = (i ≤ used) × Counting (round-in table) i counts

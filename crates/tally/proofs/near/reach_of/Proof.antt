@@ -1,14 +1,14 @@
-use Rattle.pick.proofs.NearLaws.{reaches}
-use Rattle.pick.proofs.RowLaws.{known}
+use Rattle.tally.proofs.NearLaws.{reaches}
+use Rattle.tally.proofs.RowLaws.{known}
 use native.Mathlib.Omega.{arith}
 use borrow.Author.Needs.{needs}
-use Rattle.pick.proofs.near.reach_of.Statement.{statement}
-use Rattle.pick.proofs.near.reach_of.Tie as tie
-use Rattle.pick.proofs.near.reach_of.Reads as reads
-use Rattle.pick.proofs.near.reach_of.Lts as lts
-use Rattle.pick.proofs.near.count_rows.Reads as count-rows-reads
-use Rattle.pick.proofs.near.sweep.Reads as sweep-reads
-use Rattle.pick.proofs.rows.top_of.Reads as top-of-reads
+use Rattle.tally.proofs.near.reach_of.Statement.{statement}
+use Rattle.tally.proofs.near.reach_of.Tie as tie
+use Rattle.tally.proofs.near.reach_of.Reads as reads
+use Rattle.tally.proofs.near.reach_of.Lts as lts
+use Rattle.tally.proofs.near.count_rows.Reads as count-rows-reads
+use Rattle.tally.proofs.near.sweep.Reads as sweep-reads
+use Rattle.tally.proofs.rows.top_of.Reads as top-of-reads
 
 -- src/near.rt:77:5
 count-rows-requires : tie.Need-count-rows-requires

@@ -15,11 +15,11 @@ use Rattle.theory.specs.Keys.{key}
 use Rattle.theory.specs.Count.{in-bucket}
 use Rattle.theory.specs.Index.{chosen-next}
 use Rattle.theory.specs.Flags.{raised, Chosen, raised-at, length-raised}
-use Rattle.pick.specs.Rows.{Due-at, Weight-at, at, key-at, top-of, place}
-use Rattle.pick.specs.Near.{Counted}
-use Rattle.pick.specs.Tally.{kept-key, left-key, Tops, Tallied}
-use Rattle.pick.proofs.NearLaws.{set?, in-own, in-other, Bucket-at}
-use Rattle.pick.proofs.PeakLaws.{tops-start, tops-step, tops-skip}
+use Rattle.tally.specs.Rows.{Due-at, Weight-at, at, key-at, top-of, place}
+use Rattle.tally.specs.Near.{Counted}
+use Rattle.tally.specs.Tally.{kept-key, left-key, Tops, Tallied}
+use Rattle.tally.proofs.NearLaws.{set?, in-own, in-other, Bucket-at}
+use Rattle.tally.proofs.TopLaws.{tops-start, tops-step, tops-skip}
 
 -- a flag is raised or not
 pub flag-on : (fs : List ℕ) (i : ℕ) → i < length fs → getD fs i 0 ≡ 1 → getD (raised fs) i false ≡ true

@@ -1,9 +1,9 @@
 use Rattle.theory.specs.Keys.{key}
 use borrow.Author.Needs.{needs}
-use Rattle.pick.proofs.rows.key_of.Statement.{statement}
-use Rattle.pick.proofs.rows.key_of.Tie as tie
-use Rattle.pick.proofs.rows.key_of.Reads as reads
-use Rattle.pick.proofs.rows.key_of.Lts as lts
+use Rattle.tally.proofs.rows.key_of.Statement.{statement}
+use Rattle.tally.proofs.rows.key_of.Tie as tie
+use Rattle.tally.proofs.rows.key_of.Reads as reads
+use Rattle.tally.proofs.rows.key_of.Lts as lts
 
 -- src/rows.rt:55:5
 mul-result : tie.Need-mul-result

@@ -3,3 +3,5 @@ pub mod LeastLaws
 pub mod SceneLaws
 pub mod LeadLaws
 pub mod PassLaws
+pub mod StretchLaws
+pub mod WholeLaws

@@ -131,6 +131,9 @@ module _ (r : Round) (x : Reach) (s : Scene r (every r) x) where
       let q : d ≡ r .slot + x .free = omega (arith, f, z) in
       far-goes r (every r) x s (g .later) z n (late-peak (x .free) (g .later) (omega arith) (subst (λ (v : ℕ). Peak (due-of r) (key-at r) (length (r .rows)) v (suc (r .last)) (g .later)) q (w .later)))
 
+  pub free-few : x .free ≤ 1025
+  free-few = omega (arith, free-high r (every r) x s, s .small)
+
   -- the counts of all rows are those of the plan's
   pub counts-all-rows : (cs : List ℕ) → Counted r (r .rows) cs → Counted r (with-flag r (every r)) cs
   counts-all-rows cs c = subst (λ (xs : List Row). Counted r xs cs) (sym (every-row r)) c

@@ -1,0 +1,7 @@
+pub mod PeakLaws
+pub mod LeastLaws
+pub mod SceneLaws
+pub mod LeadLaws
+pub mod PassLaws
+pub mod StretchLaws
+pub mod WholeLaws

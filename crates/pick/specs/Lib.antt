@@ -1,0 +1,5 @@
+pub mod Peak
+pub mod Stretch
+pub mod Lead
+pub mod Choice
+pub mod Whole

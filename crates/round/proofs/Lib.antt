@@ -1,0 +1,6 @@
+pub mod NumberLaws
+pub mod ZeroLaws
+pub mod RowLaws
+pub mod WriteLaws
+pub mod JudgeLaws
+pub mod TableLaws

@@ -1,0 +1,7 @@
+pub mod ArrayLaws
+pub mod HeapLaws
+pub mod KeyLaws
+pub mod ListLaws
+pub mod TallyLaws
+pub mod SweepLaws
+pub mod HeapedLaws

@@ -177,15 +177,26 @@ next-list t heap fs s a count W h =
 pub next-ahead : (t heap fs : List ℕ) (s count : ℕ) → Sweeping t heap fs (suc s) 0 count → Sweeping t heap fs (s + 1) 0 count
 next-ahead t heap fs s count W = rw add-one W
 
-pub none-swept : (t heap fs : List ℕ) → length heap ≡ 1025 → fs ≡ replicate (length fs) 0 → Sweeping t heap fs 0 0 0
+pub none-swept : (t heap fs : List ℕ) → heap ≡ replicate 1026 1 → fs ≡ replicate (length fs) 0 → Sweeping t heap fs 0 0 0
 unfolding heaped
-none-swept t heap fs l e =
+none-swept t heap fs g e =
     record {
       mid = none-yet (key-in t) (ahead-in t) (length fs) fs refl off;
-      ordered = record { room = l; order = λ q a b. absurd (omega arith) };
+      ordered = record {
+        room = ap length g ∙ length-replicate 1026 one;
+        order = λ q a b. absurd (omega arith);
+        some = λ q a b. absurd (omega arith);
+        free = λ q a. omega (arith, ap (λ (xs : List ℕ). getD xs q 0) g, none-over 1026 q);
+      };
       keys = λ μ. sym (tally-none (λ j. μ (key-in t j)) fs (length fs) off);
     }
   where
+    one : ℕ
+    one = 1
+    none-over : (n q : ℕ) → getD (replicate n 1) q 0 ≤ 1
+    none-over zero q = omega arith
+    none-over (suc n) zero = omega arith
+    none-over (suc n) (suc q) = none-over n q
     off : (j : ℕ) → j < length fs → kept? fs j ≡ false
     off j h = ap (λ (xs : List ℕ). kept? xs j) e ∙ ap (λ (z : ℕ). eqb z 1) (getD-replicate (length fs) j 0 0 h)
 

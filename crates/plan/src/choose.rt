@@ -4,6 +4,7 @@ ghost use lib.ListN.{length};
 ghost use Rattle.rules.specs.Table.{round-in, table-refusal};
 ghost use Rattle.rules.specs.Conditions.{slot-in, used-in};
 ghost use Rattle.theory.specs.Flags.{Chosen};
+use crate::heap::EMPTY;
 use crate::lists::NONE;
 use crate::lists::link;
 use crate::sweep::sweep;
@@ -17,8 +18,7 @@ pub fn choose_rows(table: &[u8], flags: &mut [u8], used: usize, slot: usize)
     let mut first = [NONE; 1025];
     let mut next = [NONE; 1024];
     link(table, &mut first, &mut next, used, slot);
-    // Any content does; one that is not zero is written in wide stores.
-    let mut heap = [1u64; 1025];
+    let mut heap = [EMPTY; 1026];
     clear(flags, 0);
     sweep(table, &mut heap, flags, &first, &next);
 }

@@ -12,7 +12,7 @@ use crate::keys::key_at;
 use crate::keys::row_of;
 
 // One row. Answers how many are kept.
-fn admit(table: &[u8], heap: &mut [u64; 1025], flags: &mut [u8], row: usize, ahead: usize, count: usize) -> usize
+fn admit(table: &[u8], heap: &mut [u64; 1026], flags: &mut [u8], row: usize, ahead: usize, count: usize) -> usize
     requires { ⌜ (row < length (now flags)) × (length (now flags) ≤ 1024) × Rows-known (now table) (length (now flags)) × (ahead-in (now table) row ≡ ahead) × Sweeping (now table) (now heap) (now flags) ahead row count ⌝ }
     ensures { λ r. ⌜ Sweeping (now (table .entry)) (now (heap .exit)) (now (flags .exit)) ahead (suc row) r ⌝ }
 {
@@ -39,7 +39,7 @@ fn wide(x: u16) -> usize
 }
 
 // The rows of one list, from the row that starts it.
-fn admit_list(table: &[u8], heap: &mut [u64; 1025], flags: &mut [u8], next: &[u16; 1024], start: usize, ahead: usize, kept: usize) -> usize
+fn admit_list(table: &[u8], heap: &mut [u64; 1026], flags: &mut [u8], next: &[u16; 1024], start: usize, ahead: usize, kept: usize) -> usize
     requires { ⌜ (length (now flags) ≤ 1024) × Rows-known (now table) (length (now flags)) × Nexts (ahead-in (now table)) (length (now flags)) 0 (now next) × Next (ahead-in (now table)) (length (now flags)) ahead 0 start × Sweeping (now table) (now heap) (now flags) ahead 0 kept ⌝ }
     ensures { λ r. ⌜ Sweeping (now (table .entry)) (now (heap .exit)) (now (flags .exit)) (suc ahead) 0 r ⌝ }
 {
@@ -53,8 +53,8 @@ fn admit_list(table: &[u8], heap: &mut [u64; 1025], flags: &mut [u8], next: &[u1
 }
 
 // All lists.
-pub fn sweep(table: &[u8], heap: &mut [u64; 1025], flags: &mut [u8], first: &[u16; 1025], next: &[u16; 1024])
-    requires { ⌜ (length (now flags) ≤ 1024) × Rows-known (now table) (length (now flags)) × Firsts (ahead-in (now table)) (length (now flags)) 0 (now first) × Nexts (ahead-in (now table)) (length (now flags)) 0 (now next) × (now flags ≡ replicate (length (now flags)) 0) × (length (now heap) ≡ 1025) × (length (now flags) ≡ used-in (now table)) ⌝ }
+pub fn sweep(table: &[u8], heap: &mut [u64; 1026], flags: &mut [u8], first: &[u16; 1025], next: &[u16; 1024])
+    requires { ⌜ (length (now flags) ≤ 1024) × Rows-known (now table) (length (now flags)) × Firsts (ahead-in (now table)) (length (now flags)) 0 (now first) × Nexts (ahead-in (now table)) (length (now flags)) 0 (now next) × (now flags ≡ replicate (length (now flags)) 0) × (now heap ≡ replicate 1026 1) × (length (now flags) ≡ used-in (now table)) ⌝ }
     ensures { λ _. ⌜ Kept (now (table .entry)) (now (flags .exit)) ⌝ }
 {
     let mut ahead: usize = 0;

@@ -1,7 +1,7 @@
 -- The sweep's steps with the keys of the rows kept in a heap. Assumes nothing.
 use mathlib.Core.Path.{_≡_, refl, sym, ap, _∙_, subst}
 use mathlib.Core.Logic.{_⊎_, inl, inr}
-use mathlib.Core.Bool.{Bool, true, false, cond, true≢false}
+use mathlib.Core.Bool.{true, false, cond, true≢false}
 use mathlib.Core.List.{List}
 use Prim.Native.Nat.{ℕ, zero, suc, _+_, _/_, _%_, _≤_, _<_}
 use native.Mathlib.Omega.{arith}
@@ -13,7 +13,7 @@ use Rattle.rules.specs.Conditions.{due-in, weight-in}
 use Rattle.plan.specs.Keys.{key-in, ahead-in}
 use Rattle.plan.specs.Lists.{Next, Nexts}
 use Rattle.plan.specs.Heap.{Heap, heaped, Grown, Replaced}
-use Rattle.plan.specs.Sweep.{kept?, tally, Flagged, Sweeping, Kept}
+use Rattle.plan.specs.Sweep.{kept?, Flagged, Sweeping, Kept}
 use Rattle.plan.proofs.ArrayLaws.{same-place}
 use Rattle.plan.proofs.KeyLaws.{row-in-key, ahead-by}
 use Rattle.plan.proofs.TallyLaws.{tally-on, tally-most, tally-none, tally-at, tally-some}
@@ -163,13 +163,16 @@ module _ (t heap fs : List ℕ) (s i count k : ℕ) (W : Sweeping t heap fs s i 
     where
       L : Lightest t fs (getD heap 1 0) z
       L = subst (Lightest t fs (getD heap 1 0)) (sym e) (top-row t heap fs s i count W (omega arith))
+
       heavier : key-in t i < key-in t z
       heavier = omega (arith, L .key, over, is-key)
+
       most : (j : ℕ) → j < length fs → kept? fs j ≡ true → (j ≡ z) ⊎ (key-in t j < key-in t z)
       most j a f = elim (ltb? (key-in t j) (key-in t z)) [
         | inl b ↦ inr (b .1)
         | inr b ↦ inl (differ t heap fs s i count W j z a (L .in-rows) (omega (arith, b .1, L .key, under-top t heap fs s i count W j a f)))
       ]
+
       long : length (set (set fs z 0) i 1) ≡ length fs
       long = length-set (set fs z 0) i 1 ∙ length-set fs z 0
 
@@ -212,10 +215,12 @@ none-swept t heap fs F g e =
   where
     one : ℕ
     one = 1
+
     none-over : (n q : ℕ) → getD (replicate n 1) q 0 ≤ 1
     none-over zero q = omega arith
     none-over (suc n) zero = omega arith
     none-over (suc n) (suc q) = none-over n q
+
     off : (j : ℕ) → j < length fs → kept? fs j ≡ false
     off j h = ap (λ (xs : List ℕ). kept? xs j) e ∙ ap (λ (z : ℕ). eqb z 1) (getD-replicate (length fs) j 0 0 h)
 

@@ -1,25 +1,23 @@
 -- A sweep's certificate is one for the plan's rows. Assumes nothing.
-use mathlib.Core.Path.{_≡_, refl, sym, ap, ap₂, _∙_, subst}
-use mathlib.Core.Logic.{_⊎_, inl, inr}
-use mathlib.Core.Bool.{Bool, true, false, cond, true≢false}
+use mathlib.Core.Path.{_≡_, refl, sym, ap, ap₂, _∙_}
+use mathlib.Core.Logic.{inl, inr}
+use mathlib.Core.Bool.{Bool, true, false, cond}
 use mathlib.Core.List.{List, [], _∷_, _++_}
-use Prim.Native.Nat.{ℕ, zero, suc, _+_, _*_, _-_, _≤_, _<_, min}
+use Prim.Native.Nat.{ℕ, zero, suc, _+_, _-_, _≤_, _<_, min}
 use native.Mathlib.Omega.{arith}
-use lib.Dec.{ltb, eqb}
 use borrow.Author.Tests.{lt-ltb}
 use lib.ListN.{length, getD, take, replicate, length-replicate}
 use lib.Seq.{take-all}
 use Rattle.rules.specs.Rows.{Row, Round, heavier, chosen, All}
 use Rattle.rules.specs.Table.{round-in, table-refusal}
-use Rattle.rules.specs.Conditions.{slot-in, used-in, due-in, weight-in}
-use Rattle.rules.specs.Plan.{feasible, due-by}
-use Rattle.theory.specs.Tests.{either, leb?, ltb?, eqb?}
+use Rattle.rules.specs.Conditions.{slot-in, used-in}
+use Rattle.theory.specs.Tests.{leb?}
 use Rattle.theory.specs.Sum.{sum, sum-le}
 use Rattle.theory.specs.All.{all-map, all-in}
 use Rattle.theory.specs.Feas.{below, below?, num, below-yes, below-1, due-below, Feas, feas-made}
 use Rattle.theory.specs.Full.{Fine, Row-fine}
 use Rattle.theory.specs.Border.{within, many, within-yes}
-use Rattle.theory.specs.Unique.{Left-out, passed, Certified, within-below, all-within}
+use Rattle.theory.specs.Unique.{Left-out, passed, within-below, all-within}
 use Rattle.theory.specs.Keys.{light-key, getD-in, rows-light-key}
 use Rattle.theory.specs.Index.{chosen-next}
 use Rattle.theory.specs.Sane.{sound}
@@ -27,7 +25,7 @@ use Rattle.theory.specs.Soundness.{accepted-sound}
 use Rattle.theory.specs.Flags.{raised, length-raised, raised-at, Chosen}
 use Rattle.plan.specs.Keys.{key-in, ahead-in}
 use Rattle.plan.specs.Sweep.{kept?, tally, before, smaller, Barred, Kept}
-use Rattle.plan.proofs.TallyLaws.{tally-le, tally-most, before-yes, before-1, smaller?, smaller-1}
+use Rattle.plan.proofs.TallyLaws.{tally-le, tally-most, before-yes, smaller?, smaller-1}
 use Rattle.plan.proofs.TableLaws.{due-held, weight-held, rows-held, slot-held, few-rows}
 
 -- sums over the rows with a flag

@@ -1,12 +1,12 @@
 -- The sweep's steps on flags alone: a row joins, stays out, or takes the lightest one's place. Assumes nothing.
-use mathlib.Core.Path.{_≡_, refl, sym, ap, _∙_}
+use mathlib.Core.Path.{_≡_, sym, ap, _∙_}
 use mathlib.Core.Logic.{_⊎_, inl, inr}
-use mathlib.Core.Bool.{Bool, true, false, true≢false, false≢true}
+use mathlib.Core.Bool.{true, false, true≢false, false≢true}
 use mathlib.Core.List.{List}
 use Prim.Native.Nat.{ℕ, suc, _+_, _≤_, _<_}
 use native.Mathlib.Omega.{arith}
-use lib.ListN.{length, getD, set, length-set}
-use Rattle.theory.specs.Tests.{either, leb?, ltb?, eqb?}
+use lib.ListN.{length, set, length-set}
+use Rattle.theory.specs.Tests.{leb?, ltb?, eqb?}
 use Rattle.plan.specs.Lists.{Next}
 use Rattle.plan.specs.Sweep.{kept?, tally, before, smaller, Barred, Done, Waits, Mid}
 use Rattle.plan.proofs.TallyLaws.{kept-set?, tally-on, tally-off, tally-le, tally-none, before-yes, before-no, before-1, smaller-yes, smaller-no}
@@ -18,8 +18,11 @@ barred-full K S n fs s j h full under =
     record {
       at = suc s;
       past = omega arith;
-      full = omega (arith, tally-le (λ _. 1) (smaller K S (K j) (suc s)) fs n (λ i a b.
-          let u = under i a b in omega (arith, smaller-yes K S (K j) (suc s) i (u .0), before-yes S (suc s) i (omega (arith, u .1)))));
+      full = omega (
+        arith,
+        tally-le (λ _. 1) (smaller K S (K j) (suc s)) fs n (λ i a b.
+            let u = under i a b in omega (arith, smaller-yes K S (K j) (suc s) i (u .0), before-yes S (suc s) i (omega (arith, u .1)))),
+      );
     }
 
 module _ (K S : ℕ → ℕ) (n : ℕ) (fs : List ℕ) (s i count : ℕ) (M : Mid K S n fs s i count) (h : i < n) (here : S i ≡ s) where
@@ -169,6 +172,7 @@ skip K S n fs s a c count M N =
     wider : (j : ℕ) → Waits S s c j → Waits S s a j
     wider j (inl w) = inl w
     wider j (inr w) = inr (w .0, omega (arith, N .from))
+
     narrower : (j : ℕ) → j < n → Done S s c j → Done S s a j
     narrower j h (inl d) = inl d
     narrower j h (inr d) = elim (ltb? j a) [ inl k ↦ inr (d .0, k .1) | inr k ↦ absurd (N .gap j (k .1) (d .1) h (d .0)) ]
@@ -190,6 +194,7 @@ onward K S n fs s a count M h =
     ahead : (j : ℕ) → Waits S (suc s) 0 j → s < S j
     ahead j (inl w) = omega arith
     ahead j (inr w) = omega arith
+
     by : (j : ℕ) → j < n → Done S (suc s) 0 j → Done S s a j
     by j k (inl d) = elim (ltb? (S j) s) [ inl b ↦ inl (b .1) | inr b ↦ inr (omega (arith, b .1), omega arith) ]
     by j k (inr d) = absurd (omega arith)

@@ -38,11 +38,15 @@ wide-requires c κs = search needs
 
 -- src/sweep.rt:47:5
 loop-less : tie.Need-loop-less Inv-loop μ-loop
-loop-less c = omega (arith, c .wide .ensures, c .before .before .before .before .before .before .before .before .before .before .before .pre .0 (c .before .before .before .before .before .before .before .before .loop .row) (omega arith) (omega arith) .from)
+loop-less c =
+    let s = c .before .before .before .before .before .before .before .before .before .before .before in
+    omega (arith, c .wide .ensures, s .pre .0 (c .before .before .before .before .before .before .before .before .loop .row) (omega arith) (omega arith) .from)
 
 -- src/sweep.rt:47:5
 loop-again : tie.Need-loop-again Inv-loop μ-loop
-loop-again c = list-more _ _ _ _ _ _ (c .before .before .before .before .before .before .before .before .before .before .before .args .next .now) _ _ _ _ _ (c .before .before .before .before .before .before .before .before .loop .inv) (search needs) (search needs) (c .before .before .before .before .admit .ensures) (c .before .before .before .before .before .before .before .before .before .before .before .pre .0) (c .wide .ensures)
+loop-again c =
+    let s = c .before .before .before .before .before .before .before .before .before .before .before in
+    list-more _ _ _ _ _ _ (s .args .next .now) _ _ _ _ _ (c .before .before .before .before .before .before .before .before .loop .inv) (search needs) (search needs) (c .before .before .before .before .admit .ensures) (s .pre .0) (c .wide .ensures)
 
 -- src/sweep.rt:41:1
 same-length : tie.Need-same-length Inv-loop μ-loop

@@ -3,7 +3,6 @@ use Rattle.plan.proofs.ListLaws.{nexts-of, start-of}
 use Rattle.plan.specs.Sweep.{Sweeping}
 use mathlib.Core.Path.{_≡_, refl}
 use Prim.Native.Nat.{suc, _-_, _≤_}
-use native.Mathlib.Omega.{arith}
 use lib.ListN.{length}
 use borrow.Author.Needs.{needs}
 use Rattle.plan.proofs.sweep.sweep.Statement.{statement}
@@ -21,7 +20,7 @@ abbrev μ-loop : tie.MeasureT-loop
 
 -- src/sweep.rt:62:5
 loop-holds : tie.Need-loop-holds Inv-loop μ-loop
-loop-holds c = (refl, search needs, none-swept _ _ _ (c .before .before .pre .0) (c .before .before .pre .3) (c .before .before .pre .4))
+loop-holds c = (refl, search needs, none-swept _ _ _ (c .before .before .pre .0) (c .before .before .pre .2) (c .before .before .pre .3))
 
 -- src/sweep.rt:63:59
 mul-wide : tie.Need-mul-wide Inv-loop μ-loop
@@ -37,7 +36,13 @@ wide-requires c κs = search needs
 
 -- src/sweep.rt:63:9
 admit-list-requires : tie.Need-admit-list-requires Inv-loop μ-loop
-admit-list-requires c κs = (nexts-of _ _ _ (c .before .before .before .before .before .before .before .before .args .next .now) (c .before .before .before .before .before .loop .inv .0) (c .before .before .before .before .before .before .before .before .pre .2), start-of _ _ _ (c .before .before .before .before .before .before .before .before .args .first .now) _ _ (c .before .before .before .before .before .loop .inv .0) (c .before .before .before .before .before .before .before .before .pre .1) (search needs) (c .wide .ensures), c .before .before .before .before .before .loop .inv .2)
+admit-list-requires c κs =
+    let s = c .before .before .before .before .before .before .before .before in
+    let l = c .before .before .before .before .before .loop .inv in (
+      nexts-of _ _ _ (s .args .next .now) (l .0) (s .pre .1 .1),
+      start-of _ _ _ (s .args .first .now) _ _ (l .0) (s .pre .1 .0) (search needs) (c .wide .ensures),
+      l .2,
+    )
 
 -- src/sweep.rt:64:9
 add-ahead : tie.Need-add-ahead Inv-loop μ-loop

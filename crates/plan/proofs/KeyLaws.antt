@@ -16,7 +16,8 @@ pub weight-read : (t : List ℕ) (i a r : ℕ) → a ≡ row-at i → r ≡ fiel
 weight-read t i a r e f = f ∙ ap (λ (z : ℕ). field (z + 6) 4 t) e
 
 -- THE KEY
-pub key-read : (t : List ℕ) (i w d r : ℕ) → w ≡ weight-in t i → d ≡ due-in t i → r ≡ (16777217 - w) * 4194304 + d * 1024 + i → r ≡ key-in t i
+pub key-read : (t : List ℕ) (i w d r : ℕ) → w ≡ weight-in t i → d ≡ due-in t i → r ≡ ((16777217 - w) * 4096 + d) * 1024 + i →
+    r ≡ key-in t i
 unfolding light-key
 key-read t i w d r e f g = omega arith
 

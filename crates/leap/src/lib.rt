@@ -1,0 +1,3 @@
+// What a sending writes into the lent table, once the row to send is picked.
+pub mod close; // close.rt: rows close up
+pub mod write; // write.rt: a row's numbers written in place

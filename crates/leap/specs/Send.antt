@@ -1,0 +1,1 @@
+-- What a sending says. Assumes nothing: these are definitions.

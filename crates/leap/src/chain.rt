@@ -1,6 +1,8 @@
 // A leap's shifts: one pass from the end of the substitute's segment back to the end of the sent row's. Ends are buckets.
 ghost use mathlib.Core.Path.{_≡_};
-ghost use Prim.Native.Nat.{ℕ, _+_, _/_, _≤_, max};
+ghost use mathlib.Core.Bool.{_&&_};
+ghost use Prim.Native.Nat.{ℕ, _+_, _/_, _≤_, _<_, max};
+ghost use lib.Dec.{leb, eqb};
 ghost use lib.ListN.{getD};
 ghost use Rattle.rules.specs.Table.{round-in};
 ghost use Rattle.theory.specs.Flags.{Chosen, with-flag};
@@ -32,6 +34,8 @@ pub fn end_from(counts: &[u16; 1025], last: usize, bucket: usize, free: usize) -
 }
 
 fn is_end(under: usize, s: usize, bucket: usize) -> bool
+    requires { ⌜ s < 1025 ⌝ }
+    ensures { λ r. ⌜ r ≡ (eqb under (s + 1) && leb bucket s) ⌝ }
 {
     (under == s + 1) & (bucket <= s)
 }

@@ -1,6 +1,7 @@
 // Marks by slot: the least weight of the plan's rows due by it. Buckets count slots from the current one on.
 ghost use mathlib.Core.Path.{_≡_};
 ghost use Prim.Native.Nat.{ℕ, _≤_, _<_, min};
+ghost use lib.ListN.{length};
 ghost use Rattle.rules.specs.Table.{round-in};
 ghost use Rattle.theory.specs.Flags.{Chosen};
 ghost use Rattle.pick.specs.Rows.{Ready};
@@ -20,7 +21,7 @@ fn smaller(a: u32, b: u32) -> u32
 
 // The largest weight for every bucket up to the last.
 fn start_marks(marks: &mut [u32; 1025], last: usize)
-    requires { ⌜ last ≤ 1024 ⌝ }
+    requires { ⌜ (length (now marks) ≡ 1025) × (last ≤ 1024) ⌝ }
     ensures { λ _. ⌜ Blank-marks last (now (marks .exit)) ⌝ }
 {
     let mut s: usize = 0;
@@ -60,7 +61,7 @@ fn own_marks(table: &[u8], flags: &[u8], round: Round, marks: &mut [u32; 1025], 
 
 // The least of each bucket and those before it.
 fn spread_marks(marks: &mut [u32; 1025], last: usize)
-    requires { ⌜ last ≤ 1024 ⌝ }
+    requires { ⌜ (length (now marks) ≡ 1025) × (last ≤ 1024) ⌝ }
     ensures { λ _. ⌜ Lowered last (now (marks .entry)) (now (marks .exit)) ⌝ }
 {
     let mut s: usize = 0;
@@ -73,7 +74,7 @@ fn spread_marks(marks: &mut [u32; 1025], last: usize)
 
 // The marks of the slots up to the last bucket's.
 pub fn marks_by(table: &[u8], flags: &[u8], round: Round, marks: &mut [u32; 1025], last: usize)
-    requires { ⌜ Ready (now table) round × Chosen (round-in (now table)) (now flags) × (last ≤ 1024) ⌝ }
+    requires { ⌜ Ready (now table) round × Chosen (round-in (now table)) (now flags) × (length (now marks) ≡ 1025) × (last ≤ 1024) ⌝ }
     ensures { λ _. ⌜ Marks (round-in (now (table .entry))) (now (flags .entry)) last (now (marks .exit)) ⌝ }
 {
     start_marks(marks, last);

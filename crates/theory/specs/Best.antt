@@ -217,7 +217,9 @@ module _ (r : Round) (f : Fine r) (o : r .slot ≤ r .last) (rs : List Row) (c :
   pub same-due : (p q : Row) → In p rs → In q rs → p .due ≡ q .due → substitute r (plan r) p .weight ≡ substitute r (plan r) q .weight
   same-due p q i j e = elim (leb? (p .due) (first-end r (plan r))) [
     | inl h ↦ first-weight r f p (found-member r f rs c p i) (h .1) ∙ sym (first-weight r f q (found-member r f rs c q j) (omega (arith, h .1, e)))
-    | inr h ↦ ap (λ (z : Row). z .weight) (later-is r p (h .1) ∙ ap (λ d. heaviest-outside (segment-start r (plan r) d) (r .rows) (plan r) (blank (segment-start r (plan r) d))) e ∙ sym (later-is r q (omega (arith, h .1, e))))
+    | inr h ↦ ap (λ (z : Row). z .weight) (later-is r p (h .1)
+        ∙ ap (λ d. heaviest-outside (segment-start r (plan r) d) (r .rows) (plan r) (blank (segment-start r (plan r) d))) e
+        ∙ sym (later-is r q (omega (arith, h .1, e))))
   ]
 
   -- BY ONE KEY: the score, then the earlier due slot; of equal keys the smaller ticket
@@ -277,7 +279,11 @@ module _ (r : Round) (f : Fine r) (o : r .slot ≤ r .last) (rs : List Row) (c :
   beats-trans p q z (inl a) (inl b) = inl (omega arith)
   beats-trans p q z (inl a) (inr b) = inl (omega (arith, b .0))
   beats-trans p q z (inr a) (inl b) = inl (omega (arith, a .0))
-  beats-trans p q z (inr a) (inr b) = inr (omega (arith, a .0, b .0), not-before-canonical z p (not-before-trans z q p (canonical-no z q (b .1)) (canonical-no q p (a .1))))
+  beats-trans p q z (inr a) (inr b) = inr (
+    omega (arith, a .0, b .0),
+    not-before-canonical z p
+        (not-before-trans z q p (canonical-no z q (b .1)) (canonical-no q p (a .1))),
+  )
 
   -- the kind of step
   pub ordinary-is : (p : Row) → best r (plan r) ≡ p → is-ordinary r ≡ leb (p .due) (first-end r (plan r))
@@ -293,7 +299,8 @@ module _ (r : Round) (f : Fine r) (o : r .slot ≤ r .last) (rs : List Row) (c :
   silence-is = of-rows (r .rows) refl
     where
       of-rows : (xs : List Row) → r .rows ≡ xs → eqb (best r (plan r) .ticket) 0 ≡ eqb (length xs) 0
-      of-rows [] e = eq-eqb (best r (plan r) .ticket) 0 (ap (λ (x : Row). x .ticket) (silent-best e) ∙ blank-ticket (blank (r .slot)) (blank-is (r .slot))) ∙ sym (eq-eqb 0 0 refl)
+      of-rows [] e = eq-eqb (best r (plan r) .ticket) 0 (ap (λ (x : Row). x .ticket) (silent-best e) ∙ blank-ticket (blank (r .slot)) (blank-is (r .slot)))
+          ∙ sym (eq-eqb 0 0 refl)
       of-rows (x ∷ xs) e =
           let i : In (best r (plan r)) rs = best-row x (subst (λ (zs : List Row). In x zs) (sym e) (inl refl)) in
           let t = of-rows-ticket r f rs c (best r (plan r)) i in

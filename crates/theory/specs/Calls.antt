@@ -120,11 +120,6 @@ next-fine sending r f =
 next-fine (marking s) r f = pick Fine (eqb (mark-refusal r s) 0) r r (λ e. f) (λ e. f)
 next-fine totalling r f = pick Fine (eqb (send-refusal r) 0) r r (λ e. f) (λ e. f)
 
-pub after-fine : (cs : List Call) (r : Round) → Fine r → Fine (after cs r)
-unfolding after
-after-fine [] r f = f
-after-fine (c ∷ cs) r f = after-fine cs (next-round c r) (next-fine c r f)
-
 -- NO MARK SINKS
 abbrev pub Stays : ℕ → Round → Round → Type 0
 Stays s r z = (z .last ≡ r .last) × (r .slot ≤ z .slot) × (z .slot ≤ s → s ≤ r .last → mark r s ≤ mark z s)

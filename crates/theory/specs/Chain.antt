@@ -114,7 +114,8 @@ module _ (r : Round) (f : Fine r) (rs : List Row) (c : Rows r rs) where
   chain-after e g (h ∷ hs) k = (
     (k .0 .inside, k .0 .after, k .0 .by),
     all-map {Q = λ z. (In z rs) × (e < z .due) × (z .due ≤ g)}
-        (λ z (u : (In z rs) × (tight-after r (plan r) (h .due) < z .due) × (z .due ≤ g)). (u .0, omega (arith, u .1, k .0 .after, end-of h (k .0 .inside) .from), u .2)) hs
+        (λ z (u : (In z rs) × (tight-after r (plan r) (h .due) < z .due) × (z .due ≤ g)).
+        (u .0, omega (arith, u .1, k .0 .after, end-of h (k .0 .inside) .from), u .2)) hs
         (chain-after (tight-after r (plan r) (h .due)) g hs (k .1)),
   )
 
@@ -206,7 +207,8 @@ module _ (r : Round) (f : Fine r) (rs : List Row) (c : Rows r rs) where
   pub no-blank-by : (s : Row) → In s (r .rows) → in-plan s rs ≡ false → (x : Row) → In x (plan r) → x .due ≤ tight-after r (plan r) (s .due) → In x rs
   no-blank-by s i n x j h = elim (member? r f rs c x j) [
     | inl b ↦ absurd (over-absurd x s
-        (heavier-yes x s (all-in (λ z. z .due ≤ tight-after r (plan r) (s .due) → heavier z s ≡ true) x (plan r) (plan-selection r f .out s i (in-plan-is r f rs c s i ∙ n)) j h))
+        (heavier-yes x s (all-in (λ z. z .due ≤ tight-after r (plan r) (s .due) → heavier z s ≡ true) x (plan r)
+        (plan-selection r f .out s i (in-plan-is r f rs c s i ∙ n)) j h))
         (inl (omega (arith, all-in (Row-fine r) s (r .rows) (f .fine) i .2, blank-weight x b))))
     | inr b ↦ b
   ]
@@ -243,7 +245,8 @@ module _ (r : Round) (f : Fine r) (rs : List Row) (c : Rows r rs) where
             let y = stretch-row s i k e g l (a .1) (omega arith) t (u .tight) in
             let z = some-heaviest e g (y .0) (y .1) (y .2) (y .3) in
             let m = end-of (z .0) (z .1 .inside) in
-            let q = some-chain s i k n (tight-after r (plan r) (z .0 .due)) (omega (arith, l, z .1 .after, m .from)) (m .tight) (omega (arith, h, z .1 .after, m .from)) in
+            let q = some-chain s i k n (tight-after r (plan r) (z .0 .due)) (omega (arith, l, z .1 .after, m .from)) (m .tight)
+            (omega (arith, h, z .1 .after, m .from)) in
             (z .0 ∷ q .0, (z .1, q .1))
         | inr a ↦ ([], a .1)
       ]

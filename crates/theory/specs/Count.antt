@@ -252,7 +252,8 @@ module _ (r : Round) (f : Fine r) (top q z : ℕ) (span : r .slot + top ≤ r .l
       split e [] = refl
       split e (x ∷ xs) = omega (arith, split e xs, late-is e x)
 
-      same-late : (xs : List Row) → All (λ x. of-plan (plan r) (late (r .slot + z)) x ≡ late (r .slot + z) x) xs → sum (of-plan (plan r) (late (r .slot + z))) xs ≡ sum (late (r .slot + z)) xs
+      same-late : (xs : List Row) → All (λ x. of-plan (plan r) (late (r .slot + z)) x ≡ late (r .slot + z) x) xs →
+          sum (of-plan (plan r) (late (r .slot + z))) xs ≡ sum (late (r .slot + z)) xs
       same-late [] a = refl
       same-late (x ∷ xs) a = omega (arith, a .0, same-late xs (a .1))
 

@@ -155,7 +155,8 @@ module _ (r : Round) (f : Fine r) (o : r .slot ≤ r .last) (rs : List Row) (c :
                           p .ticket,
                           _,
                           sends-row r f o rs c z k p l b e (en .0) s (g .1) (st .by) (nx .from) y (d .waiting) (d .outside) (d .from) (d .most)
-                              (segment-start r (plan r) (y .due)) (tight-after r (plan r) (y .due)) (ey .0) (some-segment (y .due) (v .0) yz) (sy .by) (ny .from) (ch .0) (ch .1)
+                              (segment-start r (plan r) (y .due)) (tight-after r (plan r) (y .due)) (ey .0) (some-segment (y .due) (v .0) yz)
+                              (sy .by) (ny .from) (ch .0) (ch .1)
                               (m .0) (m .1) (m .2) (m .3),
                         )
                   ]

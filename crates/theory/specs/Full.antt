@@ -75,7 +75,8 @@ plan-feas r g = kept-feas r (pool r) [] (pool-from r g) tt (feas-none r)
 pub plan-edge : (r : Round) → Fine r → (w : ℕ) → Edge r w (r .slot) (plan r) (outside r)
 unfolding plan outside
 plan-edge r g w =
-    run-edge r w (pool r) [] (falling-append (sorted heavier (r .rows)) (blanks r) (ordered-falling (sorted heavier (r .rows)) (ordered-sorted (r .rows))) (light-blanks _ _ _))
+    run-edge r w (pool r) [] (falling-append (sorted heavier (r .rows)) (blanks r)
+    (ordered-falling (sorted heavier (r .rows)) (ordered-sorted (r .rows))) (light-blanks _ _ _))
     (pool-from r g) tt tt (feas-none r) (r .slot) (omega arith) (g .time) (omega arith)
 
 pub plan-sum : (μ : Row → ℕ) (r : Round) → sum μ (plan r) + sum μ (outside r) ≡ sum μ (r .rows) + sum μ (blanks r)

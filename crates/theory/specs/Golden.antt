@@ -166,7 +166,8 @@ score-below x y k i h e =
     let b = product-scaled x y k e in
     let c = small-terms y k i h (omega arith) in last-step (x * x) (x * y) (y * y) (k * y) (k * k) a b c
   where
-    last-step : (xx xy yy ky kk : ℕ) → xx * 1527884955772561 + ky * 126491972 ≡ yy * 4000054745112196 + kk → xy * 1527884955772561 + ky * 39088169 ≡ yy * 2472169789339634 → yy + kk ≤ ky * 87403803 →
+    last-step : (xx xy yy ky kk : ℕ) → xx * 1527884955772561 + ky * 126491972 ≡ yy * 4000054745112196 + kk →
+        xy * 1527884955772561 + ky * 39088169 ≡ yy * 2472169789339634 → yy + kk ≤ ky * 87403803 →
         xx ≤ xy + yy
     last-step xx xy yy ky kk a b c = omega arith
 
@@ -177,7 +178,8 @@ no-tie x y i h e =
     last-step (x * x) (x * y) (y * y) (square-scaled x y 0 d) (product-scaled x y 0 d) (mul-mono 1 1 y y i i) (mul-mono y y 16777216 16777216 h h)
     (score-level x y h d)
   where
-    last-step : (xx xy yy : ℕ) → xx * 1527884955772561 + 0 * y * 126491972 ≡ yy * 4000054745112196 + 0 * 0 → xy * 1527884955772561 + 0 * y * 39088169 ≡ yy * 2472169789339634 → 1 * 1 ≤ yy →
+    last-step : (xx xy yy : ℕ) → xx * 1527884955772561 + 0 * y * 126491972 ≡ yy * 4000054745112196 + 0 * 0 →
+        xy * 1527884955772561 + 0 * y * 39088169 ≡ yy * 2472169789339634 → 1 * 1 ≤ yy →
         yy ≤ 16777216 * 16777216 → xx ≤ xy + yy → ⊥
     last-step xx xy yy a b c d g = omega arith
 

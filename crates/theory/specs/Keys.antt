@@ -126,10 +126,11 @@ heavier-place a b p q i j h k m n d e = elim (ltb? (b .weight) (a .weight)) [
     | inr v ↦
         let c = v .1 in
         rw (u .0, v .0) (sym (le-ltb (b .weight * 1048576 + (1023 - q) * 1024 + j) (a .weight * 1048576 + (1023 - p) * 1024 + i) (omega (arith, u .1))))
-    | inl v ↦ rw (u .0, v .0) (sym e ∙ (elim (ltb? p q) as (λ _. ltb p q ≡ ltb (b .weight * 1048576 + (1023 - q) * 1024 + j) (a .weight * 1048576 + (1023 - p) * 1024 + i)) [
-      | inl w ↦ w .0 ∙ sym (lt-ltb (b .weight * 1048576 + (1023 - q) * 1024 + j) (a .weight * 1048576 + (1023 - p) * 1024 + i) (omega (arith, w .1, v .1, k)))
-      | inr w ↦ w .0 ∙ sym (le-ltb (b .weight * 1048576 + (1023 - q) * 1024 + j) (a .weight * 1048576 + (1023 - p) * 1024 + i) (omega (arith, w .1, v .1, h)))
-    ]))
+    | inl v ↦ rw (u .0, v .0)
+        (sym e ∙ (elim (ltb? p q) as (λ _. ltb p q ≡ ltb (b .weight * 1048576 + (1023 - q) * 1024 + j) (a .weight * 1048576 + (1023 - p) * 1024 + i)) [
+          | inl w ↦ w .0 ∙ sym (lt-ltb (b .weight * 1048576 + (1023 - q) * 1024 + j) (a .weight * 1048576 + (1023 - p) * 1024 + i) (omega (arith, w .1, v .1, k)))
+          | inr w ↦ w .0 ∙ sym (le-ltb (b .weight * 1048576 + (1023 - q) * 1024 + j) (a .weight * 1048576 + (1023 - p) * 1024 + i) (omega (arith, w .1, v .1, h)))
+        ]))
   ]
 ]
 

@@ -237,14 +237,14 @@ outside-heavy r f s i n =
     all-in (λ x. s .weight ≤ x .weight → x .due < d .at) s (outside r) (d .out) (row-outside r s i n) (omega arith) in
     mark-above r (plan r) (plan-feas r f) (plan-full r f) (s .weight) (s .due) (d .at) (o .3) (o .0) h (d .high) (d .full)
 
-abbrev pub raised : Round → Row → Row
-raised r s = row (s .ticket) (s .due) (mark-in r (plan r) (s .due)) (s .kind)
+abbrev pub at-its-mark : Round → Row → Row
+at-its-mark r s = row (s .ticket) (s .due) (mark-in r (plan r) (s .due)) (s .kind)
 
 pub leap-row : (r : Round) → Fine r → (p s : Row) (e g : ℕ) → In p (plan r) → Ends r p s e g → In s (r .rows) → in-plan s (plan r) ≡ false →
-    (ys : List Row) → Kept r e g ys → Left r (without (p .ticket) (changed (s .ticket) (raised r s) ys))
+    (ys : List Row) → Kept r e g ys → Left r (without (p .ticket) (changed (s .ticket) (at-its-mark r s) ys))
 unfolding row
 leap-row r f p s e g i en j n ys q =
-    let s′ = raised r s in
+    let s′ = at-its-mark r s in
     let ys′ = changed (s .ticket) s′ ys in
     let o = all-in (Row-fine r) s (r .rows) (f .fine) j in
     let fs : First s ys = q .others s j (λ h a b c. not-in-plan s (plan r) n h a (sym c)) in
@@ -304,7 +304,8 @@ leap-kept r f p b e i n o h j =
           (rows-kept r f 0 .okay);
       rising = rising-changed 1 (r .next) (p .ticket) x refl (r .rows) (f .rising);
       fills = λ w d t v m k l. elim (plan-member r p i) [
-        | inr a ↦ rw (blank-ticket p (a .0), changed-none 1 (r .next) 0 (row 0 b (mark-in r (plan r) b) 1) (r .rows) (omega arith) (f .rising)) (plain r f w d t v m (omega arith) l)
+        | inr a ↦ rw (blank-ticket p (a .0), changed-none 1 (r .next) 0 (row 0 b (mark-in r (plan r) b) 1) (r .rows) (omega arith) (f .rising))
+            (plain r f w d t v m (omega arith) l)
         | inl a ↦
             let c = stands-in r f x e o h refl w d t v m k l in
             omega (

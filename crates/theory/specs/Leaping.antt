@@ -160,7 +160,8 @@ module _ (r : Round) (f : Fine r) (rs : List Row) (c : Rows r rs) where
   unfolding final-row end-after
   final-link e g [] ls h x k q = rw (eq-eqb (x .ticket) (h .ticket) q)
   final-link e g (z ∷ ks) ls h x k q =
-      rw (ne-eqb (x .ticket) (z .ticket) (λ d. all-in (λ y. z .ticket ≢ y .ticket) h (ks ++ (h ∷ ls)) (chain-other r f rs c e g z (ks ++ (h ∷ ls)) k) (in-mid h ks ls) (sym d ∙ q)))
+      rw (ne-eqb (x .ticket) (z .ticket) (λ d. all-in (λ y. z .ticket ≢ y .ticket) h (ks ++ (h ∷ ls))
+      (chain-other r f rs c e g z (ks ++ (h ∷ ls)) k) (in-mid h ks ls) (sym d ∙ q)))
       (final-link (tight-after r (plan r) (z .due)) g ks ls h x (k .1) q)
 
   -- FEW SHIFTS: three rows are none
@@ -220,7 +221,8 @@ module _ (r : Round) (f : Fine r) (rs : List Row) (c : Rows r rs) where
   -- WITH A ROW for substitute
   pub leapt-row : (p s : Row) (hs : List Row) → substitute r (plan r) p ≡ s → In s (r .rows) →
       Chain r rs (tight-after r (plan r) (p .due)) (tight-after r (plan r) (s .due)) hs →
-      leapt r (plan r) p ≡ without (p .ticket) (changed (s .ticket) (row (s .ticket) (s .due) (mark r (s .due)) (s .kind)) (moves r (tight-after r (plan r) (p .due)) hs (r .rows)))
+      leapt r (plan r) p ≡ without (p .ticket)
+      (changed (s .ticket) (row (s .ticket) (s .due) (mark r (s .due)) (s .kind)) (moves r (tight-after r (plan r) (p .due)) hs (r .rows)))
   unfolding leapt replaced mark
   leapt-row p s hs e i k =
       let n = next r (plan r) (s .due) (all-in (Row-fine r) s (r .rows) (f .fine) i .1) (plan-full r f) in

@@ -67,7 +67,12 @@ module _ (r : Round) (f : Fine r) (rs : List Row) (c : Rows r rs) where
         | inl a ↦ a
         | inr a ↦ absurd (omega (arith, t, blank-ticket x (a .0)))
       ] in
-      let w = with-tick (x .ticket) rs (omega (arith, c .same (ticks (x .ticket)), tick-self x, in-sum (ticks (x .ticket)) x (rows-only (plan r)) (in-rows-only x (plan r) t i))) in
+      let w = with-tick (x .ticket) rs (omega (
+        arith,
+        c .same (ticks (x .ticket)),
+        tick-self x,
+        in-sum (ticks (x .ticket)) x (rows-only (plan r)) (in-rows-only x (plan r) t i),
+      )) in
       subst (λ (z : Row). In z rs) (rising-same 1 (r .next) (w .0) x (r .rows) (f .rising) (of-rows-in (w .0) (w .1)) j (w .2)) (w .1)
 
   pub found-member : (x : Row) → In x rs → In x (plan r)

@@ -18,7 +18,7 @@ use Rattle.theory.specs.Order.{Sorted, Not-before, sorted-sorted, not-be
 use Rattle.theory.specs.Feas.{below, num, below-yes, Feas}
 use Rattle.theory.specs.Full.{plan-members, Fine, Row-fine, Rising, blanks, outside, plan-feas, plan-sum, plan-due}
 use Rattle.theory.specs.Change.{rising-same, rising-above, in-sum, not-in-plan}
-use Rattle.theory.specs.Times.{is?, ticks, no-ticks, rising-ticks, apart-of, rank-due, in-slots, slots-of, rank, all-chosen, sum-rows-only, all-rows-only, plan-ticks}
+use Rattle.theory.specs.Times.{is?, ticks, no-ticks, rising-ticks, apart-of, rank-due, in-slots, slots-of, rank, all-of-chosen, sum-rows-only, all-rows-only, plan-ticks}
 
 -- THE SAME ROWS in any order
 abbrev pub Same : List Row → List Row → Type 0
@@ -68,7 +68,9 @@ module _ (rows : List Row) (a b : ℕ) (s : Rising a b rows) where
       (λ μ. omega (arith, e μ, sum-sorted μ canonical xs, sum-sorted μ canonical ys)) (sorted-sorted xs) (sorted-sorted ys)
 
 -- THE PLAN'S ROWS
-pub in-plan? : (x : Row) (ps : List Row) → ((in-plan x ps ≡ true) × ((y : Row) × In y ps × (y .ticket ≡ x .ticket))) ⊎ ((in-plan x ps ≡ false) × ((y : Row) → In y ps → x .ticket ≡ y .ticket → ⊥))
+pub in-plan? : (x : Row) (ps : List Row) →
+    ((in-plan x ps ≡ true) × ((y : Row) × In y ps × (y .ticket ≡ x .ticket)))
+    ⊎ ((in-plan x ps ≡ false) × ((y : Row) → In y ps → x .ticket ≡ y .ticket → ⊥))
 unfolding in-plan same-row
 in-plan? x ps = elim (either (in-plan x ps)) [ inl e ↦ inl (e, there x ps e) | inr e ↦ inr (e, not-in-plan x ps e) ]
   where
@@ -173,7 +175,7 @@ planned-same r f μ =
     )
 
 pub chosen-in : (ms : List Bool) (xs : List Row) → All (λ x. In x xs) (chosen ms xs)
-chosen-in ms xs = all-chosen (λ x. In x xs) ms xs (all-of-in (λ x. In x xs) xs (λ x i. i))
+chosen-in ms xs = all-of-chosen (λ x. In x xs) ms xs (all-of-in (λ x. In x xs) xs (λ x i. i))
 
 pub plan-rows-in : (r : Round) → Fine r → All (λ x. In x (r .rows)) (rows-only (plan r))
 plan-rows-in r f =
@@ -187,7 +189,7 @@ planned-in r = chosen-in (flags (plan r) (r .rows)) (r .rows)
 
 pub all-planned : (P : Row → Type 0) (r : Round) → All P (r .rows) → All P (planned r)
 unfolding planned
-all-planned P r a = all-chosen P (flags (plan r) (r .rows)) (r .rows) a
+all-planned P r a = all-of-chosen P (flags (plan r) (r .rows)) (r .rows) a
 
 pub listed-planned : (r : Round) → Fine r → listed r ≡ sorted canonical (planned r)
 unfolding listed

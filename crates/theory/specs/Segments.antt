@@ -64,7 +64,8 @@ module _ (r : Round) (f : Fine r) (o : r .slot ≤ r .last) (rs : List Row) (c :
   segment-same p q i j h l m n = elim (ltb? (r .slot) b) [
     | inl a ↦
         let g = later-segment (a .1) in
-        ap (λ (x : Row). x .weight) (later-same r f o rs c p q (omega (arith, g, h)) (omega (arith, g, m)) (segment-begin (p .due) h l ∙ sym (segment-begin (q .due) m n)))
+        ap (λ (x : Row). x .weight) (later-same r f o rs c p q (omega (arith, g, h)) (omega (arith, g, m))
+        (segment-begin (p .due) h l ∙ sym (segment-begin (q .due) m n)))
     | inr a ↦
         let g = first-segment (omega (arith, a .1, s .low)) in
         first-same r f o rs c p q i j (omega (arith, g, l)) (omega (arith, g, n))

@@ -41,7 +41,12 @@ of-more a b x rs μ t n [] s i = absurd i
 of-more a b x rs μ t n (y ∷ ys) s (inl e) =
     let k : All (λ z. x .ticket ≢ z .ticket) ys =
     subst (λ (v : Row). All (λ z. v .ticket ≢ z .ticket) ys) (sym e) (rising-other b y ys (s .1)) in
-    omega (arith, of-same x rs μ ys k, subst (λ (v : Row). of-plan (x ∷ rs) μ v ≡ μ x) e (of-yes (x ∷ rs) μ x t (in-plan-self x rs)), subst (λ (v : Row). of-plan rs μ v ≡ 0) e (of-no rs μ x n))
+    omega (
+      arith,
+      of-same x rs μ ys k,
+      subst (λ (v : Row). of-plan (x ∷ rs) μ v ≡ μ x) e (of-yes (x ∷ rs) μ x t (in-plan-self x rs)),
+      subst (λ (v : Row). of-plan rs μ v ≡ 0) e (of-no rs μ x n),
+    )
 of-more a b x rs μ t n (y ∷ ys) s (inr i) =
     let h = rising-above (suc (y .ticket)) b x ys (s .1) i in
     omega (arith, of-more (suc (y .ticket)) b x rs μ t n ys (s .1) i, of-same x rs μ (y ∷ []) (λ e. omega (arith, e, h), tt))
@@ -162,4 +167,5 @@ plan-selection r f =
           | inr h ↦ absurd (q .first (e - 1) (omega (arith, b .1)) (h .1) (omega (arith, t, z, ap (λ v. num 0 v (plan r)) z)))
         ] in
         all-of-in (λ y. y .due ≤ tight-after r (plan r) (x .due) → heavier y x ≡ true) (plan r) (λ y j h.
-        from-row-over x y (not-in-plan x (plan r) n y j) (all-in (λ y. y .due < e → from-row x y ≡ true) y (plan r) (all-within (from-row x) e (plan r) (omega (arith, k, b .3))) j (omega (arith, h, m, z))))
+        from-row-over x y (not-in-plan x (plan r) n y j)
+        (all-in (λ y. y .due < e → from-row x y ≡ true) y (plan r) (all-within (from-row x) e (plan r) (omega (arith, k, b .3))) j (omega (arith, h, m, z))))

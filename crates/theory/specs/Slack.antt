@@ -149,16 +149,17 @@ pub early-many : (s m : ℕ) → s < m → (xs : List Row) → many (early s) m 
 unfolding rows-only idle
 early-many s m h [] = refl
 early-many s m h (x ∷ xs) = elim (eqb? (x .ticket) 0) [
-  | inl k ↦ rw (k .0) (elim (leb? (x .due) s) as (λ _. within (early s) m x + many (early s) m xs ≡ num 0 m (rows-only xs) + (below 0 (suc s) x + sum (idle (below 0 (suc s))) xs)) [
-    | inl l ↦ omega (
-      arith,
-      early-many s m h xs,
-      within-yes (early s) m x (early-by s x (l .1)),
-      below-yes 0 m x (omega arith) (omega (arith, l .1)),
-      below-yes 0 (suc s) x (omega arith) (omega (arith, l .1)),
-    )
-    | inr l ↦ omega (arith, early-many s m h xs, within-no (early s) m x (not-early s x (k .0) (l .0)), below-late 0 (suc s) x (l .1))
-  ])
+  | inl k ↦ rw (k .0) (elim (leb? (x .due) s) as (λ _. within (early s) m x + many (early s) m xs ≡
+      num 0 m (rows-only xs) + (below 0 (suc s) x + sum (idle (below 0 (suc s))) xs)) [
+        | inl l ↦ omega (
+          arith,
+          early-many s m h xs,
+          within-yes (early s) m x (early-by s x (l .1)),
+          below-yes 0 m x (omega arith) (omega (arith, l .1)),
+          below-yes 0 (suc s) x (omega arith) (omega (arith, l .1)),
+        )
+        | inr l ↦ omega (arith, early-many s m h xs, within-no (early s) m x (not-early s x (k .0) (l .0)), below-late 0 (suc s) x (l .1))
+      ])
   | inr k ↦ rw (k .0) (omega (arith, early-many s m h xs, within-yes (early s) m x (early-row s x (positive (x .ticket) (k .1)))))
 ]
 

@@ -167,7 +167,8 @@ module _ (r : Round) (f : Fine r) (rs : List Row) (c : Rows r rs) where
       let n = next r (plan r) (r .slot) o (plan-full r f) in (
         elim (tight? r (plan r) (r .slot)) [
           | inl t ↦ omega (arith, n .from, next-by r (plan r) (r .slot) (tight-after r (plan r) (r .slot)) (r .slot) n (omega arith) (t .1))
-          | inr t ↦ absurd (true≢false (sym (tight-is r f rs (c .same) (r .slot) (omega arith) o ∙ le-leb (slack r rs (r .slot)) (least-from r rs (r .slot)) (omega (arith, k, g))) ∙ t .0))
+          | inr t ↦ absurd (true≢false (sym (tight-is r f rs (c .same) (r .slot) (omega arith) o ∙ le-leb (slack r rs (r .slot)) (least-from r rs (r .slot))
+              (omega (arith, k, g))) ∙ t .0))
         ],
         λ x i. elim (ltb? (r .slot) (x .due)) [
           | inl a ↦ a .1

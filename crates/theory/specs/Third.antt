@@ -1,25 +1,25 @@
 -- THE THIRD DEMAND, proved: demand-three. Assumes nothing.
-use mathlib.Core.Path.{_≡_, refl, sym, ap, _∙_}
-use mathlib.Core.Bool.{Bool, true, false, _||_, cond}
+use mathlib.Core.Path.{_≡_, refl, _∙_}
+use mathlib.Core.Bool.{true, _||_}
 use mathlib.Core.List.{List, [], _∷_, _++_}
 use Prim.Native.Nat.{ℕ, suc, _+_, _*_, _-_, _/_, _%_, _≤_, _<_}
 use native.Mathlib.Omega.{arith}
-use lib.Dec.{ltb, leb, eqb}
+use lib.Dec.{ltb, eqb}
 use borrow.Author.Tests.{le-ltb, le-leb, eq-eqb, ltb-false}
 use lib.ListN.{length}
 use Rattle.rules.specs.Limits.{head-size, row-size, most-rows, most-last}
 use Rattle.rules.specs.Rows.{Row, Round, slots-left, round, chosen}
-use Rattle.rules.specs.Plan.{plan, total, total-weight, mark, planned, listed}
+use Rattle.rules.specs.Plan.{plan, total, total-weight, mark, planned}
 use Rattle.rules.specs.Steps.{opened, taken}
 use Rattle.rules.specs.Table.{table, rows-of, round-in, length-good}
-use Rattle.rules.specs.Calls.{Call, opening, taking, marking, totalling, Reply, refused, done, ticket, amount, first, open-refusal, take-refusal, mark-refusal, send-refusal, round-refusal, table-first, refusal, says, leaves, answer, left, run, replies, next-round, after, at}
-use Rattle.rules.specs.Demands.{No-opening, in-time, Point, Third, Demand-three}
+use Rattle.rules.specs.Calls.{Call, opening, taking, marking, totalling, Reply, done, ticket, amount, first, open-refusal, take-refusal, mark-refusal, round-refusal, table-first, refusal, says, leaves, answer, left, run, replies, next-round, after, at}
+use Rattle.rules.specs.Demands.{No-opening, Point, Demand-three}
 use Rattle.theory.specs.Sum.{sum-chosen}
 use Rattle.theory.specs.All.{all-map}
 use Rattle.theory.specs.Full.{Fine, Row-fine, plan-length}
 use Rattle.theory.specs.Calls.{no-refusal, or-false, takes, opened-fine, after-stays, after-append}
 use Rattle.theory.specs.Totals.{newcomer, best-weight}
-use Rattle.theory.specs.Times.{timed-feas, all-chosen, slots-of}
+use Rattle.theory.specs.Times.{timed-feas, all-of-chosen, slots-of}
 use Rattle.theory.specs.Back.{sized-opened, read-back, table-good}
 use Rattle.theory.specs.Same.{listed-planned, planned-in-time, listed-in-order, planned-weighs, listed-weighs}
 use Rattle.theory.specs.Sane.{Sane, next-sane, after-sane, answer-is, run-is}
@@ -46,7 +46,7 @@ point-holds r s =
       goes-out = (slots-of (r .slot) (planned r) (planned r), planned-in-time r f);
       in-order = listed-in-order r f;
       none-heavier = λ ms ss h. best-weight r f (chosen ms (r .rows)) (timed-feas r (chosen ms (r .rows)) ss h) (λ μ. sum-chosen μ ms (r .rows))
-          (all-chosen (λ x. (x .weight ≤ 16777216) × (x .due < suc (r .last))) ms (r .rows)
+          (all-of-chosen (λ x. (x .weight ≤ 16777216) × (x .due < suc (r .last))) ms (r .rows)
           (all-map {Q = λ x. (x .weight ≤ 16777216) × (x .due < suc (r .last))} (λ x (h : Row-fine r x). (h .3, omega (arith, h .1))) (r .rows) (f .fine)));
       weighs = (planned-weighs r f, listed-weighs r f);
       over = plan-over r f;

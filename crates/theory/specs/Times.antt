@@ -12,9 +12,9 @@ use Rattle.rules.specs.Plan.{plan}
 use Rattle.rules.specs.Demands.{member, in-time}
 use Rattle.theory.specs.Tests.{positive, either, ltb?, eqb?, and-true, not-true′, one-if}
 use Rattle.theory.specs.Sum.{sum, sum-le}
-use Rattle.theory.specs.All.{ticketless-blanks, all-map, all-in, all-of-in}
+use Rattle.theory.specs.All.{ticketless-blanks, all-map, all-of-in}
 use Rattle.theory.specs.Feas.{below, below?, num, below-yes, Feas}
-use Rattle.theory.specs.Full.{Fine, Rising, blanks, plan-feas, plan-sum, plan-due}
+use Rattle.theory.specs.Full.{Fine, Rising, blanks, plan-sum}
 use Rattle.theory.specs.Change.{in-sum}
 
 -- SLOTS, NO TWO THE SAME
@@ -121,12 +121,12 @@ timed-feas r xs ss i e h k =
     let z : r .slot + (e - r .slot) ≡ e = omega arith in
     omega (arith, q .count e, rw z at (few (r .slot) (e - r .slot) ss (q .distinct) (q .from)))
 
-pub all-chosen : (P : Row → Type 0) (ms : List Bool) (xs : List Row) → All P xs → All P (chosen ms xs)
+pub all-of-chosen : (P : Row → Type 0) (ms : List Bool) (xs : List Row) → All P xs → All P (chosen ms xs)
 unfolding chosen
-all-chosen P [] xs a = tt
-all-chosen P (m ∷ ms) [] a = tt
-all-chosen P (true ∷ ms) (x ∷ xs) a = (a .0, all-chosen P ms xs (a .1))
-all-chosen P (false ∷ ms) (x ∷ xs) a = all-chosen P ms xs (a .1)
+all-of-chosen P [] xs a = tt
+all-of-chosen P (m ∷ ms) [] a = tt
+all-of-chosen P (true ∷ ms) (x ∷ xs) a = (a .0, all-of-chosen P ms xs (a .1))
+all-of-chosen P (false ∷ ms) (x ∷ xs) a = all-of-chosen P ms xs (a .1)
 
 -- SLOTS FOR A FEASIBLE SET: by rank
 unfoldable pub before : Row → Row → ℕ
@@ -289,21 +289,3 @@ plan-ticks r f k h =
       rising-ticks 1 (r .next) k (r .rows) (f .rising) .0,
       no-ticks k (blanks r) (all-map {Q = λ x. x .ticket ≢ k} (λ x (a : x .ticket ≡ 0). omega arith) (blanks r) (ticketless-blanks _ _ _)),
     )
-
-pub plan-in-time : (r : Round) → Fine r → in-time (r .slot) (rows-only (plan r)) (slots-of (r .slot) (rows-only (plan r)) (rows-only (plan r))) ≡ true
-plan-in-time r f =
-    let q = rows-only (plan r) in
-    let a = all-rows-only (λ x. (r .slot ≤ x .due) × (x .due ≤ r .last)) (plan r) (plan-due r f) in
-    in-slots (r .slot) q q (all-of-in (λ y. In y q) q (λ y i. i))
-    (apart-of q (plan-ticks r f) (all-map {Q = λ x. 1 ≤ x .ticket} (λ x (b : (1 ≤ x .ticket) × (r .slot ≤ x .due) × (x .due ≤ r .last)). b .0) q
-    (all-map {Q = λ x. (1 ≤ x .ticket) × (r .slot ≤ x .due) × (x .due ≤ r .last)}
-    (λ x (b : (1 ≤ x .ticket) × ((r .slot ≤ x .due) × (x .due ≤ r .last))). (b .0, b .1 .0, b .1 .1)) q a)))
-    (all-of-in (λ x. r .slot + rank x q ≤ x .due) q (λ x i.
-    let b = all-in (λ x. (1 ≤ x .ticket) × ((r .slot ≤ x .due) × (x .due ≤ r .last))) x q a i in
-    omega (
-      arith,
-      b .1 .0,
-      rank-due x q i,
-      sum-rows-only (below 0 (suc (x .due))) (plan r),
-      plan-feas r f (suc (x .due)) (omega (arith, b .1 .0)) (omega (arith, b .1 .1)),
-    )))

@@ -48,7 +48,8 @@ pub lightest : (s : ℕ) (xs : List Row) (b : Row) → Top (λ y. y .due ≤ s) 
 unfolding lightest-by
 lightest s [] b = record { found = inl refl; first = not-over-self b; most = tt }
 lightest s (y ∷ ys) b =
-    top-pick (λ y. y .due ≤ s) Lighter-not (λ z y x h k. not-over-trans x y z k h) (leb (y .due) s && heavier b y) y b ys (lightest-by s ys (cond (leb (y .due) s && heavier b y) y b))
+    top-pick (λ y. y .due ≤ s) Lighter-not (λ z y x h k. not-over-trans x y z k h) (leb (y .due) s && heavier b y) y b ys
+    (lightest-by s ys (cond (leb (y .due) s && heavier b y) y b))
     (λ e. let a = and-true (leb (y .due) s) (heavier b y) e in (leb-true (y .due) s (a .0), over-not b y (heavier-yes b y (a .1))))
     (λ e h. heavier-no b y (and-false (leb (y .due) s) (heavier b y) e (le-leb (y .due) s h)))
     (lightest s ys (cond (leb (y .due) s && heavier b y) y b))

@@ -18,7 +18,7 @@ use Rattle.theory.specs.Order.{Not-over, heavier?, over-absurd, Ordered,
 use Rattle.theory.specs.Feas.{below, num, below-yes, below-late, due-below, Feas, feas-yes, feas-made}
 use Rattle.theory.specs.Full.{plan-members, Fine, Row-fine, Rising, blanks}
 use Rattle.theory.specs.Change.{rising-same, rising-above, kept-keeps, row-outside, in-sorted}
-use Rattle.theory.specs.Times.{all-chosen}
+use Rattle.theory.specs.Times.{all-of-chosen}
 use Rattle.theory.specs.Border.{from-row-over, within, within-yes, within-no, many, from-row, over-light, outside-by-order}
 use Rattle.theory.specs.Same.{Same, in-plan?, of-plan, of-yes, of-no, of-chosen, row-ticket, planned-same, planned-feas, chosen-in, sum-of-rows}
 
@@ -80,7 +80,7 @@ flags-chosen a b (true ∷ fs) (x ∷ xs) s e =
     (flags-other x (chosen fs xs) xs (rising-other b x xs (s .1)) ∙ flags-chosen (suc (x .ticket)) b fs xs (s .1) (omega arith))
 flags-chosen a b (false ∷ fs) (x ∷ xs) s e =
     ap₂ (λ (b : Bool) (bs : List Bool). b ∷ bs)
-    (not-there x (chosen fs xs) (all-chosen (λ y. x .ticket ≢ y .ticket) fs xs (rising-other b x xs (s .1))))
+    (not-there x (chosen fs xs) (all-of-chosen (λ y. x .ticket ≢ y .ticket) fs xs (rising-other b x xs (s .1))))
     (flags-chosen (suc (x .ticket)) b fs xs (s .1) (omega arith))
 
 -- a row is chosen or passed
@@ -224,7 +224,7 @@ certified-plan r f fs c =
     flags-same (plan r) rs (r .rows)
     (all-of-in (λ x. in-plan x (plan r) ≡ in-plan x rs) (r .rows)
     (plan-selected r f rs (chosen-in fs (r .rows))
-    (feas-yes r rs (c .fits) (all-chosen (λ x. r .slot ≤ x .due) fs (r .rows)
+    (feas-yes r rs (c .fits) (all-of-chosen (λ x. r .slot ≤ x .due) fs (r .rows)
     (all-map {Q = λ x. r .slot ≤ x .due} (λ x (h : Row-fine r x). h .0) (r .rows) (f .fine))))
     (λ x i n. elim (passed-in fs (r .rows) x i) [
       | inl h ↦ elim (in-plan? x rs) [ inl k ↦ absurd (true≢false (sym (k .0) ∙ n)) | inr k ↦ absurd (k .1 x h refl) ]
@@ -306,7 +306,8 @@ plan-out r f x i n =
         sum-le (within (from-row x) e) (below 0 e) (within-below (from-row x) e) (planned r),
       );
       heavy = all-of-in (λ y. y .due ≤ e - 1 → heavier y x ≡ true) (planned r) (λ y j h.
-          from-row-over x y (λ q. true≢false (sym (in-planned r y j) ∙ in-plan-ticket y x (plan r) (sym q) ∙ n)) (all-in (λ y. y .due < e → from-row x y ≡ true) y (planned r) (all-within (from-row x) e (planned r) (omega (arith, k, m))) j (omega (arith, h, z))));
+          from-row-over x y (λ q. true≢false (sym (in-planned r y j) ∙ in-plan-ticket y x (plan r) (sym q) ∙ n))
+          (all-in (λ y. y .due < e → from-row x y ≡ true) y (planned r) (all-within (from-row x) e (planned r) (omega (arith, k, m))) j (omega (arith, h, z))));
     }
 
 pub plan-certified : (r : Round) → Fine r → Certified r (flags (plan r) (r .rows))

@@ -108,7 +108,8 @@ module _ (r : Round) (f : Fine r) (o : r .slot ≤ r .last) (rs : List Row) (c :
             step = ordinary-is r f o rs c p q ∙ lt-leb (p .due) (first-end r (plan r)) (omega (arith, t, i));
             leaves =
                 sent-row r f rs c p y hs q (omega (arith, t, i)) (segment-row r f o rs c z k b e n s a p i j y u v w m) u ch2
-                ∙ ap₂ (λ (v : ℕ) (w : ℕ). after-slot r (closed (suc (r .slot)) (p .ticket) (changed (y .ticket) (row (y .ticket) (y .due) w (y .kind)) (moves r v hs (r .rows))))) e1 mk;
+                ∙ ap₂ (λ (v : ℕ) (w : ℕ). after-slot r (closed (suc (r .slot)) (p .ticket)
+                (changed (y .ticket) (row (y .ticket) (y .due) w (y .kind)) (moves r v hs (r .rows))))) e1 mk;
             long =
                 length-changed (y .ticket) (row (y .ticket) (y .due) (x .weight) (y .kind)) (moves r e hs (r .rows)) ∙ length-moves r e hs (r .rows);
           }

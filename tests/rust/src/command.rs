@@ -38,7 +38,7 @@ fn number(digits: &[u8]) -> Option<u32> {
 /// Whether these could be a payload.
 pub fn is_payload(digits: &[u8]) -> bool {
     let all = digits.iter().all(|byte| digit(*byte).is_some());
-    all && digits.len() % 2 == 0 && digits.len() <= PAYLOAD_DIGITS
+    all && digits.len().is_multiple_of(2) && digits.len() <= PAYLOAD_DIGITS
 }
 
 /// The line, its 0A included, as a command.

@@ -25,9 +25,8 @@ fn heaviest_set(round: &Round) -> u64 {
     let sets = 0..1u32 << round.rows.len();
     let chosen = |set: u32| -> Vec<Row> {
         let rows = round.rows.iter().enumerate();
-        rows.filter(|(place, _)| set >> place & 1 == 1)
-            .map(|(_, row)| *row)
-            .collect()
+        let inside = rows.filter(|(place, _)| set >> place & 1 == 1);
+        inside.map(|(_, row)| *row).collect()
     };
     let weighs = |rows: &[Row]| rows.iter().map(|row| u64::from(row.weight.0)).sum();
     let good = sets
@@ -36,92 +35,126 @@ fn heaviest_set(round: &Round) -> u64 {
     good.map(|rows| weighs(&rows)).max().expect("the empty set")
 }
 
-/// The marks of the slots still ahead, each with its slot.
-fn marks(table: &[u8]) -> Vec<(u32, u32)> {
-    let round = decode(table, Mutation::None);
-    let ahead = round.slot.0..=round.last.0;
-    ahead
-        .map(|s| (s, Second::PLAIN.mark(Slot(s), table).expect("a mark").0))
-        .collect()
-}
-
 /// The plan's rows could all go out in time and weigh the total, and no set
-/// of waiting rows that could do so weighs more.
-fn plan_is_best(table: &[u8]) {
+/// of waiting rows that could do so weighs more; the plan fills every slot.
+fn plan_is_best(second: Second, table: &[u8]) -> bool {
     let round = decode(table, Mutation::None);
-    let plan = Plan::of(&round, Mutation::None);
+    let plan = Plan::of(&round, second.mutation);
     let tickets = plan.members.iter().filter_map(|item| item.ticket);
     let rows: Vec<Row> = tickets
-        .map(|ticket| round.rows[round.place(ticket).unwrap()])
+        .map(|ticket| round.rows[round.place(ticket).expect("a waiting row")])
         .collect();
-    assert!(in_time(&rows, round.slot.0, 0), "{round:?}");
-    assert_eq!(plan.total(), heaviest_set(&round), "{round:?}");
     let ahead = (round.last.0 + 1).saturating_sub(round.slot.0) as usize;
-    assert_eq!(plan.members.len(), ahead, "{round:?}");
-    match Second::PLAIN.total(table) {
-        Ok(total) => assert_eq!(total, plan.total(), "{round:?}"),
-        Err(refusal) => assert_eq!((refusal.number(), plan.total()), (5, 0), "{round:?}"),
-    }
+    let answered = match second.total(table) {
+        Ok(total) => total == plan.total(),
+        Err(refusal) => refusal.number() == 5 && plan.total() == 0 && ahead == 0,
+    };
+    let best = plan.total() == heaviest_set(&round);
+    answered && best && in_time(&rows, round.slot.0, 0) && plan.members.len() == ahead
 }
 
-/// No mark of a slot still ahead sinks over an accepted call.
-fn marks_hold(before: &[(u32, u32)], after: &[(u32, u32)], call: Call) {
-    for (slot, mark) in after {
-        let old = before
+/// The marks of the slots still ahead, each with its slot.
+fn marks(second: Second, table: &[u8]) -> Vec<(u32, u32)> {
+    let round = decode(table, Mutation::None);
+    let mark = |s| second.mark(Slot(s), table).expect("a mark").0;
+    let ahead = round.slot.0..=round.last.0;
+    ahead.map(|s| (s, mark(s))).collect()
+}
+
+/// No mark of a slot still ahead sinks.
+fn marks_hold(before: &[(u32, u32)], after: &[(u32, u32)]) -> bool {
+    let old = |slot: u32| {
+        before
             .iter()
-            .find(|(s, _)| s == slot)
-            .expect("it was ahead");
-        assert!(
-            *mark >= old.1,
-            "{call:?}: slot {slot} from {} to {mark}",
-            old.1
-        );
-    }
+            .find(|(s, _)| *s == slot)
+            .expect("it was ahead")
+            .1
+    };
+    after.iter().all(|(slot, mark)| *mark >= old(*slot))
 }
 
 /// An accepted newcomer adds just what it weighs above its due slot's mark.
-fn newcomer_adds(before: &[u8], after: &[u8], due: u32, weight: u32) {
-    let mark = Second::PLAIN.mark(Slot(due), before).expect("a mark").0;
-    let old = Second::PLAIN.total(before).expect("a total");
-    let new = Second::PLAIN.total(after).expect("a total");
-    assert_eq!(new, old + u64::from(weight.saturating_sub(mark)));
+fn newcomer_adds(second: Second, before: &[u8], after: &[u8], due: u32, weight: u32) -> bool {
+    let mark = second.mark(Slot(due), before).expect("a mark").0;
+    let total = |table: &[u8]| second.total(table).expect("a total");
+    total(after) == total(before) + u64::from(weight.saturating_sub(mark))
+}
+
+/// A weight of up to the most, in some lists less the later it is due but for
+/// a few heavy ones: so come long leaps.
+fn weight(draw: &mut Draw, most: u32, falling: bool, later: u32) -> u32 {
+    if !falling {
+        return draw.between(0, most);
+    }
+    let heavy = if draw.once_in(5) { 4 } else { 1 };
+    heavy * (most / (later + 1) + draw.between(0, 2))
 }
 
 /// A call with arguments mostly good, sometimes not.
-fn drawn(draw: &mut Draw, most: u64, table: &[u8]) -> Call {
+fn drawn(draw: &mut Draw, most: u32, falling: bool, table: &[u8]) -> Call {
     let round = decode(table, Mutation::None);
     let due = draw.between(round.slot.0.min(round.last.0), round.last.0 + 1);
-    match draw.below(10) {
-        0..=4 => Call::Take {
+    let later = due.saturating_sub(round.slot.0);
+    match draw.below(16) {
+        0..=9 => Call::Take {
             due,
-            weight: draw.below(most + 1) as u32,
+            weight: weight(draw, most, falling, later),
         },
-        5 => Call::Mark { slot: due },
-        6 => Call::Total,
-        7 => Call::Open { last: 4_096 },
+        10 => Call::Mark { slot: due },
+        11 => Call::Total,
+        12 => Call::Open { last: 4_096 },
         _ => Call::Send,
     }
 }
 
+/// One call of a list, and what the demand says of it.
+fn holds(second: Second, call: Call, table: &mut [u8]) -> bool {
+    let before = table.to_vec();
+    let reply = second.answer(call, table);
+    let refused = reply & 0xFF != 0;
+    let grows = match call {
+        _ if refused => *table == before[..],
+        Call::Take { due, weight } => newcomer_adds(second, &before, table, due, weight),
+        _ => true,
+    };
+    let hold = marks_hold(&marks(second, &before), &marks(second, table));
+    grows && hold && plan_is_best(second, table)
+}
+
+/// Whether the demand holds over a whole drawn list.
+fn list_holds(second: Second, seed: u64) -> bool {
+    let mut draw = Draw::new(seed);
+    let mut table = vec![0xEE; row_at(1 + draw.below(8) as usize)];
+    let last = draw.below(6) as u32;
+    second.answer(Call::Open { last }, &mut table);
+    let most = *draw.pick(&[2, 5, 30]);
+    let falling = draw.once_in(2);
+    (0..18).all(|_| {
+        let call = drawn(&mut draw, most, falling, &table);
+        holds(second, call, &mut table)
+    })
+}
+
 #[test]
 fn lists_of_calls() {
-    for seed in 0..3_000 {
-        let mut draw = Draw::new(seed);
-        let mut table = vec![0xEE; row_at(1 + draw.below(8) as usize)];
-        let last = draw.below(6) as u32;
-        Second::PLAIN.answer(Call::Open { last }, &mut table);
-        let most = *draw.pick(&[2, 5, 30]);
-        for _ in 0..16 {
-            let before = table.clone();
-            let call = drawn(&mut draw, most, &before);
-            let reply = Second::PLAIN.answer(call, &mut table);
-            if reply & 0xFF != 0 {
-                assert_eq!(table, before);
-            } else if let Call::Take { due, weight } = call {
-                newcomer_adds(&before, &table, due, weight);
-            }
-            marks_hold(&marks(&before), &marks(&table), call);
-            plan_is_best(&table);
-        }
+    for seed in 0..20_000 {
+        assert!(list_holds(Second::PLAIN, seed), "seed {seed}");
+    }
+}
+
+/// Leaps that leave out a part of their work break the demand on such lists.
+#[test]
+fn the_lists_are_hard_enough() {
+    for mutation in [
+        Mutation::RNotRaised,
+        Mutation::HNotShifted,
+        Mutation::HNotRaised,
+        Mutation::OneShiftOnly,
+        Mutation::BlankDropped,
+        Mutation::LeapChangesNothing,
+        Mutation::MarkInSegmentAlone,
+    ] {
+        let broken = (0..20_000).find(|seed| !list_holds(Second { mutation }, *seed));
+        assert!(broken.is_some(), "{mutation:?}");
     }
 }

@@ -7,65 +7,48 @@ use crate::compare::library::Library;
 use crate::compare::tally::Tally;
 use crate::compare::{bytes, damage, extremes, hands, large, lengths, lists, sound};
 
+/// Runs one case.
+type Run = fn(&mut Bench, &mut Draw, u64) -> Agreed<()>;
+
 pub struct Kind {
     pub name: &'static str,
     /// How many cases there are.
     pub cases: u64,
     /// Whether the factor makes them more; otherwise they are all there are.
     pub grows: bool,
-    run: fn(&mut Bench, &mut Draw, u64) -> Agreed<()>,
+    run: Run,
 }
 
 pub const KINDS: &[Kind] = &[
-    Kind {
-        name: "hand",
-        cases: hands::CASES,
-        grows: false,
-        run: hands::run,
-    },
-    Kind {
-        name: "lengths",
-        cases: lengths::CASES,
-        grows: false,
-        run: lengths::run,
-    },
-    Kind {
-        name: "extremes",
-        cases: extremes::CASES,
-        grows: false,
-        run: extremes::run,
-    },
-    Kind {
-        name: "bytes",
-        cases: bytes::CASES,
-        grows: false,
-        run: bytes::run,
-    },
-    Kind {
-        name: "sound",
-        cases: 120_000,
-        grows: true,
-        run: sound::run,
-    },
-    Kind {
-        name: "damaged",
-        cases: 120_000,
-        grows: true,
-        run: damage::run,
-    },
-    Kind {
-        name: "lists",
-        cases: 4_000,
-        grows: true,
-        run: lists::run,
-    },
-    Kind {
-        name: "large",
-        cases: 200,
-        grows: true,
-        run: large::run,
-    },
+    fixed("hand", hands::CASES, hands::run),
+    fixed("lengths", lengths::CASES, lengths::run),
+    fixed("extremes", extremes::CASES, extremes::run),
+    fixed("bytes", bytes::CASES, bytes::run),
+    drawn("damaged", 120_000, damage::run),
+    drawn("sound", 120_000, sound::run),
+    drawn("lists", 4_000, lists::run),
+    drawn("large", 200, large::run),
 ];
+
+const fn fixed(name: &'static str, cases: u64, run: Run) -> Kind {
+    let grows = false;
+    Kind {
+        name,
+        cases,
+        grows,
+        run,
+    }
+}
+
+const fn drawn(name: &'static str, cases: u64, run: Run) -> Kind {
+    let grows = true;
+    Kind {
+        name,
+        cases,
+        grows,
+        run,
+    }
+}
 
 /// What a run is told.
 #[derive(Clone, Copy)]

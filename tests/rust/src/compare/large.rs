@@ -9,7 +9,7 @@ use crate::hand;
 
 pub fn run(bench: &mut Bench, draw: &mut Draw, case: u64) -> Agreed<()> {
     let mut table = match case % 4 {
-        0 => chain(draw),
+        0 => chain(draw.between(4, 1_024)),
         _ => {
             let last = *draw.pick(&[300, 1_023, 1_024, 2_000, 4_095]);
             let round = round(draw, Size { rows: 1_024, last }, 1_024);
@@ -32,8 +32,7 @@ pub fn run(bench: &mut Bench, draw: &mut Draw, case: u64) -> Agreed<()> {
 }
 
 /// A round whose first sending shifts as many members as can be.
-fn chain(draw: &mut Draw) -> Vec<u8> {
-    let frames = draw.between(4, 1_024);
+fn chain(frames: u32) -> Vec<u8> {
     let last = frames - 2;
     let mut rows = vec![(1, 0, 1, false)];
     for due in 1..=last {
@@ -41,4 +40,31 @@ fn chain(draw: &mut Draw) -> Vec<u8> {
     }
     rows.push((frames, last, 1, false));
     hand::table(1_024, last, &rows)
+}
+
+#[cfg(test)]
+mod tests {
+    use super::*;
+    use crate::calls::Second;
+    use crate::counts::Ticket;
+    use crate::mutation::Mutation;
+    use crate::send::{Out, Step};
+    use crate::table::decode;
+
+    /// All rows but the first, p and r are given an earlier due slot.
+    #[test]
+    fn chains_shift_all_but_three() {
+        for frames in [4, 5, 6, 30, 1_023, 1_024] {
+            let mut table = chain(frames);
+            let before = decode(&table, Mutation::None).rows;
+            let step = Second::PLAIN.send(&mut table);
+            assert_eq!(step, Ok(Step::Leap(Out::Frame(Ticket(2)))));
+            let after = decode(&table, Mutation::None).rows;
+            let old = |ticket| before.iter().find(|row| row.ticket == ticket);
+            let shifted = after
+                .iter()
+                .filter(|row| Some(row.due) != old(row.ticket).map(|row| row.due));
+            assert_eq!(shifted.count(), frames as usize - 3);
+        }
+    }
 }

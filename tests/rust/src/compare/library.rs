@@ -31,6 +31,7 @@ pub fn ask(library: &mut dyn Library, call: Call, table: &mut [u8]) -> u64 {
 }
 
 /// The second implementation in the library's place, with all calls or fewer.
+#[derive(Clone)]
 pub struct Itself {
     pub second: Second,
     pub calls: &'static [CallName],

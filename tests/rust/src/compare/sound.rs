@@ -18,6 +18,16 @@ fn near(draw: &mut Draw, round: &Round) -> u32 {
     }
 }
 
+/// A waiting row's ticket for the most part.
+fn ticket(draw: &mut Draw, round: &Round) -> u32 {
+    match draw.below(12) {
+        0 => 0,
+        1 => draw.between(0, round.next.0),
+        _ if round.rows.is_empty() => 1,
+        _ => draw.pick(&round.rows).ticket.0,
+    }
+}
+
 pub fn run(bench: &mut Bench, draw: &mut Draw, _: u64) -> Agreed<()> {
     let size = size(draw);
     let (table, round) = drawn(draw, size);
@@ -34,10 +44,7 @@ pub fn run(bench: &mut Bench, draw: &mut Draw, _: u64) -> Agreed<()> {
             },
             &table,
         )?;
-        let ticket = match round.rows.len() {
-            0 => 1,
-            used => round.rows[draw.below(used as u64) as usize].ticket.0,
-        };
+        let ticket = ticket(draw, &round);
         bench.check_aside(Call::Substitute { ticket }, &table)?;
     }
     bench.check_aside(Call::Total, &table)?;

@@ -1,0 +1,142 @@
+//! The comparison itself: it agrees where it should, meets every outcome, and
+//! notices faults.
+
+use second::call::{Call, CallName};
+use second::calls::Second;
+use second::compare::kinds::{run, Found, Settings};
+use second::compare::library::{ask, Itself, Library};
+use second::compare::tally::{Outcome, Tally};
+use second::mutation::Mutation;
+
+const SHORT: Settings = Settings {
+    seed: 3,
+    factor: 0.02,
+    drawn_only: false,
+};
+const FIRST_TWO: &[CallName] = &[CallName::Open, CallName::Take];
+
+fn compared(library: &mut dyn Library, mutation: Mutation) -> Result<Tally, Found> {
+    run(library, Second { mutation }, SHORT, |_, _| ())
+}
+
+#[test]
+fn meets_every_outcome() {
+    let Ok(tally) = compared(&mut Itself::PLAIN.clone(), Mutation::None) else {
+        panic!("it differs from itself");
+    };
+    let refusals: [(CallName, &[u8]); 6] = [
+        (CallName::Open, &[2, 4]),
+        (CallName::Take, &[2, 3, 5, 6, 7, 8, 9]),
+        (CallName::Send, &[2, 3, 5]),
+        (CallName::Mark, &[2, 3, 5, 7]),
+        (CallName::Total, &[2, 3, 5]),
+        (CallName::Substitute, &[2, 3, 5, 10, 11]),
+    ];
+    for (call, numbers) in refusals {
+        for number in 1..=12 {
+            let met = tally.met(call, Outcome::Refused(number)) > 0;
+            assert_eq!(met, numbers.contains(&number), "{call:?} {number}");
+        }
+        let accepted = tally.met(call, Outcome::Accepted) > 0;
+        assert_eq!(accepted, call != CallName::Send, "{call:?}");
+    }
+    for (what, leap) in [(0, false), (1, false), (1, true), (2, false), (2, true)] {
+        assert!(tally.met(CallName::Send, Outcome::Sent(what, leap)) > 9);
+    }
+    assert_eq!(tally.met(CallName::Send, Outcome::Sent(0, true)), 0);
+    assert!(tally.met(CallName::Substitute, Outcome::Blank) > 9);
+}
+
+/// Every fault is caught; those of opening and taking even by a library that
+/// has only these two.
+#[test]
+fn catches_every_mutation() {
+    for mutation in Mutation::ALL.iter().copied() {
+        let calls = match mutation.shown_by().plans() {
+            true => CallName::ALL,
+            false => FIRST_TWO,
+        };
+        let mut library = Itself {
+            calls,
+            ..Itself::PLAIN
+        };
+        assert!(compared(&mut library, mutation).is_err(), "{mutation:?}");
+        assert_eq!(Mutation::named(&mutation.name()), Some(mutation));
+    }
+}
+
+/// What a wrong library by hand does to the table and the reply.
+type Change = fn(Call, &mut [u8], u64) -> u64;
+
+struct Wrong(Change);
+
+impl Wrong {
+    fn ask(&self, call: Call, table: &mut [u8]) -> u64 {
+        let reply = ask(&mut Itself::PLAIN.clone(), call, table);
+        (self.0)(call, table, reply)
+    }
+}
+
+impl Library for Wrong {
+    fn calls(&self) -> &'static [CallName] {
+        CallName::ALL
+    }
+    fn open(&mut self, last: u32, table: &mut [u8]) -> u64 {
+        self.ask(Call::Open { last }, table)
+    }
+    fn take(&mut self, due: u32, weight: u32, table: &mut [u8]) -> u64 {
+        self.ask(Call::Take { due, weight }, table)
+    }
+    fn send(&mut self, table: &mut [u8]) -> u64 {
+        self.ask(Call::Send, table)
+    }
+    fn mark(&mut self, slot: u32, table: &[u8]) -> u64 {
+        self.ask(Call::Mark { slot }, &mut table.to_vec())
+    }
+    fn total(&mut self, table: &[u8]) -> u64 {
+        self.ask(Call::Total, &mut table.to_vec())
+    }
+    fn substitute(&mut self, ticket: u32, table: &[u8]) -> u64 {
+        self.ask(Call::Substitute { ticket }, &mut table.to_vec())
+    }
+}
+
+#[test]
+fn catches_wrong_libraries() {
+    let unchanged = Wrong(|_, _, reply| reply);
+    assert!(compared(&mut { unchanged }, Mutation::None).is_ok());
+    let wrong: [Change; 5] = [
+        // Turns every call down.
+        |_, _, _| 3,
+        // Always silent.
+        |call, _, reply| {
+            if call == Call::Send && reply & 0xFF == 0 {
+                0
+            } else {
+                reply
+            }
+        },
+        // Never tells a leap.
+        |_, _, reply| reply & !(1 << 34),
+        // Writes on a refusal.
+        |_, table, reply| {
+            if reply == 9 {
+                table[39] = 1;
+            }
+            reply
+        },
+        // Loses the weight's high byte in the first row.
+        |call, table, reply| {
+            if matches!(call, Call::Take { .. }) && reply == 1 << 8 {
+                table[25] = 0;
+            }
+            reply
+        },
+    ];
+    for (place, change) in wrong.into_iter().enumerate() {
+        assert!(
+            compared(&mut Wrong(change), Mutation::None).is_err(),
+            "{place}"
+        );
+    }
+}

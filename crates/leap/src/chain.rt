@@ -122,7 +122,7 @@ fn pass_bucket(table: &mut [u8], counts: &[u16; 1025], kept: &[u64; 1025], marks
 // Every link between two ends moves to the end before it.
 pub fn shift_chain(table: &mut [u8], flags: &[u8], counts: &[u16; 1025], kept: &[u64; 1025], marks: &[u32; 1025], round: Round, reach: Reach, from: usize, to: usize)
     requires { ⌜ Ready (now table) round × Chosen (round-in (now table)) (now flags) × Chained (round-in (now table)) (now flags) reach (now counts) (now kept) (now marks) from to ⌝ }
-    ensures { λ _. ⌜ Shifts (round-in (now (table .entry))) (with-flag (round-in (now (table .entry))) (now (flags .entry))) (round .slot .0 + from) (round .slot .0 + to) (now (table .exit)) ⌝ }
+    ensures { λ _. ⌜ Shifts (round-in (now (table .entry))) (with-flag (round-in (now (table .entry))) (now (flags .entry))) (round-in (now (table .entry)) .slot + from) (round-in (now (table .entry)) .slot + to) (now (table .exit)) ⌝ }
 {
     let slot = Slot(round.slot.0);
     let mut links = Links {

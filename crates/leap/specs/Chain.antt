@@ -42,6 +42,9 @@ pub record First-end (cs : List ℕ) (last bucket free e : ℕ) : Type 0 where
 abbrev pub row-named : (key : ℕ) → ℕ
 row-named k = 1023 - k % 1024
 
+abbrev pub due-named : (key : ℕ) → ℕ
+due-named k = 4095 - k / 1024 % 4096
+
 pub record Named (k : ℕ) (t : List ℕ) : Type 0 where
   pub most : k ≤ most-key
   pub there : k ≢ 0 → row-at (suc (row-named k)) ≤ length t

@@ -1,0 +1,36 @@
+use borrow.Author.Needs.{needs}
+use Rattle.leap.proofs.send.went_of.Statement.{statement}
+use Rattle.leap.proofs.send.went_of.Tie as tie
+use Rattle.leap.proofs.send.went_of.Reads as reads
+use Rattle.leap.proofs.send.went_of.Lts as lts
+use Rattle.round.proofs.bytes.read4.Reads as read4-reads
+use Rattle.round.proofs.rows.row_at.Reads as row-at-reads
+
+-- src/send.rt:40:9
+row-at-requires : tie.Need-row-at-requires
+row-at-requires c κs = ?
+
+-- src/send.rt:41:38
+add-read4 : tie.Need-add-read4
+add-read4 c = search needs
+
+-- src/send.rt:41:25
+read4-requires : tie.Need-read4-requires
+read4-requires c κs = ?
+
+-- src/send.rt:45:21
+add-t8 : tie.Need-add-t8
+add-t8 c = search needs
+
+-- src/send.rt:45:15
+shared-slice-read-t10 : tie.Need-shared-slice-read-t10
+shared-slice-read-t10 c = ?
+
+-- src/send.rt:36:1
+returns : tie.Need-returns
+returns c = ?
+
+pub went-of-spec : {M : Type 1} → statement M
+went-of-spec =
+    tie.close
+    (tie.spec row-at-requires add-read4 read4-requires add-t8 shared-slice-read-t10 returns)

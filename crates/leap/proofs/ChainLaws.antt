@@ -196,8 +196,8 @@ module _ (r : Round) (fs : List ℕ) (x : Reach) (z : Scene r fs x) (to : ℕ) (
     waits-next q a =
         let y = peak-heaviest r fs x z b (suc to) n p (omega (arith, q)) in
         let o =
-            from-end e k (getD ms e 0) t j (stretch-mark ms m (r .slot + b) e j g) a (tight-after r (plan r) (at r (y .0) .due))
-            (heavier-end (y .0) (y .1) (heavier-here q a (y .0) (y .1))) in
+        from-end e k (getD ms e 0) t j (stretch-mark ms m (r .slot + b) e j g) a (tight-after r (plan r) (at r (y .0) .due))
+        (heavier-end (y .0) (y .1) (heavier-here q a (y .0) (y .1))) in
         let u : suc (b - 1) ≡ b = omega (arith, h) in
         inr (record {
           row = y .0;
@@ -317,6 +317,6 @@ module _ (r : Round) (fs : List ℕ) (x : Reach) (z : Scene r fs x) (to : ℕ) (
         | inr a ↦ let n = a .1 in absurd (q .gap (suc from) (omega arith) (omega (arith, q .by)) (end-before b from h g))
       ] in
       let o =
-          from-end from (l .waiting) (getD ms from 0) t h (stretch-mark ms m b from h g)
-          (subst (λ (v : ℕ). Waiting r fs to v (l .waiting) t) e (q .waits)) (r .slot + from) refl in
+      from-end from (l .waiting) (getD ms from 0) t h (stretch-mark ms m b from h g)
+      (subst (λ (v : ℕ). Waiting r fs to v (l .waiting) t) e (q .waits)) (r .slot + from) refl in
       record { links = o .0; chain = o .1; bytes = o .2 }

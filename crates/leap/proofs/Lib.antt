@@ -8,3 +8,6 @@ pub mod LinkLaws
 pub mod MoveLaws
 pub mod ChainLaws
 pub mod ShiftLaws
+pub mod StandLaws
+pub mod SendLaws
+pub mod SwapLaws

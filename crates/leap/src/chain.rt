@@ -67,7 +67,12 @@ fn shift_link(table: &mut [u8], key: u64, slot: Slot, end: usize, mark: u32)
         return;
     }
     let due = slot.0 + end as u32;
-    write_shift(table, row_of(key), Slot(due), Weight(weight_with(key, mark)));
+    write_shift(
+        table,
+        row_of(key),
+        Slot(due),
+        Weight(weight_with(key, mark)),
+    );
 }
 
 // What the pass has found: the plan's rows up to a bucket, the greatest key behind it, the link that waits for its place, and the last end passed.
@@ -102,7 +107,15 @@ fn pass_end(table: &mut [u8], marks: &[u32; 1025], slot: Slot, links: Links, buc
 }
 
 // From a bucket to the one before it.
-fn pass_bucket(table: &mut [u8], counts: &[u16; 1025], kept: &[u64; 1025], marks: &[u32; 1025], slot: Slot, links: Links, bucket: usize) -> Links
+fn pass_bucket(
+    table: &mut [u8],
+    counts: &[u16; 1025],
+    kept: &[u64; 1025],
+    marks: &[u32; 1025],
+    slot: Slot,
+    links: Links,
+    bucket: usize,
+) -> Links
     requires { ⌜ Fair-links (slot .0) links (now table) × (bucket ≤ 1024) × (getD (now counts) bucket 0 ≤ links .under) × (1 ≤ bucket) ⌝ }
     ensures { λ r. ⌜ (r ≡ passed (now (counts .entry)) (now (kept .entry)) links bucket) × (now (table .exit) ≡ passed-bytes (slot .0) (now (counts .entry)) (now (kept .entry)) (now (marks .entry)) links bucket (now (table .entry))) ⌝ }
 {
@@ -120,7 +133,17 @@ fn pass_bucket(table: &mut [u8], counts: &[u16; 1025], kept: &[u64; 1025], marks
 }
 
 // Every link between two ends moves to the end before it.
-pub fn shift_chain(table: &mut [u8], flags: &[u8], counts: &[u16; 1025], kept: &[u64; 1025], marks: &[u32; 1025], round: Round, reach: Reach, from: usize, to: usize)
+pub fn shift_chain(
+    table: &mut [u8],
+    flags: &[u8],
+    counts: &[u16; 1025],
+    kept: &[u64; 1025],
+    marks: &[u32; 1025],
+    round: Round,
+    reach: Reach,
+    from: usize,
+    to: usize,
+)
     requires { ⌜ Ready (now table) round × Chosen (round-in (now table)) (now flags) × Chained (round-in (now table)) (now flags) reach (now counts) (now kept) (now marks) from to ⌝ }
     ensures { λ _. ⌜ Shifts (round-in (now (table .entry))) (with-flag (round-in (now (table .entry))) (now (flags .entry))) (round-in (now (table .entry)) .slot + from) (round-in (now (table .entry)) .slot + to) (now (table .exit)) ⌝ }
 {

@@ -32,7 +32,14 @@ fn start_marks(marks: &mut [u32; 1025], last: usize)
 }
 
 // A row of the plan due by the last bucket lowers the mark of its own.
-fn lower_mark(table: &[u8], flags: &[u8], round: Round, row: usize, marks: &mut [u32; 1025], last: usize)
+fn lower_mark(
+    table: &[u8],
+    flags: &[u8],
+    round: Round,
+    row: usize,
+    marks: &mut [u32; 1025],
+    last: usize,
+)
     requires { ⌜ Ready (now table) round × Chosen (round-in (now table)) (now flags) × (row < round .used) × (last ≤ 1024) ⌝ }
     ensures { λ _. ⌜ now (marks .exit) ≡ lowered (round-in (now (table .entry))) (now (flags .entry)) last row (now (marks .entry)) ⌝ }
 {

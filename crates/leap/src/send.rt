@@ -71,7 +71,15 @@ fn send_alone(table: &mut [u8], round: Round, key: u64, leap: bool) -> Went
 }
 
 // A leap onto the blank of the row's segment, which is kept in its row with the segment's mark.
-fn send_kept(table: &mut [u8], flags: &[u8], round: Round, reach: Reach, key: u64, first: usize, last: usize) -> Went
+fn send_kept(
+    table: &mut [u8],
+    flags: &[u8],
+    round: Round,
+    reach: Reach,
+    key: u64,
+    first: usize,
+    last: usize,
+) -> Went
     requires { ⌜ Ready (now table) round × Chosen (round-in (now table)) (now flags) × Reaches (round-in (now table)) reach × Picked (round-in (now table)) (now flags) (reach .free) (Pick.Kept key first last) ⌝ }
     ensures { λ r. ⌜ Sent-says (now (table .entry)) (now (table .exit)) r ⌝ }
 {
@@ -93,7 +101,19 @@ fn ahead_of(key: u64, slot: u32) -> usize
 }
 
 // A leap onto a row left out: the links between the two segments' ends move, and that row gets its segment's mark.
-fn send_swapped(table: &mut [u8], flags: &[u8], counts: &[u16; 1025], kept: &[u64; 1025], marks: &mut [u32; 1025], round: Round, reach: Reach, key: u64, first: usize, last: usize, other: u64) -> Went
+fn send_swapped(
+    table: &mut [u8],
+    flags: &[u8],
+    counts: &[u16; 1025],
+    kept: &[u64; 1025],
+    marks: &mut [u32; 1025],
+    round: Round,
+    reach: Reach,
+    key: u64,
+    first: usize,
+    last: usize,
+    other: u64,
+) -> Went
     requires { ⌜ Ready (now table) round × Chosen (round-in (now table)) (now flags) × Notes (round-in (now table)) (now flags) reach (now counts) (now kept) (now marks) × Picked (round-in (now table)) (now flags) (reach .free) (Pick.Swapped key first last other) ⌝ }
     ensures { λ r. ⌜ Sent-says (now (table .entry)) (now (table .exit)) r ⌝ }
 {
@@ -109,7 +129,16 @@ fn send_swapped(table: &mut [u8], flags: &[u8], counts: &[u16; 1025], kept: &[u6
 }
 
 // The table becomes that of the round after, whichever way the row goes.
-pub fn send_picked(table: &mut [u8], flags: &[u8], counts: &[u16; 1025], kept: &[u64; 1025], marks: &mut [u32; 1025], round: Round, reach: Reach, pick: Pick) -> Went
+pub fn send_picked(
+    table: &mut [u8],
+    flags: &[u8],
+    counts: &[u16; 1025],
+    kept: &[u64; 1025],
+    marks: &mut [u32; 1025],
+    round: Round,
+    reach: Reach,
+    pick: Pick,
+) -> Went
     requires { ⌜ Ready (now table) round × Chosen (round-in (now table)) (now flags) × Notes (round-in (now table)) (now flags) reach (now counts) (now kept) (now marks) × Picked (round-in (now table)) (now flags) (reach .free) pick ⌝ }
     ensures { λ r. ⌜ Sent-says (now (table .entry)) (now (table .exit)) r ⌝ }
 {
@@ -117,6 +146,23 @@ pub fn send_picked(table: &mut [u8], flags: &[u8], counts: &[u16; 1025], kept: &
         Pick::First { key } => send_alone(table, round, key, false),
         Pick::Far { key } => send_alone(table, round, key, true),
         Pick::Kept { key, first, last } => send_kept(table, flags, round, reach, key, first, last),
-        Pick::Swapped { key, first, last, other } => send_swapped(table, flags, counts, kept, marks, round, reach, key, first, last, other),
+        Pick::Swapped {
+            key,
+            first,
+            last,
+            other,
+        } => send_swapped(
+            table,
+            flags,
+            counts,
+            kept,
+            marks,
+            round,
+            reach,
+            key,
+            first,
+            last,
+            other,
+        ),
     }
 }

@@ -52,7 +52,7 @@ element-copy-out-shift-link c = omega (arith, ends-small (c .before .before .bef
 
 -- src/chain.rt:135:5
 shift-link-requires : tie.Need-shift-link-requires Inv-loop μ-loop
-shift-link-requires c κs = 
+shift-link-requires c κs =
     (shift-named (c .before .before .before .before .before .before .args .table .now) (c .before .before .before .before .before .before .args .round) (c .before .before .before .before .before .before .args .flags .now) (c .before .before .before .before .before .before .args .reach) (c .before .before .before .before .before .before .args .counts .now) (c .before .before .before .before .before .before .args .kept .now) (c .before .before .before .before .before .before .args .marks .now) (c .before .before .before .before .before .before .args .from) (c .before .before .before .before .before .before .args .to) (c .before .before .before .before .before .before .pre .0) (c .before .before .before .before .before .before .pre .1) (c .before .before .before .before .before .before .pre .2) (c .before .before .before .loop .s) (c .before .before .before .loop .links) (c .before .before .before .loop .table) (c .before .before .before .loop .inv .1), omega (arith, head-slot (c .before .before .before .before .before .before .args .table .now) (c .before .before .before .before .before .before .args .round) (c .before .before .before .before .before .before .pre .0 .head), slot-small (c .before .before .before .before .before .before .args .table .now) (c .before .before .before .before .before .before .pre .0 .sound) .0), omega (arith, ends-small (c .before .before .before .before .before .before .args .table .now) (c .before .before .before .before .before .before .args .round) (c .before .before .before .before .before .before .args .flags .now) (c .before .before .before .before .before .before .args .reach) (c .before .before .before .before .before .before .args .counts .now) (c .before .before .before .before .before .before .args .kept .now) (c .before .before .before .before .before .before .args .marks .now) (c .before .before .before .before .before .before .args .from) (c .before .before .before .before .before .before .args .to) (c .before .before .before .before .before .before .pre .0) (c .before .before .before .before .before .before .pre .1) (c .before .before .before .before .before .before .pre .2), c .before .before .before .before .before .before .pre .2 .order))
 
 -- src/chain.rt:119:1

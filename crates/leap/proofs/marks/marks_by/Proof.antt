@@ -25,7 +25,7 @@ spread-marks-requires c κs = search needs
 
 -- src/marks.rt:76:1
 returns : tie.Need-returns
-returns c = 
+returns c =
     marks-made (round-in (c .before .before .before .before .before .before .before .before .args .table .now)) (sound (c .before .before .before .before .before .before .before .before .args .table .now) (c .before .before .before .before .before .before .before .before .pre .0 .sound) .sane .fine) (c .before .before .before .before .before .before .before .before .args .flags .now) (c .before .before .before .before .before .before .before .before .pre .1) (c .before .before .before .before .before .before .before .before .args .last) _ _
     (own-end (round-in (c .before .before .before .before .before .before .before .before .args .table .now)) (c .before .before .before .before .before .before .before .before .args .flags .now) (c .before .before .before .before .before .before .before .before .args .last) _ _ _ (c .before .before .own-marks .ensures) (head-used (c .before .before .before .before .before .before .before .before .args .table .now) (c .before .before .before .before .before .before .before .before .args .round) (c .before .before .before .before .before .before .before .before .pre .0 .head))) (c .spread-marks .ensures)
 

@@ -35,7 +35,7 @@ loop-less c = search needs
 
 -- src/marks.rt:55:5
 loop-again : tie.Need-loop-again Inv-loop μ-loop
-loop-again c = 
+loop-again c =
     let o = own-step (round-in (c .before .before .before .before .before .before .args .table .now)) (c .before .before .before .before .before .before .args .flags .now) (c .before .before .before .before .before .before .args .last) (c .before .before .before .loop .i) (c .before .before .before .loop .marks) (c .before .before .before .loop .inv .1) (omega (arith, c .before .before .before .before .before .before .pre .1 .long, head-used (c .before .before .before .before .before .before .args .table .now) (c .before .before .before .before .before .before .args .round) (c .before .before .before .before .before .before .pre .0 .head))) (c .before .before .before .before .before .before .pre .2) in
     (search needs, rw (c .lower-mark .ensures) o)
 

@@ -1,3 +1,8 @@
+use Rattle.pick.specs.declared.choice.Pick.{Pick}
+use Rattle.pick.specs.Choice.{Picked}
+use Rattle.rules.specs.Table.{round-in}
+use mathlib.Core.Path.{subst}
+use Rattle.leap.proofs.SendLaws.{first-alone, far-alone}
 use borrow.Author.Needs.{needs}
 use Rattle.leap.proofs.send.send_picked.Statement.{statement}
 use Rattle.leap.proofs.send.send_picked.Tie as tie
@@ -13,7 +18,7 @@ enum-known-pick c = search needs
 
 -- src/send.rt:117:32
 send-alone-requires : tie.Need-send-alone-requires
-send-alone-requires c κs = ?
+send-alone-requires c κs = (c .before .before .before .before .before .before .pre .0, first-alone (c .before .before .before .before .before .before .args .table .now) (c .before .before .before .before .before .before .args .round) (c .before .before .before .before .before .before .pre .0) (c .before .before .before .before .before .before .args .flags .now) (c .before .before .before .before .before .before .pre .1) (c .before .before .before .before .before .before .args .reach) (c .before .before .before .before .before .before .pre .2 .reach) _ (subst (λ (y : Pick). Picked (round-in (c .before .before .before .before .before .before .args .table .now)) (c .before .before .before .before .before .before .args .flags .now) (c .before .before .before .before .before .before .args .reach .free) y) (c .before .before .pick .given .1) (c .before .before .before .before .before .before .pre .3)))
 
 -- src/send.rt:118:21
 enum-known-pick-2 : tie.Need-enum-known-pick-2
@@ -21,7 +26,7 @@ enum-known-pick-2 c = search needs
 
 -- src/send.rt:118:30
 send-alone-requires-2 : tie.Need-send-alone-requires-2
-send-alone-requires-2 c κs = ?
+send-alone-requires-2 c κs = (c .before .before .before .before .before .before .pre .0, far-alone (c .before .before .before .before .before .before .args .table .now) (c .before .before .before .before .before .before .args .round) (c .before .before .before .before .before .before .pre .0) (c .before .before .before .before .before .before .args .flags .now) (c .before .before .before .before .before .before .pre .1) (c .before .before .before .before .before .before .args .reach) (c .before .before .before .before .before .before .pre .2 .reach) _ (subst (λ (y : Pick). Picked (round-in (c .before .before .before .before .before .before .args .table .now)) (c .before .before .before .before .before .before .args .flags .now) (c .before .before .before .before .before .before .args .reach .free) y) (c .before .before .pick2 .given .1) (c .before .before .before .before .before .before .pre .3)))
 
 -- src/send.rt:119:22
 enum-known-pick-3 : tie.Need-enum-known-pick-3
@@ -29,7 +34,7 @@ enum-known-pick-3 c = search needs
 
 -- src/send.rt:119:44
 send-kept-requires : tie.Need-send-kept-requires
-send-kept-requires c κs = ?
+send-kept-requires c κs = (c .before .before .before .before .before .before .pre .0, c .before .before .before .before .before .before .pre .1, c .before .before .before .before .before .before .pre .2 .reach, subst (λ (y : Pick). Picked (round-in (c .before .before .before .before .before .before .args .table .now)) (c .before .before .before .before .before .before .args .flags .now) (c .before .before .before .before .before .before .args .reach .free) y) (c .before .before .pick3 .given .1) (c .before .before .before .before .before .before .pre .3))
 
 -- src/send.rt:120:25
 enum-known-pick-4 : tie.Need-enum-known-pick-4
@@ -37,7 +42,7 @@ enum-known-pick-4 c = search needs
 
 -- src/send.rt:120:54
 send-swapped-requires : tie.Need-send-swapped-requires
-send-swapped-requires c κs = ?
+send-swapped-requires c κs = (c .before .before .before .before .before .before .before .pre .0, c .before .before .before .before .before .before .before .pre .1, c .before .before .before .before .before .before .before .pre .2, subst (λ (y : Pick). Picked (round-in (c .before .before .before .before .before .before .before .args .table .now)) (c .before .before .before .before .before .before .before .args .flags .now) (c .before .before .before .before .before .before .before .args .reach .free) y) (c .before .before .before .pick4 .given .1) (c .before .before .before .before .before .before .before .pre .3))
 
 -- src/send.rt:112:1
 same-length : tie.Need-same-length

@@ -1,3 +1,4 @@
+use Rattle.leap.proofs.SendLaws.{silence-says}
 use borrow.Author.Needs.{needs}
 use Rattle.leap.proofs.send.send_silence.Statement.{statement}
 use Rattle.leap.proofs.send.send_silence.Tie as tie
@@ -15,7 +16,7 @@ same-length c = search needs
 
 -- src/send.rt:50:1
 returns : tie.Need-returns
-returns c = ?
+returns c = silence-says (c .before .before .before .before .before .args .table .now) (c .before .before .before .before .before .args .round) (c .before .before .before .before .before .pre .0) (c .before .before .before .before .before .pre .1) _ (c .before .before .close-up .ensures)
 
 pub send-silence-spec : {M : Type 1} → statement M
 send-silence-spec = tie.close (tie.spec close-up-requires same-length returns)

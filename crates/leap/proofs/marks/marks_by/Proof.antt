@@ -1,0 +1,34 @@
+use Rattle.theory.specs.Sane.{sound}
+use Rattle.rules.specs.Table.{round-in}
+use Rattle.leap.proofs.HeadLaws.{head-used}
+use Rattle.leap.proofs.MarkLaws.{marks-made, own-end}
+use borrow.Author.Needs.{needs}
+use Rattle.leap.proofs.marks.marks_by.Statement.{statement}
+use Rattle.leap.proofs.marks.marks_by.Tie as tie
+use Rattle.leap.proofs.marks.marks_by.Reads as reads
+use Rattle.leap.proofs.marks.marks_by.Lts as lts
+use Rattle.leap.proofs.marks.own_marks.Reads as own-marks-reads
+use Rattle.leap.proofs.marks.spread_marks.Reads as spread-marks-reads
+use Rattle.leap.proofs.marks.start_marks.Reads as start-marks-reads
+
+-- src/marks.rt:80:5
+start-marks-requires : tie.Need-start-marks-requires
+start-marks-requires c κs = search needs
+
+-- src/marks.rt:81:5
+own-marks-requires : tie.Need-own-marks-requires
+own-marks-requires c κs = search needs
+
+-- src/marks.rt:82:5
+spread-marks-requires : tie.Need-spread-marks-requires
+spread-marks-requires c κs = search needs
+
+-- src/marks.rt:76:1
+returns : tie.Need-returns
+returns c =
+    marks-made (round-in (c .before .before .before .before .before .before .before .before .args .table .now)) (sound (c .before .before .before .before .before .before .before .before .args .table .now) (c .before .before .before .before .before .before .before .before .pre .0 .sound) .sane .fine) (c .before .before .before .before .before .before .before .before .args .flags .now) (c .before .before .before .before .before .before .before .before .pre .1) (c .before .before .before .before .before .before .before .before .args .last) _ _
+    (own-end (round-in (c .before .before .before .before .before .before .before .before .args .table .now)) (c .before .before .before .before .before .before .before .before .args .flags .now) (c .before .before .before .before .before .before .before .before .args .last) _ _ _ (c .before .before .own-marks .ensures) (head-used (c .before .before .before .before .before .before .before .before .args .table .now) (c .before .before .before .before .before .before .before .before .args .round) (c .before .before .before .before .before .before .before .before .pre .0 .head))) (c .spread-marks .ensures)
+
+pub marks-by-spec : {M : Type 1} → statement M
+marks-by-spec =
+    tie.close (tie.spec start-marks-requires own-marks-requires spread-marks-requires returns)

@@ -1,0 +1,4 @@
+pub mod Close
+pub mod Marks
+pub mod Chain
+pub mod Send

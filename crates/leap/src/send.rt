@@ -1,0 +1,168 @@
+// A sending, once the row that goes is picked: what it writes, and what went out.
+ghost use mathlib.Core.Path.{_≡_};
+ghost use Prim.Native.Nat.{_-_, _≤_, _<_};
+ghost use Rattle.rules.specs.Table.{round-in};
+ghost use Rattle.theory.specs.Flags.{Chosen};
+ghost use Rattle.pick.specs.Rows.{Ready, at};
+ghost use Rattle.pick.specs.Near.{Reaches};
+ghost use Rattle.pick.specs.Choice.{Picked};
+ghost use Rattle.leap.specs.Chain.{due-named};
+ghost use Rattle.leap.specs.Send.{Went-of, Alone, Notes, Sent-says};
+use crate::chain::end_from;
+use crate::chain::row_of;
+use crate::chain::shift_chain;
+use crate::close::close_up;
+use crate::marks::marks_by;
+use crate::write::write_kept;
+use crate::write::write_weight;
+use pick::choice::Pick;
+use pick::lead::least_by;
+use pick::near::Reach;
+use round::Round;
+use round::Slot;
+use round::Ticket;
+use round::Weight;
+use round::bytes::read4;
+use round::rows::row_at;
+
+// What went out: a row's ticket and kind; ticket 0 is silence.
+pub struct Went {
+    pub leap: bool,
+    pub ticket: Ticket,
+    pub kind: u8,
+}
+
+// Read before anything is written.
+fn went_of(table: &[u8], round: Round, row: usize, leap: bool) -> Went
+    requires { ⌜ Ready (now table) round × (row < round .used) ⌝ }
+    ensures { λ r. ⌜ Went-of (at (round-in (now (table .entry))) row) leap r ⌝ }
+{
+    let at = row_at(row);
+    let ticket = Ticket(read4(table, at + Round::TICKET_AT));
+    Went {
+        leap,
+        ticket,
+        kind: table[at + Round::KIND_AT],
+    }
+}
+
+// No row waits: the slot alone moves on.
+pub fn send_silence(table: &mut [u8], round: Round) -> Went
+    requires { ⌜ Ready (now table) round × (round .used ≡ 0) ⌝ }
+    ensures { λ r. ⌜ Sent-says (now (table .entry)) (now (table .exit)) r ⌝ }
+{
+    close_up(table, round, Ticket(0));
+    Went {
+        leap: false,
+        ticket: Ticket(0),
+        kind: 0,
+    }
+}
+
+// Only the row that goes leaves: an ordinary step, or a leap from afar.
+fn send_alone(table: &mut [u8], round: Round, key: u64, leap: bool) -> Went
+    requires { ⌜ Ready (now table) round × Alone (round-in (now table)) leap key ⌝ }
+    ensures { λ r. ⌜ Sent-says (now (table .entry)) (now (table .exit)) r ⌝ }
+{
+    let went = went_of(table, round, row_of(key), leap);
+    let gone = went.ticket;
+    close_up(table, round, gone);
+    went
+}
+
+// A leap onto the blank of the row's segment, which is kept in its row with the segment's mark.
+fn send_kept(
+    table: &mut [u8],
+    flags: &[u8],
+    round: Round,
+    reach: Reach,
+    key: u64,
+    first: usize,
+    last: usize,
+) -> Went
+    requires { ⌜ Ready (now table) round × Chosen (round-in (now table)) (now flags) × Reaches (round-in (now table)) reach × Picked (round-in (now table)) (now flags) (reach .free) (Pick.Kept key first last) ⌝ }
+    ensures { λ r. ⌜ Sent-says (now (table .entry)) (now (table .exit)) r ⌝ }
+{
+    let row = row_of(key);
+    let went = went_of(table, round, row, true);
+    let slot = round.slot.0;
+    let mark = least_by(table, flags, round, slot + last as u32);
+    write_kept(table, row, Slot(slot + first as u32), Weight(mark));
+    close_up(table, round, Ticket(0));
+    went
+}
+
+// How many slots ahead a key's row is due.
+fn ahead_of(key: u64, slot: u32) -> usize
+    requires { ⌜ slot ≤ due-named key ⌝ }
+    ensures { λ r. ⌜ r ≡ due-named key - slot ⌝ }
+{
+    (4095 - (key / 1024 % 4096) as u32 - slot) as usize
+}
+
+// A leap onto a row left out: the links between the two segments' ends move, and that row gets its segment's mark.
+fn send_swapped(
+    table: &mut [u8],
+    flags: &[u8],
+    counts: &[u16; 1025],
+    kept: &[u64; 1025],
+    marks: &mut [u32; 1025],
+    round: Round,
+    reach: Reach,
+    key: u64,
+    first: usize,
+    last: usize,
+    other: u64,
+) -> Went
+    requires { ⌜ Ready (now table) round × Chosen (round-in (now table)) (now flags) × Notes (round-in (now table)) (now flags) reach (now counts) (now kept) (now marks) × Picked (round-in (now table)) (now flags) (reach .free) (Pick.Swapped key first last other) ⌝ }
+    ensures { λ r. ⌜ Sent-says (now (table .entry)) (now (table .exit)) r ⌝ }
+{
+    let went = went_of(table, round, row_of(key), true);
+    let gone = went.ticket;
+    let bucket = ahead_of(other, round.slot.0);
+    let to = end_from(counts, last, bucket, reach.free);
+    marks_by(table, flags, round, marks, to);
+    shift_chain(table, flags, counts, kept, marks, round, reach, last, to);
+    write_weight(table, row_of(other), Weight(marks[to]));
+    close_up(table, round, gone);
+    went
+}
+
+// The table becomes that of the round after, whichever way the row goes.
+pub fn send_picked(
+    table: &mut [u8],
+    flags: &[u8],
+    counts: &[u16; 1025],
+    kept: &[u64; 1025],
+    marks: &mut [u32; 1025],
+    round: Round,
+    reach: Reach,
+    pick: Pick,
+) -> Went
+    requires { ⌜ Ready (now table) round × Chosen (round-in (now table)) (now flags) × Notes (round-in (now table)) (now flags) reach (now counts) (now kept) (now marks) × Picked (round-in (now table)) (now flags) (reach .free) pick ⌝ }
+    ensures { λ r. ⌜ Sent-says (now (table .entry)) (now (table .exit)) r ⌝ }
+{
+    match pick {
+        Pick::First { key } => send_alone(table, round, key, false),
+        Pick::Far { key } => send_alone(table, round, key, true),
+        Pick::Kept { key, first, last } => send_kept(table, flags, round, reach, key, first, last),
+        Pick::Swapped {
+            key,
+            first,
+            last,
+            other,
+        } => send_swapped(
+            table,
+            flags,
+            counts,
+            kept,
+            marks,
+            round,
+            reach,
+            key,
+            first,
+            last,
+            other,
+        ),
+    }
+}

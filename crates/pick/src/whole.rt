@@ -6,10 +6,10 @@ ghost use Rattle.tally.specs.Rows.{Ready};
 ghost use Rattle.tally.specs.Near.{Counted, Reaches, upto};
 ghost use Rattle.pick.specs.Choice.{Picked};
 ghost use Rattle.pick.specs.Whole.{every, Gathers, Leaps};
-use round::Round;
 use crate::choice::Pick;
 use crate::lead::score_of;
 use crate::stretch::stretch_of;
+use round::Round;
 use tally::near::Reach;
 use tally::rows::due_at;
 use tally::rows::key_of;
@@ -45,7 +45,11 @@ fn gather(table: &[u8], round: Round, from: u32) -> Gathered
             later = larger(later, key);
         }
     }
-    Gathered { first, later, light }
+    Gathered {
+        first,
+        later,
+        light,
+    }
 }
 
 fn due_of(key: u64) -> u32

@@ -1,5 +1,5 @@
 // The pick: one pass over the segments, from the far rows back.
-ghost use Prim.Native.Nat.{ℕ, _≤_};
+ghost use Prim.Native.Nat.{_≤_};
 ghost use mathlib.Core.Path.{_≡_};
 ghost use Rattle.rules.specs.Table.{round-in};
 ghost use Rattle.theory.specs.Flags.{Chosen};

@@ -1,6 +1,6 @@
 // The pick where nothing is left out: a blank stands in for every row past the first segment, so the heaviest of them leads.
 ghost use mathlib.Core.Path.{_≡_};
-ghost use Prim.Native.Nat.{ℕ, _-_, _/_, _%_, _≤_};
+ghost use Prim.Native.Nat.{_-_, _/_, _%_, _≤_};
 ghost use Rattle.rules.specs.Table.{round-in};
 ghost use Rattle.tally.specs.Rows.{Ready};
 ghost use Rattle.tally.specs.Near.{Counted, Reaches, upto};

@@ -1,15 +1,13 @@
 -- The leader: far rows, segments one by one, and what it is at the end. Assumes nothing.
-use mathlib.Core.Path.{_≡_, refl, sym, ap, _∙_, subst}
+use mathlib.Core.Path.{_≡_, refl, sym, ap, subst}
 use mathlib.Core.Logic.{_⊎_, inl, inr}
 use mathlib.Core.Bool.{Bool, true, false, cond}
 use mathlib.Core.List.{List}
-use Prim.Native.Nat.{ℕ, zero, suc, _+_, _*_, _-_, _/_, _≤_, _<_}
+use Prim.Native.Nat.{ℕ, suc, _+_, _-_, _/_, _≤_, _<_}
 use native.Mathlib.Omega.{arith}
-use lib.Dec.{ltb, leb, eqb}
-use lib.ListN.{length, getD}
+use lib.ListN.{length}
 use borrow.Author.Tests.{le-leb, lt-leb, eq-eqb, ne-eqb}
 use Rattle.rules.specs.Rows.{Row, Round, blank, heavier, In}
-use Rattle.rules.specs.Plan.{plan, mark, substitute}
 use Rattle.rules.specs.PlanM.{score}
 use Rattle.theory.specs.Tests.{leb?, ltb?, eqb?}
 use Rattle.theory.specs.Keys.{key, getD-in}
@@ -23,12 +21,11 @@ use Rattle.theory.specs.Best.{some-row}
 use Rattle.theory.specs.Flags.{raised, with-flag}
 use Rattle.tally.specs.Rows.{at, key-at, top-of, place}
 use Rattle.tally.specs.Tally.{kept-key, left-key}
-use Rattle.pick.specs.Lead.{most-key, leader-score, Fair, takes-lead, Lightest, Least-by}
+use Rattle.pick.specs.Lead.{most-key, leader-score, Fair, takes-lead, Least-by}
 use Rattle.pick.specs.Peak.{Peak}
-use Rattle.pick.specs.Choice.{leap-of, Leading, Within, Heaviest-left, None-left, Picks-far, Picks-later, Picked}
+use Rattle.pick.specs.Choice.{leap-of, Leading, Within, Heaviest-left, None-left, Picks-later, Picked}
 use Rattle.tally.specs.declared.near.Reach.{Reach}
 use Rattle.pick.specs.declared.lead.Leader.{Leader}
-use Rattle.pick.specs.declared.choice.Pick.{Pick}
 use Rattle.pick.specs.declared.choice.Pick.the-variants.{First, Far}
 use Rattle.tally.proofs.NearLaws.{place-by}
 use Rattle.pick.proofs.SceneLaws.{Scene, Heaviest, plan-rows, fine-at, from-place, before-place, place-from, place-before, key-some, key-most, weight-key, not-over, peak-heaviest, peak-row, heaviest-in, heaviest-over, left-none, left-heaviest}

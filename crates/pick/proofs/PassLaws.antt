@@ -1,9 +1,9 @@
 -- The pass over the segments, bucket by bucket. Assumes nothing.
-use mathlib.Core.Path.{_≡_, refl, sym, ap, _∙_, subst}
-use mathlib.Core.Logic.{_⊎_, inl, inr, _≢_}
+use mathlib.Core.Path.{_≡_, sym, ap, _∙_, subst}
+use mathlib.Core.Logic.{inl, inr, _≢_}
 use mathlib.Core.Bool.{Bool, cond}
 use mathlib.Core.List.{List, [], _∷_}
-use Prim.Native.Nat.{ℕ, zero, suc, _+_, _-_, _/_, _≤_, _<_, max}
+use Prim.Native.Nat.{ℕ, suc, _+_, _-_, _/_, _≤_, _<_, max}
 use native.Mathlib.Omega.{arith}
 use lib.ListN.{length, getD}
 use Rattle.rules.specs.Rows.{Row, Round, In}
@@ -12,7 +12,7 @@ use Rattle.theory.specs.Tests.{eqb?}
 use Rattle.theory.specs.Sum.{sum}
 use Rattle.theory.specs.Feas.{below, below-yes}
 use Rattle.theory.specs.Change.{in-sum}
-use Rattle.theory.specs.Count.{in-bucket, counts-next, counts-none}
+use Rattle.theory.specs.Count.{counts-next, counts-none}
 use Rattle.theory.specs.Segments.{Segment, segment-made}
 use Rattle.theory.specs.Flags.{with-flag}
 use Rattle.tally.specs.Rows.{at, top-of, place}

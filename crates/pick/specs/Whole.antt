@@ -5,7 +5,6 @@ use Prim.Native.Nat.{ℕ, suc, _-_, _/_, _%_, _≤_, _<_}
 use lib.ListN.{length, replicate}
 use Rattle.rules.specs.Rows.{Round}
 use Rattle.tally.specs.Rows.{at, key-at}
-use Rattle.tally.specs.Near.{upto}
 use Rattle.pick.specs.Peak.{Peak}
 use Rattle.pick.specs.Stretch.{Stretches}
 use Rattle.pick.specs.declared.whole.Gathered.{Gathered}

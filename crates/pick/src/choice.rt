@@ -1,5 +1,5 @@
 // The pick: one pass over the segments, from the far rows back.
-ghost use Prim.Native.Nat.{ℕ, _≤_};
+ghost use Prim.Native.Nat.{_≤_};
 ghost use mathlib.Core.Path.{_≡_};
 ghost use Rattle.rules.specs.Table.{round-in};
 ghost use Rattle.theory.specs.Flags.{Chosen};
@@ -13,12 +13,12 @@ use crate::lead::leader_score;
 use crate::lead::peak_of;
 use crate::lead::score_of;
 use crate::lead::takes;
+use round::Round;
 use tally::near::Reach;
 use tally::rows::larger;
 use tally::rows::top_of;
 use tally::rows::weight_of;
 use tally::rows::wide;
-use round::Round;
 
 // The key of the row that goes, and how; first and last are buckets, the ends of its segment.
 pub enum Pick {

@@ -1,6 +1,6 @@
 // The segment of a bucket, by counts of the plan's rows.
 ghost use mathlib.Core.Path.{_≡_};
-ghost use Prim.Native.Nat.{ℕ, _≤_, _<_};
+ghost use Prim.Native.Nat.{_≤_, _<_};
 ghost use Rattle.tally.specs.Near.{upto};
 ghost use Rattle.pick.specs.Stretch.{Stretches};
 use tally::rows::wide;

@@ -1,15 +1,15 @@
 // The pick where nothing is left out: a blank stands in for every row past the first segment, so the heaviest of them leads.
 ghost use mathlib.Core.Path.{_≡_};
-ghost use Prim.Native.Nat.{ℕ, _-_, _/_, _%_, _≤_};
+ghost use Prim.Native.Nat.{_-_, _/_, _%_, _≤_};
 ghost use Rattle.rules.specs.Table.{round-in};
 ghost use Rattle.tally.specs.Rows.{Ready};
 ghost use Rattle.tally.specs.Near.{Counted, Reaches, upto};
 ghost use Rattle.pick.specs.Choice.{Picked};
 ghost use Rattle.pick.specs.Whole.{every, Gathers, Leaps};
-use round::Round;
 use crate::choice::Pick;
 use crate::lead::score_of;
 use crate::stretch::stretch_of;
+use round::Round;
 use tally::near::Reach;
 use tally::rows::due_at;
 use tally::rows::key_of;
@@ -45,7 +45,11 @@ fn gather(table: &[u8], round: Round, from: u32) -> Gathered
             later = larger(later, key);
         }
     }
-    Gathered { first, later, light }
+    Gathered {
+        first,
+        later,
+        light,
+    }
 }
 
 fn due_of(key: u64) -> u32

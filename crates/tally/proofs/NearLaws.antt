@@ -1,11 +1,10 @@
 -- Counts by bucket, and the sweep over them. Assumes nothing.
 use mathlib.Core.Path.{_≡_, refl, sym, ap, _∙_}
 use mathlib.Core.Logic.{_⊎_, inl, inr}
-use mathlib.Core.List.{List, [], _∷_}
+use mathlib.Core.List.{List}
 use Prim.Native.Nat.{ℕ, zero, suc, _+_, _*_, _-_, _≤_, _<_, min}
 use native.Mathlib.Omega.{arith}
 use native.Mathlib.Numerals.{add-one}
-use lib.Dec.{eqb}
 use lib.ListN.{length, getD, set, take, replicate, length-set, length-take, length-replicate, getD-replicate}
 use lib.Seq.{getD-set-same, getD-set-other, take-length}
 use borrow.Author.Tests.{eq-eqb, ne-eqb}
@@ -13,7 +12,7 @@ use Rattle.rules.specs.Rows.{Row, Round, blank}
 use Rattle.rules.specs.Table.{round-in}
 use Rattle.theory.specs.Tests.{leb?, eqb?}
 use Rattle.theory.specs.Sum.{sum, sum-le, length-sum}
-use Rattle.theory.specs.Count.{bucket, in-bucket, under, counts-next, counts-none, Sweep, sweep-start, sweep-more, sweep-idle, sweep-near, sweep-none}
+use Rattle.theory.specs.Count.{bucket, in-bucket, counts-next, counts-none, Sweep, sweep-start, sweep-more, sweep-idle, sweep-near, sweep-none}
 use Rattle.theory.specs.Index.{sum-next}
 use Rattle.round.specs.declared.Round.{Round as Head}
 use Rattle.tally.specs.Rows.{Ready, Due-at, at, top-of, place}

@@ -1,12 +1,12 @@
 -- A sound table's rows by index, as the code reads them. Assumes nothing.
 use mathlib.Core.Path.{_≡_, sym, ap, _∙_}
 use mathlib.Core.List.{List}
-use Prim.Native.Nat.{ℕ, zero, suc, _+_, _*_, _≤_, _<_}
+use Prim.Native.Nat.{ℕ, zero, suc, _+_, _≤_, _<_}
 use native.Mathlib.Omega.{arith}
 use lib.ListN.{length, getD, drop}
 use Rattle.rules.specs.Rows.{Row, row, round, blank}
-use Rattle.rules.specs.Table.{field, rows-in, rows-of, round-in}
-use Rattle.rules.specs.Conditions.{row-at, used-in, due-in, weight-in}
+use Rattle.rules.specs.Table.{field, rows-in, round-in}
+use Rattle.rules.specs.Conditions.{row-at, used-in}
 use Rattle.theory.specs.All.{all-in}
 use Rattle.theory.specs.Full.{Fine, Row-fine}
 use Rattle.theory.specs.Keys.{getD-in}

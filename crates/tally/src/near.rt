@@ -1,9 +1,9 @@
 // How far the plan is full, by counts of all rows.
 ghost use mathlib.Core.Path.{_≡_};
-ghost use Prim.Native.Nat.{ℕ, _+_, _-_, _≤_};
+ghost use Prim.Native.Nat.{_+_, _-_, _≤_};
 ghost use lib.ListN.{replicate};
 ghost use Rattle.rules.specs.Table.{round-in};
-ghost use Rattle.tally.specs.Rows.{Ready, top-of};
+ghost use Rattle.tally.specs.Rows.{Ready};
 ghost use Rattle.tally.specs.Near.{Counted, Swept, Reaches, first-free};
 use crate::rows::bucket_of;
 use crate::rows::due_at;

@@ -1,9 +1,9 @@
 // A row's due slot, weight, bucket and key.
 ghost use mathlib.Core.Path.{_≡_};
-ghost use Prim.Native.Nat.{ℕ, _-_, _/_, _≤_, _<_, max, min};
+ghost use Prim.Native.Nat.{_-_, _/_, _≤_, _<_, max, min};
 ghost use Rattle.rules.specs.Table.{round-in};
 ghost use Rattle.theory.specs.Keys.{key};
-ghost use Rattle.tally.specs.Rows.{Ready, Due-at, Weight-at, top-of, place, key-at};
+ghost use Rattle.tally.specs.Rows.{Ready, Due-at, Weight-at};
 use round::Round;
 use round::bytes::read2;
 use round::bytes::read4;

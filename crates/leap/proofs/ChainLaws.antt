@@ -26,13 +26,14 @@ use Rattle.theory.specs.Leaping.{rising-moves, moved-ticket}
 use Rattle.theory.specs.Segments.{Segment, segment-made, segment-end, segment-some, segment-mark}
 use Rattle.theory.specs.Whole.{length-moves}
 use Rattle.theory.specs.Count.{counts-next, kept-counts}
-use Rattle.pick.specs.Rows.{at, key-at, place, top-of}
-use Rattle.pick.specs.Near.{before, Counted}
-use Rattle.pick.specs.Tally.{kept-key, Tops}
+use Rattle.tally.specs.Rows.{at, key-at, place, top-of}
+use Rattle.tally.specs.Near.{before, Counted}
+use Rattle.tally.specs.Tally.{kept-key, Tops}
 use Rattle.pick.specs.Lead.{most-key}
-use Rattle.pick.specs.declared.near.Reach.{Reach}
-use Rattle.pick.proofs.NearLaws.{enough}
-use Rattle.pick.proofs.PeakLaws.{Peak, peak-none, peak-more}
+use Rattle.tally.specs.declared.near.Reach.{Reach}
+use Rattle.tally.proofs.NearLaws.{enough}
+use Rattle.pick.specs.Peak.{Peak}
+use Rattle.pick.proofs.PeakLaws.{peak-none, peak-more}
 use Rattle.pick.proofs.SceneLaws.{Scene, Heaviest, plan-rows, fine-at, from-place, before-place, place-from, place-before, free-high, key-some, key-most, weight-key, kept-is, peak-heaviest, heaviest-in, heaviest-over}
 use Rattle.pick.proofs.LeadLaws.{segment-key}
 use Rattle.leap.specs.Marks.{Marks}

@@ -9,7 +9,7 @@ use lib.Dec.{leb, eqb}
 use borrow.Author.Tests.{eqb-true, leb-true, eq-eqb, le-leb}
 use lib.ListN.{length, getD}
 use Rattle.theory.specs.Tests.{and-true, eqb?}
-use Rattle.pick.specs.Near.{upto}
+use Rattle.tally.specs.Near.{upto}
 use Rattle.leap.specs.Chain.{Ends, First-end}
 
 -- the walk at bucket s

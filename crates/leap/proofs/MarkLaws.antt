@@ -19,7 +19,7 @@ use Rattle.theory.specs.Full.{Fine, Row-fine}
 use Rattle.theory.specs.Flags.{raised, Chosen, with-flag, raised-at}
 use Rattle.theory.specs.Index.{chosen-index, flag-in}
 use Rattle.theory.specs.Keys.{getD-in}
-use Rattle.pick.specs.Rows.{at}
+use Rattle.tally.specs.Rows.{at}
 use Rattle.pick.specs.Lead.{Lightest, Least-by}
 use Rattle.leap.specs.Marks.{Blank-marks, ahead, lowered, Weighs, Own-marks, lowest, Lowered, Marks}
 

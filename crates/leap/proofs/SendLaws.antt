@@ -21,12 +21,12 @@ use Rattle.theory.specs.Sane.{Sane, sound}
 use Rattle.theory.specs.Whole.{Sends, sends-silence, sends-first, sends-far, sends-kept, sends-row}
 use Rattle.round.specs.declared.Round.{Round as Head}
 use Rattle.round.proofs.NumberLaws.{field-suc, field-zero}
-use Rattle.pick.specs.Rows.{Ready, at, key-at}
-use Rattle.pick.specs.Near.{Reaches}
+use Rattle.tally.specs.Rows.{Ready, at, key-at}
+use Rattle.tally.specs.Near.{Reaches}
 use Rattle.pick.specs.Lead.{Least-by}
 use Rattle.pick.specs.Choice.{Leading, Within, Picks-first, Picks-far, Picks-later, None-left, Heaviest-left}
-use Rattle.pick.specs.declared.near.Reach.{Reach}
-use Rattle.pick.proofs.RowLaws.{known, at-is, reads-within}
+use Rattle.tally.specs.declared.near.Reach.{Reach}
+use Rattle.tally.proofs.RowLaws.{known, at-is, reads-within}
 use Rattle.pick.proofs.SceneLaws.{Scene, scene, plan-rows, fine-at, free-high}
 use Rattle.theory.specs.Close.{closed, after-slot}
 use Rattle.leap.specs.Close.{closed-up}

@@ -10,9 +10,9 @@ use Rattle.theory.specs.Feas.{num}
 use Rattle.theory.specs.Flags.{Chosen, with-flag}
 use Rattle.theory.specs.Sane.{sound}
 use Rattle.round.specs.declared.Round.{Round as Head}
-use Rattle.pick.specs.Rows.{Ready}
-use Rattle.pick.specs.Near.{before}
-use Rattle.pick.specs.declared.near.Reach.{Reach}
+use Rattle.tally.specs.Rows.{Ready}
+use Rattle.tally.specs.Near.{before}
+use Rattle.tally.specs.declared.near.Reach.{Reach}
 use Rattle.pick.proofs.SceneLaws.{Scene, scene}
 use Rattle.leap.specs.Chain.{Named, linked, passed, passed-bytes, Fair-links, Chained, Shifts}
 use Rattle.leap.specs.declared.chain.Links.{Links}

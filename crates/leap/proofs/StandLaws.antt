@@ -28,7 +28,7 @@ use Rattle.theory.specs.Whole.{Sends, sends-answer}
 use Rattle.theory.specs.Sender.{left-sent}
 use Rattle.round.specs.Head.{Head-of}
 use Rattle.round.specs.declared.Round.{Round as Head}
-use Rattle.pick.specs.Rows.{Ready}
+use Rattle.tally.specs.Rows.{Ready}
 use Rattle.leap.specs.Close.{closed-up}
 use Rattle.leap.specs.Chain.{having}
 use Rattle.leap.specs.Send.{Went-of, went-out, went-step, Sent-says}

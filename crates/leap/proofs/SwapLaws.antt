@@ -31,12 +31,12 @@ use Rattle.theory.specs.Segments.{Segment}
 use Rattle.theory.specs.Cover.{some-segment}
 use Rattle.theory.specs.Whole.{Sends, sends-row, length-moves}
 use Rattle.round.specs.declared.Round.{Round as Head}
-use Rattle.pick.specs.Rows.{Ready, at, key-at, top-of}
-use Rattle.pick.specs.Near.{Reaches, before, upto}
+use Rattle.tally.specs.Rows.{Ready, at, key-at, top-of}
+use Rattle.tally.specs.Near.{Reaches, before, upto}
 use Rattle.pick.specs.Lead.{Lightest}
 use Rattle.pick.specs.Choice.{Picks-later, Heaviest-left}
-use Rattle.pick.specs.declared.near.Reach.{Reach}
-use Rattle.pick.proofs.NearLaws.{enough, upto-is}
+use Rattle.tally.specs.declared.near.Reach.{Reach}
+use Rattle.tally.proofs.NearLaws.{enough, upto-is}
 use Rattle.pick.proofs.SceneLaws.{Scene, scene, plan-rows, fine-at, free-high}
 use Rattle.leap.specs.Close.{closed-up}
 use Rattle.leap.specs.Marks.{Marks}

@@ -14,11 +14,11 @@ use Rattle.theory.specs.Feas.{num}
 use Rattle.theory.specs.Flags.{with-flag}
 use Rattle.theory.specs.Chain.{Chain, moves}
 use Rattle.theory.specs.Segments.{Segment}
-use Rattle.pick.specs.Rows.{place}
-use Rattle.pick.specs.Near.{Counted, Reaches, upto}
-use Rattle.pick.specs.Tally.{kept-key, Tops}
+use Rattle.tally.specs.Rows.{place}
+use Rattle.tally.specs.Near.{Counted, Reaches, upto}
+use Rattle.tally.specs.Tally.{kept-key, Tops}
 use Rattle.pick.specs.Lead.{most-key}
-use Rattle.pick.specs.declared.near.Reach.{Reach}
+use Rattle.tally.specs.declared.near.Reach.{Reach}
 use Rattle.leap.specs.Marks.{Marks}
 use Rattle.leap.specs.declared.chain.Links.{Links}
 

@@ -9,7 +9,7 @@ use lib.ListN.{length, getD, set}
 use Rattle.rules.specs.Limits.{most-weight}
 use Rattle.rules.specs.Rows.{Round}
 use Rattle.theory.specs.Flags.{raised}
-use Rattle.pick.specs.Rows.{at}
+use Rattle.tally.specs.Rows.{at}
 use Rattle.pick.specs.Lead.{Least-by}
 
 -- nothing found yet

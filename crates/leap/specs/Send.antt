@@ -8,10 +8,10 @@ use Rattle.rules.specs.Rows.{Row, Round, row}
 use Rattle.rules.specs.Calls.{Out, Step, out-of, sending, ordinary, leap, step, answer, left}
 use Rattle.theory.specs.Flags.{with-flag}
 use Rattle.theory.specs.Whole.{Sends}
-use Rattle.pick.specs.Rows.{at, key-at, place}
-use Rattle.pick.specs.Near.{Counted, Reaches}
-use Rattle.pick.specs.Tally.{kept-key, Tops}
-use Rattle.pick.specs.declared.near.Reach.{Reach}
+use Rattle.tally.specs.Rows.{at, key-at, place}
+use Rattle.tally.specs.Near.{Counted, Reaches}
+use Rattle.tally.specs.Tally.{kept-key, Tops}
+use Rattle.tally.specs.declared.near.Reach.{Reach}
 use Rattle.leap.specs.declared.send.Went.{Went}
 
 -- the row that goes, and the kind of step

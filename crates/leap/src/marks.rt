@@ -4,10 +4,10 @@ ghost use Prim.Native.Nat.{ℕ, _≤_, _<_, min};
 ghost use lib.ListN.{length};
 ghost use Rattle.rules.specs.Table.{round-in};
 ghost use Rattle.theory.specs.Flags.{Chosen};
-ghost use Rattle.pick.specs.Rows.{Ready};
+ghost use Rattle.tally.specs.Rows.{Ready};
 ghost use Rattle.leap.specs.Marks.{Blank-marks, Lowered, lowered, Own-marks, Marks};
-use pick::rows::due_at;
-use pick::rows::weight_at;
+use tally::rows::due_at;
+use tally::rows::weight_at;
 use round::Round;
 
 fn smaller(a: u32, b: u32) -> u32

@@ -7,7 +7,7 @@ use Rattle.leap.proofs.chain.end_from.Tie as tie
 use Rattle.leap.proofs.chain.end_from.Reads as reads
 use Rattle.leap.proofs.chain.end_from.Lts as lts
 use Rattle.leap.proofs.chain.is_end.Reads as is-end-reads
-use Rattle.pick.proofs.rows.wide.Reads as wide-reads
+use Rattle.tally.proofs.rows.wide.Reads as wide-reads
 
 abbrev Inv-loop : tie.InvT-loop
 Inv-loop counts last bucket free s₀ under₀ s under = Ending counts last bucket free s under

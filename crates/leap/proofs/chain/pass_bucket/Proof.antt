@@ -5,8 +5,8 @@ use Rattle.leap.proofs.chain.pass_bucket.Tie as tie
 use Rattle.leap.proofs.chain.pass_bucket.Reads as reads
 use Rattle.leap.proofs.chain.pass_bucket.Lts as lts
 use Rattle.leap.proofs.chain.pass_end.Reads as pass-end-reads
-use Rattle.pick.proofs.rows.larger.Reads as larger-reads
-use Rattle.pick.proofs.rows.wide.Reads as wide-reads
+use Rattle.tally.proofs.rows.larger.Reads as larger-reads
+use Rattle.tally.proofs.rows.wide.Reads as wide-reads
 
 -- src/chain.rt:105:36
 mul-wide : tie.Need-mul-wide

@@ -8,8 +8,8 @@ use Rattle.leap.proofs.marks.lower_mark.Tie as tie
 use Rattle.leap.proofs.marks.lower_mark.Reads as reads
 use Rattle.leap.proofs.marks.lower_mark.Lts as lts
 use Rattle.leap.proofs.marks.smaller.Reads as smaller-reads
-use Rattle.pick.proofs.rows.due_at.Reads as due-at-reads
-use Rattle.pick.proofs.rows.weight_at.Reads as weight-at-reads
+use Rattle.tally.proofs.rows.due_at.Reads as due-at-reads
+use Rattle.tally.proofs.rows.weight_at.Reads as weight-at-reads
 
 -- src/marks.rt:38:8
 shared-slice-read-if1 : tie.Need-shared-slice-read-if1

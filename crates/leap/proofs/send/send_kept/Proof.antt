@@ -1,6 +1,6 @@
 use native.Mathlib.Omega.{arith}
 use Rattle.leap.proofs.HeadLaws.{head-slot, slot-small}
-use Rattle.pick.proofs.RowLaws.{known, reads-within}
+use Rattle.tally.proofs.RowLaws.{known, reads-within}
 use Rattle.leap.proofs.SendLaws.{named-used, later-small, by-slot, head-first, kept-stood, kept-says}
 use borrow.Author.Needs.{needs}
 use Rattle.leap.proofs.send.send_kept.Statement.{statement}

@@ -1,6 +1,6 @@
 use native.Mathlib.Omega.{arith}
 use mathlib.Core.Path.{refl}
-use Rattle.pick.proofs.RowLaws.{known, reads-within}
+use Rattle.tally.proofs.RowLaws.{known, reads-within}
 use Rattle.leap.proofs.SwapLaws.{swap-ahead, swap-ends, to-small, swap-chained, swap-long, swap-stood, swap-says}
 use Rattle.leap.proofs.SendLaws.{named-used}
 use borrow.Author.Needs.{needs}

@@ -1,6 +1,6 @@
 use native.Mathlib.Omega.{arith}
 use mathlib.Core.Path.{refl}
-use Rattle.pick.proofs.RowLaws.{reads-within}
+use Rattle.tally.proofs.RowLaws.{reads-within}
 use Rattle.leap.proofs.SendLaws.{went-read}
 use borrow.Author.Needs.{needs}
 use Rattle.leap.proofs.send.went_of.Statement.{statement}

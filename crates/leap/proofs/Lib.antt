@@ -1,13 +1,3 @@
-pub mod CopyLaws
-pub mod WriteLaws
-pub mod HeadLaws
-pub mod CloseLaws
-pub mod MarkLaws
-pub mod EndLaws
-pub mod LinkLaws
-pub mod MoveLaws
-pub mod ChainLaws
-pub mod ShiftLaws
 pub mod StandLaws
 pub mod SendLaws
 pub mod SwapLaws

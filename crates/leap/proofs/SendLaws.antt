@@ -1,41 +1,37 @@
 -- The ways of sending, from what the pick says. Assumes nothing.
 use mathlib.Core.Path.{_≡_, refl, sym, ap, ap₂, _∙_, subst}
-use mathlib.Core.Logic.{inl, inr, _≢_}
-use mathlib.Core.Bool.{Bool, true, false, not}
+use mathlib.Core.Bool.{Bool, true, false}
 use mathlib.Core.List.{List, [], _∷_, _++_}
-use Prim.Native.Nat.{ℕ, suc, _+_, _*_, _-_, _/_, _%_, _≤_, _<_}
+use Prim.Native.Nat.{ℕ, suc, _+_, _≤_, _<_}
 use native.Mathlib.Omega.{arith}
 use lib.ListN.{length, getD}
 use lib.Seq.{sets}
-use Rattle.rules.specs.Rows.{Row, Round, round, row, blank, All, In}
-use Rattle.rules.specs.Plan.{plan, in-plan, tight-after, segment-start, planned}
+use Rattle.rules.specs.Rows.{Row, Round, row, blank}
+use Rattle.rules.specs.Plan.{planned}
 use Rattle.rules.specs.Steps.{changed}
-use Rattle.rules.specs.Conditions.{row-at, ticket-in, kind-in}
+use Rattle.rules.specs.Conditions.{row-at}
 use Rattle.rules.specs.Table.{low, field, table, round-in}
-use Rattle.theory.specs.Full.{Fine, Row-fine, plan-feas}
 use Rattle.theory.specs.Flags.{Chosen, with-flag}
-use Rattle.theory.specs.Keys.{key, key-index, key-due, getD-in}
+use Rattle.theory.specs.Keys.{key, key-index}
 use Rattle.theory.specs.Members.{Rows, planned-rows, of-rows-fine}
-use Rattle.theory.specs.Soundness.{row-in}
-use Rattle.theory.specs.Sane.{Sane, sound}
-use Rattle.theory.specs.Whole.{Sends, sends-silence, sends-first, sends-far, sends-kept, sends-row}
-use Rattle.round.specs.declared.Round.{Round as Head}
+use Rattle.theory.specs.Sane.{sound}
+use Rattle.theory.specs.Whole.{Sends, sends-silence, sends-first, sends-far, sends-kept}
 use Rattle.round.proofs.NumberLaws.{field-suc, field-zero}
 use Rattle.tally.specs.Rows.{Ready, at, key-at}
 use Rattle.tally.specs.Near.{Reaches}
 use Rattle.pick.specs.Lead.{Least-by}
-use Rattle.pick.specs.Choice.{Leading, Within, Picks-first, Picks-far, Picks-later, None-left, Heaviest-left}
+use Rattle.pick.specs.Choice.{Picks-first, Picks-far, Picks-later, None-left}
 use Rattle.tally.specs.declared.near.Reach.{Reach}
 use Rattle.tally.proofs.RowLaws.{known, at-is, reads-within}
 use Rattle.pick.proofs.SceneLaws.{Scene, scene, plan-rows, fine-at, free-high}
 use Rattle.theory.specs.Close.{closed, after-slot}
-use Rattle.leap.specs.Close.{closed-up}
-use Rattle.leap.specs.Chain.{row-named, due-named, having}
+use Rattle.round.specs.declared.Round.{Round as Head}
+use Rattle.closing.specs.Close.{closed-up}
+use Rattle.shifting.specs.Chain.{row-named}
 use Rattle.leap.specs.Send.{Went-of, Alone, Sent-says}
 use Rattle.leap.specs.declared.send.Went.{Went}
-use Rattle.leap.proofs.HeadLaws.{head-slot, head-used, table-room, slot-small}
-use Rattle.leap.proofs.MoveLaws.{table-kept, table-weight, moves-other}
-use Rattle.leap.proofs.StandLaws.{Rows-fit, Stood, stood, stood-closed, alone-closed, self-table, sent-says, fit-self, fit-changed, fit-moves}
+use Rattle.shifting.proofs.MoveLaws.{table-kept}
+use Rattle.leap.proofs.StandLaws.{Stood, stood, stood-closed, alone-closed, self-table, sent-says, fit-self, fit-changed}
 
 -- what went out, as read
 pub went-read : (t : List ℕ) (h : Head) → Ready t h → (i a n b : ℕ) (leaps : Bool) → i < h .used → a ≡ row-at i → n ≡ field (a + 0) 4 t → b ≡ getD t (a + 10) 0 →
@@ -61,10 +57,10 @@ module _ (t : List ℕ) (h : Head) (k : Ready t h) (i o : ℕ) (l : i < length (
 
 -- slots by the head's number
 pub head-first : (t : List ℕ) (h : Head) → Ready t h → (b : ℕ) → h .slot .0 + b ≡ round-in t .slot + b
-head-first t h k b = ap (λ (s : ℕ). s + b) (head-slot t h (k .head))
+head-first t h k b = ap (λ (s : ℕ). s + b) (known t h k .slot)
 
 pub by-slot : (t : List ℕ) (h : Head) → Ready t h → (fs : List ℕ) (e m : ℕ) → Least-by (round-in t) fs (h .slot .0 + e) m → Least-by (round-in t) fs (round-in t .slot + e) m
-by-slot t h k fs e m q = subst (λ (s : ℕ). Least-by (round-in t) fs (s + e) m) (head-slot t h (k .head)) q
+by-slot t h k fs e m q = subst (λ (s : ℕ). Least-by (round-in t) fs (s + e) m) (known t h k .slot) q
 
 -- SILENCE
 no-rows : (xs : List Row) → length xs ≡ 0 → xs ≡ []

@@ -1,19 +1,17 @@
 -- Tables in between: sound ones of the same head, with other rows. Assumes nothing.
-use mathlib.Core.Path.{_≡_, refl, sym, ap, ap₂, _∙_}
-use mathlib.Core.Logic.{inl, inr}
+use mathlib.Core.Path.{_≡_, refl, sym, ap, _∙_}
 use mathlib.Core.Bool.{Bool, true, false, not, cond}
 use mathlib.Core.List.{List, [], _∷_}
-use Prim.Native.Nat.{ℕ, suc, _+_, _*_, _≤_, _<_, max}
+use Prim.Native.Nat.{ℕ, suc, _≤_}
 use native.Mathlib.Omega.{arith}
-use lib.Dec.{eqb}
-use lib.ListN.{length, drop, getD}
-use Rattle.rules.specs.Rows.{Row, Round, round, row, blank, All, In}
+use lib.ListN.{length, drop}
+use Rattle.rules.specs.Rows.{Row, Round, round, row, All}
 use Rattle.rules.specs.Plan.{plan, tight-after, mark}
-use Rattle.rules.specs.Steps.{changed, sent}
-use Rattle.rules.specs.Conditions.{used-in, row-at}
+use Rattle.rules.specs.Steps.{changed}
+use Rattle.rules.specs.Conditions.{used-in}
 use Rattle.rules.specs.Table.{table, round-in, table-refusal}
-use Rattle.rules.specs.Calls.{Out, Step, out-of, sending, ordinary, leap, step, answer, left}
-use Rattle.theory.specs.All.{all-in, all-map}
+use Rattle.rules.specs.Calls.{Step, out-of, ordinary, leap, step}
+use Rattle.theory.specs.All.{all-in}
 use Rattle.theory.specs.Full.{Fine, Row-fine, Rising}
 use Rattle.theory.specs.Change.{all-changed, rising-changed}
 use Rattle.theory.specs.Back.{Sized, Kind, read-back, table-good, length-changed}
@@ -22,18 +20,17 @@ use Rattle.theory.specs.Sane.{Sane, sound}
 use Rattle.theory.specs.Marks.{mark-limit}
 use Rattle.theory.specs.Members.{Rows, of-rows-fine, of-rows-in}
 use Rattle.theory.specs.Chain.{Chain, moved-to, moves, end-of}
-use Rattle.theory.specs.Leaping.{mark-in-is}
 use Rattle.theory.specs.Close.{closed, after-slot}
 use Rattle.theory.specs.Whole.{Sends, sends-answer}
 use Rattle.theory.specs.Sender.{left-sent}
 use Rattle.round.specs.Head.{Head-of}
 use Rattle.round.specs.declared.Round.{Round as Head}
+use Rattle.tally.proofs.RowLaws.{known}
 use Rattle.tally.specs.Rows.{Ready}
-use Rattle.leap.specs.Close.{closed-up}
-use Rattle.leap.specs.Chain.{having}
+use Rattle.closing.specs.Close.{closed-up}
+use Rattle.shifting.specs.Chain.{having}
 use Rattle.leap.specs.Send.{Went-of, went-out, went-step, Sent-says}
 use Rattle.leap.specs.declared.send.Went.{Went}
-use Rattle.leap.proofs.HeadLaws.{head-slot, head-last, head-used}
 
 -- rows that a sound table of a round can have
 pub record Rows-fit (r : Round) (xs : List Row) : Type 0 where
@@ -73,9 +70,9 @@ stood t h xs u k f e =
     record {
       sound = ap table-refusal e ∙ table-good (having r xs) fine size (z .some);
       head =
-          head-made u h (head-slot t h (k .head) ∙ sym (ap (λ (y : Round). y .slot) back)) (head-last t h (k .head) ∙ sym (ap (λ (y : Round). y .last) back))
+          head-made u h (known t h k .slot ∙ sym (ap (λ (y : Round). y .slot) back)) (known t h k .last ∙ sym (ap (λ (y : Round). y .last) back))
           (head-next t h (k .head) ∙ sym (ap (λ (y : Round). y .next) back))
-          (head-used t h (k .head) ∙ sym (f .long) ∙ sym (ap (λ (y : Round). length (y .rows)) back))
+          (known t h k .used ∙ sym (f .long) ∙ sym (ap (λ (y : Round). length (y .rows)) back))
           (head-room t h (k .head) ∙ sym (ap (λ (y : Round). y .room) back));
       holds = back;
     }
@@ -104,7 +101,7 @@ pub sent-says : (t : List ℕ) (h : Head) → Ready t h → (p : Row) (leaps : B
     v ≡ table (after-slot (round-in t) (closed (suc (round-in t .slot)) g xs)) → Went-of p leaps w → Sent-says t v w
 unfolding went-step went-out out-of row
 sent-says t h k p leaps g xs v w s e d =
-    let o : round-in t .slot ≤ round-in t .last = omega (arith, k .time, head-slot t h (k .head), head-last t h (k .head)) in
+    let o : round-in t .slot ≤ round-in t .last = omega (arith, k .time, known t h k .slot, known t h k .last) in
     record {
       leaves = e ∙ sym (ap table (s .leaves)) ∙ sym (left-sent t (k .sound) o);
       answers = sends-answer t p (not leaps) g xs (k .sound) o s ∙ ap step (flipped leaps (ordinary (out-of p)) (leap (out-of p)) ∙ (rw (d .leap, d .ticket, d .kind)));

@@ -1,29 +1,29 @@
 -- A leap onto a row left out: where its segment ends, what the pass goes by, and the table in between. Assumes nothing.
 use mathlib.Core.Path.{_≡_, refl, sym, ap, ap₂, _∙_, subst}
 use mathlib.Core.Logic.{inl, inr, _≢_}
-use mathlib.Core.Bool.{Bool, true, false, not}
-use mathlib.Core.List.{List, [], _∷_, _++_}
-use Prim.Native.Nat.{ℕ, suc, _+_, _*_, _-_, _/_, _%_, _≤_, _<_}
+use mathlib.Core.Bool.{true, false}
+use mathlib.Core.List.{List}
+use Prim.Native.Nat.{ℕ, suc, _+_, _-_, _≤_, _<_}
 use native.Mathlib.Omega.{arith}
 use lib.ListN.{length, getD}
 use lib.Seq.{sets}
-use Rattle.rules.specs.Rows.{Row, Round, round, row, blank, All, In}
-use Rattle.rules.specs.Plan.{plan, in-plan, tight-after, segment-start}
+use Rattle.rules.specs.Rows.{Row, Round, row, blank, All, In}
+use Rattle.rules.specs.Plan.{plan, tight-after, segment-start}
 use Rattle.rules.specs.Steps.{changed}
 use Rattle.rules.specs.Conditions.{row-at}
 use Rattle.rules.specs.Table.{low, table, round-in}
-use Rattle.theory.specs.Tests.{leb?, ltb?}
+use Rattle.theory.specs.Tests.{ltb?}
 use Rattle.theory.specs.All.{all-in, all-map}
 use Rattle.theory.specs.Feas.{num}
-use Rattle.theory.specs.Full.{Fine, Row-fine, plan-feas}
+use Rattle.theory.specs.Full.{Row-fine, plan-feas}
 use Rattle.theory.specs.Back.{Kind, length-table}
 use Rattle.theory.specs.Change.{rising-same}
 use Rattle.theory.specs.Marks.{start}
 use Rattle.theory.specs.Flags.{Chosen, with-flag}
 use Rattle.theory.specs.Keys.{key, key-due, getD-in}
 use Rattle.theory.specs.Members.{Rows, of-rows-fine, of-rows-in, not-found}
-use Rattle.theory.specs.Sane.{Sane, sound}
-use Rattle.theory.specs.Chain.{Chain, moves, chain-after}
+use Rattle.theory.specs.Sane.{sound}
+use Rattle.theory.specs.Chain.{moves, chain-after}
 use Rattle.theory.specs.Leaping.{rising-moves}
 use Rattle.theory.specs.Near.{near-out, near-edge, near-next}
 use Rattle.theory.specs.Count.{kept-counts}
@@ -31,21 +31,20 @@ use Rattle.theory.specs.Segments.{Segment}
 use Rattle.theory.specs.Cover.{some-segment}
 use Rattle.theory.specs.Whole.{Sends, sends-row, length-moves}
 use Rattle.round.specs.declared.Round.{Round as Head}
-use Rattle.tally.specs.Rows.{Ready, at, key-at, top-of}
-use Rattle.tally.specs.Near.{Reaches, before, upto}
+use Rattle.tally.proofs.RowLaws.{known}
+use Rattle.tally.specs.Rows.{Ready, at, top-of}
+use Rattle.tally.specs.Near.{before, upto}
 use Rattle.pick.specs.Lead.{Lightest}
 use Rattle.pick.specs.Choice.{Picks-later, Heaviest-left}
 use Rattle.tally.specs.declared.near.Reach.{Reach}
 use Rattle.tally.proofs.NearLaws.{enough, upto-is}
 use Rattle.pick.proofs.SceneLaws.{Scene, scene, plan-rows, fine-at, free-high}
-use Rattle.leap.specs.Close.{closed-up}
-use Rattle.leap.specs.Marks.{Marks}
-use Rattle.leap.specs.Chain.{row-named, due-named, Ends, First-end, Chained, having, Shifts}
+use Rattle.closing.specs.Close.{closed-up}
+use Rattle.shifting.specs.Marks.{Marks}
+use Rattle.shifting.specs.Chain.{row-named, due-named, Ends, First-end, Chained, having, Shifts}
 use Rattle.leap.specs.Send.{Went-of, Notes, Sent-says}
 use Rattle.leap.specs.declared.send.Went.{Went}
-use Rattle.leap.proofs.HeadLaws.{head-slot}
-use Rattle.leap.proofs.MoveLaws.{table-weight, moves-other, length-having}
-use Rattle.leap.proofs.ChainLaws.{before-is, end-before}
+use Rattle.shifting.proofs.MoveLaws.{table-weight, moves-other, length-having}
 use Rattle.leap.proofs.StandLaws.{Rows-fit, Stood, stood, stood-closed, sent-says, fit-self, fit-changed, fit-moves}
 use Rattle.leap.proofs.SendLaws.{named-row}
 
@@ -84,7 +83,7 @@ module _ (t : List ℕ) (h : Head) (k : Ready t h) (fs : List ℕ) (c : Chosen (
   due-is = ap due-named (q .key) ∙ key-due (y .weight) (y .due) (q .row) (omega (arith, q .below, sc .small)) (omega (arith, y-fine .1, sc .cap))
 
   pub swap-ahead : h .slot .0 ≤ due-named oo
-  swap-ahead = omega (arith, due-is, y-fine .0, head-slot t h (k .head))
+  swap-ahead = omega (arith, due-is, y-fine .0, known t h k .slot)
 
   e-near : e < x .free
   e-near = omega (arith, p .within .near)
@@ -102,7 +101,7 @@ module _ (t : List ℕ) (h : Head) (k : Ready t h) (fs : List ℕ) (c : Chosen (
   swap-ends d a =
       record {
         before = e-near;
-        near = omega (arith, a, due-is, y-near, y-fine .0, head-slot t h (k .head));
+        near = omega (arith, a, due-is, y-near, y-fine .0, known t h k .slot);
         small = omega (arith, free-high r fs x sc, sc .small);
         size = nt .counts .size;
         filled = omega (arith, counts-upto (suc e) (omega (arith, e-near)), p .within .segment .end, next-slot e);
@@ -111,7 +110,7 @@ module _ (t : List ℕ) (h : Head) (k : Ready t h) (fs : List ℕ) (c : Chosen (
 
   module _ (d to : ℕ) (a : d ≡ due-named oo - h .slot .0) (f : First-end cs e d (x .free) to) where
     d-is : r .slot + d ≡ y .due
-    d-is = omega (arith, a, due-is, y-fine .0, head-slot t h (k .head))
+    d-is = omega (arith, a, due-is, y-fine .0, known t h k .slot)
 
     to-tight : num 0 (suc (r .slot + to)) rs ≡ suc to
     to-tight = omega (arith, counts-upto (suc to) (omega (arith, f .near)), f .end, next-slot to)

@@ -1,4 +1,1 @@
-pub mod Close
-pub mod Marks
-pub mod Chain
 pub mod Send

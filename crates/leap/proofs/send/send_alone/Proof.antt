@@ -3,11 +3,6 @@ use Rattle.leap.proofs.SendLaws.{named-used, alone-says}
 use borrow.Author.Needs.{needs}
 use Rattle.leap.proofs.send.send_alone.Statement.{statement}
 use Rattle.leap.proofs.send.send_alone.Tie as tie
-use Rattle.leap.proofs.send.send_alone.Reads as reads
-use Rattle.leap.proofs.send.send_alone.Lts as lts
-use Rattle.leap.proofs.chain.row_of.Reads as row-of-reads
-use Rattle.leap.proofs.close.close_up.Reads as close-up-reads
-use Rattle.leap.proofs.send.went_of.Reads as went-of-reads
 
 -- src/send.rt:67:38
 row-of-requires : tie.Need-row-of-requires

@@ -1,17 +1,9 @@
 use native.Mathlib.Omega.{arith}
-use Rattle.leap.proofs.HeadLaws.{head-slot, slot-small}
 use Rattle.tally.proofs.RowLaws.{known, reads-within}
 use Rattle.leap.proofs.SendLaws.{named-used, later-small, by-slot, head-first, kept-stood, kept-says}
 use borrow.Author.Needs.{needs}
 use Rattle.leap.proofs.send.send_kept.Statement.{statement}
 use Rattle.leap.proofs.send.send_kept.Tie as tie
-use Rattle.leap.proofs.send.send_kept.Reads as reads
-use Rattle.leap.proofs.send.send_kept.Lts as lts
-use Rattle.leap.proofs.chain.row_of.Reads as row-of-reads
-use Rattle.leap.proofs.close.close_up.Reads as close-up-reads
-use Rattle.leap.proofs.send.went_of.Reads as went-of-reads
-use Rattle.leap.proofs.write.write_kept.Reads as write-kept-reads
-use Rattle.pick.proofs.lead.least_by.Reads as least-by-reads
 
 -- src/send.rt:78:9
 row-of-requires : tie.Need-row-of-requires
@@ -29,7 +21,7 @@ cast-least-by c = omega (arith, later-small (c .before .before .before .before .
 
 -- src/send.rt:81:46
 add-least-by : tie.Need-add-least-by
-add-least-by c = omega (arith, later-small (c .before .before .before .before .before .before .args .table .now) (c .before .before .before .before .before .before .args .round) (c .before .before .before .before .before .before .pre .0) (c .before .before .before .before .before .before .args .flags .now) (c .before .before .before .before .before .before .pre .1) (c .before .before .before .before .before .before .args .reach) (c .before .before .before .before .before .before .pre .2) (c .before .before .before .before .before .before .args .key) (c .before .before .before .before .before .before .args .first) (c .before .before .before .before .before .before .args .last) (c .before .before .before .before .before .before .pre .3 .0) (c .before .before .before .before .before .before .pre .3 .1) .1, head-slot (c .before .before .before .before .before .before .args .table .now) (c .before .before .before .before .before .before .args .round) (c .before .before .before .before .before .before .pre .0 .head), slot-small (c .before .before .before .before .before .before .args .table .now) (c .before .before .before .before .before .before .pre .0 .sound) .0)
+add-least-by c = omega (arith, later-small (c .before .before .before .before .before .before .args .table .now) (c .before .before .before .before .before .before .args .round) (c .before .before .before .before .before .before .pre .0) (c .before .before .before .before .before .before .args .flags .now) (c .before .before .before .before .before .before .pre .1) (c .before .before .before .before .before .before .args .reach) (c .before .before .before .before .before .before .pre .2) (c .before .before .before .before .before .before .args .key) (c .before .before .before .before .before .before .args .first) (c .before .before .before .before .before .before .args .last) (c .before .before .before .before .before .before .pre .3 .0) (c .before .before .before .before .before .before .pre .3 .1) .1, known (c .before .before .before .before .before .before .args .table .now) (c .before .before .before .before .before .before .args .round) (c .before .before .before .before .before .before .pre .0) .slot, known (c .before .before .before .before .before .before .args .table .now) (c .before .before .before .before .before .before .args .round) (c .before .before .before .before .before .before .pre .0))
 
 -- src/send.rt:81:9
 least-by-requires : tie.Need-least-by-requires
@@ -41,7 +33,7 @@ cast-t16 c = omega (arith, later-small (c .before .before .before .before .befor
 
 -- src/send.rt:82:33
 add-t17 : tie.Need-add-t17
-add-t17 c = omega (arith, later-small (c .before .before .before .before .before .before .before .before .args .table .now) (c .before .before .before .before .before .before .before .before .args .round) (c .before .before .before .before .before .before .before .before .pre .0) (c .before .before .before .before .before .before .before .before .args .flags .now) (c .before .before .before .before .before .before .before .before .pre .1) (c .before .before .before .before .before .before .before .before .args .reach) (c .before .before .before .before .before .before .before .before .pre .2) (c .before .before .before .before .before .before .before .before .args .key) (c .before .before .before .before .before .before .before .before .args .first) (c .before .before .before .before .before .before .before .before .args .last) (c .before .before .before .before .before .before .before .before .pre .3 .0) (c .before .before .before .before .before .before .before .before .pre .3 .1) .0, head-slot (c .before .before .before .before .before .before .before .before .args .table .now) (c .before .before .before .before .before .before .before .before .args .round) (c .before .before .before .before .before .before .before .before .pre .0 .head), slot-small (c .before .before .before .before .before .before .before .before .args .table .now) (c .before .before .before .before .before .before .before .before .pre .0 .sound) .0)
+add-t17 c = omega (arith, later-small (c .before .before .before .before .before .before .before .before .args .table .now) (c .before .before .before .before .before .before .before .before .args .round) (c .before .before .before .before .before .before .before .before .pre .0) (c .before .before .before .before .before .before .before .before .args .flags .now) (c .before .before .before .before .before .before .before .before .pre .1) (c .before .before .before .before .before .before .before .before .args .reach) (c .before .before .before .before .before .before .before .before .pre .2) (c .before .before .before .before .before .before .before .before .args .key) (c .before .before .before .before .before .before .before .before .args .first) (c .before .before .before .before .before .before .before .before .args .last) (c .before .before .before .before .before .before .before .before .pre .3 .0) (c .before .before .before .before .before .before .before .before .pre .3 .1) .0, known (c .before .before .before .before .before .before .before .before .args .table .now) (c .before .before .before .before .before .before .before .before .args .round) (c .before .before .before .before .before .before .before .before .pre .0) .slot, known (c .before .before .before .before .before .before .before .before .args .table .now) (c .before .before .before .before .before .before .before .before .args .round) (c .before .before .before .before .before .before .before .before .pre .0))
 
 -- src/send.rt:82:5
 write-kept-requires : tie.Need-write-kept-requires

@@ -6,11 +6,6 @@ use Rattle.leap.proofs.SendLaws.{first-alone, far-alone}
 use borrow.Author.Needs.{needs}
 use Rattle.leap.proofs.send.send_picked.Statement.{statement}
 use Rattle.leap.proofs.send.send_picked.Tie as tie
-use Rattle.leap.proofs.send.send_picked.Reads as reads
-use Rattle.leap.proofs.send.send_picked.Lts as lts
-use Rattle.leap.proofs.send.send_alone.Reads as send-alone-reads
-use Rattle.leap.proofs.send.send_kept.Reads as send-kept-reads
-use Rattle.leap.proofs.send.send_swapped.Reads as send-swapped-reads
 
 -- src/send.rt:117:23
 enum-known-pick : tie.Need-enum-known-pick

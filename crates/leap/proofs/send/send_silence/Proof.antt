@@ -2,9 +2,6 @@ use Rattle.leap.proofs.SendLaws.{silence-says}
 use borrow.Author.Needs.{needs}
 use Rattle.leap.proofs.send.send_silence.Statement.{statement}
 use Rattle.leap.proofs.send.send_silence.Tie as tie
-use Rattle.leap.proofs.send.send_silence.Reads as reads
-use Rattle.leap.proofs.send.send_silence.Lts as lts
-use Rattle.leap.proofs.close.close_up.Reads as close-up-reads
 
 -- src/send.rt:54:5
 close-up-requires : tie.Need-close-up-requires

@@ -6,16 +6,6 @@ use Rattle.leap.proofs.SendLaws.{named-used}
 use borrow.Author.Needs.{needs}
 use Rattle.leap.proofs.send.send_swapped.Statement.{statement}
 use Rattle.leap.proofs.send.send_swapped.Tie as tie
-use Rattle.leap.proofs.send.send_swapped.Reads as reads
-use Rattle.leap.proofs.send.send_swapped.Lts as lts
-use Rattle.leap.proofs.chain.end_from.Reads as end-from-reads
-use Rattle.leap.proofs.chain.row_of.Reads as row-of-reads
-use Rattle.leap.proofs.chain.shift_chain.Reads as shift-chain-reads
-use Rattle.leap.proofs.close.close_up.Reads as close-up-reads
-use Rattle.leap.proofs.marks.marks_by.Reads as marks-by-reads
-use Rattle.leap.proofs.send.ahead_of.Reads as ahead-of-reads
-use Rattle.leap.proofs.send.went_of.Reads as went-of-reads
-use Rattle.leap.proofs.write.write_weight.Reads as write-weight-reads
 
 -- src/send.rt:100:38
 row-of-requires : tie.Need-row-of-requires

@@ -5,10 +5,6 @@ use Rattle.leap.proofs.SendLaws.{went-read}
 use borrow.Author.Needs.{needs}
 use Rattle.leap.proofs.send.went_of.Statement.{statement}
 use Rattle.leap.proofs.send.went_of.Tie as tie
-use Rattle.leap.proofs.send.went_of.Reads as reads
-use Rattle.leap.proofs.send.went_of.Lts as lts
-use Rattle.round.proofs.bytes.read4.Reads as read4-reads
-use Rattle.round.proofs.rows.row_at.Reads as row-at-reads
 
 -- src/send.rt:40:9
 row-at-requires : tie.Need-row-at-requires

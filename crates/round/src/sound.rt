@@ -1,0 +1,34 @@
+// The judge of a whole table.
+ghost use Rattle.round.specs.Judge.{Judge-says};
+use crate::Round;
+use crate::head::head_is_sound;
+use crate::head::length_is_good;
+use crate::head::read_head;
+use crate::rows::row_at;
+use crate::rows::rows_are_sound;
+use crate::zeros::zeros_from;
+
+// A sound table's head as a value, or the number of the refusal: 2 or 3.
+pub enum Judged {
+    Sound(Round),
+    Refused(u32),
+}
+
+pub fn judge(table: &[u8]) -> Judged
+    ensures { λ r. ⌜ Judge-says (now (table .entry)) r ⌝ }
+{
+    if !length_is_good(table.len()) {
+        return Judged::Refused(2);
+    }
+    let round = read_head(table);
+    if !head_is_sound(table, round) {
+        return Judged::Refused(3);
+    }
+    if !rows_are_sound(table, round) {
+        return Judged::Refused(3);
+    }
+    if !zeros_from(table, row_at(round.used)) {
+        return Judged::Refused(3);
+    }
+    Judged::Sound(round)
+}

@@ -26,11 +26,14 @@ pub record Back-to (cs : List ℕ) (top s : ℕ) (x : Back) : Type 0 where
   pub few : x .over ≤ 65535 * (suc top - s)
   pub back : Back-from (λ v. upto v cs) (suc top) s (x .over) (x .edge)
 
--- a segment begins at bucket b, and none behind it up to mid
+-- A SEGMENT BEGINS at bucket b where every row from b on finds one; the last such bucket up to mid
+abbrev pub Flat : List ℕ → (top b : ℕ) → Type 0
+Flat cs top b = (v : ℕ) → b ≤ v → v ≤ suc top → upto v cs ≤ upto b cs + (v - b)
+
 pub record Begins (cs : List ℕ) (mid top b : ℕ) : Type 0 where
   pub by : b ≤ mid
-  pub flat : (v : ℕ) → b ≤ v → v ≤ suc top → upto v cs ≤ upto b cs + (v - b)
-  pub none : (u : ℕ) → b < u → u ≤ mid → ((v : ℕ) → u ≤ v → v ≤ suc top → upto v cs ≤ upto u cs + (v - u)) → ⊥
+  pub flat : Flat cs top b
+  pub none : (u : ℕ) → b < u → u ≤ mid → Flat cs top u → ⊥
 
 -- THE SEGMENT of a slot
 pub record Spans (r : Round) (s : ℕ) (x : Span) : Type 0 where

@@ -1,6 +1,7 @@
 // The plan's total.
 ghost use mathlib.Core.Path.{_≡_};
 ghost use mathlib.Core.Bool.{cond};
+ghost use Prim.Native.Nat.{_≤_};
 ghost use lib.Dec.{eqb};
 ghost use Rattle.rules.specs.Plan.{total};
 ghost use Rattle.rules.specs.Table.{round-in};
@@ -11,7 +12,7 @@ use round::Round;
 
 // What a row adds, a frame or a kept blank.
 fn added(flag: u8, weight: u32) -> u64
-    ensures { λ r. ⌜ r ≡ cond (eqb flag 1) weight 0 ⌝ }
+    ensures { λ r. ⌜ (r ≡ cond (eqb flag 1) weight 0) × (r ≤ weight) ⌝ }
 {
     if flag == 1 {
         return weight as u64;

@@ -33,7 +33,7 @@ pub fn window_of(round: Round, slot: u32) -> Window
 // The bucket of a row; one past top for a row left out, or due further away.
 fn bucket_in(window: Window, flag: u8, due: u32) -> usize
     requires { ⌜ window .top ≤ 2048 ⌝ }
-    ensures { λ r. ⌜ r ≡ bucket-in window flag due ⌝ }
+    ensures { λ r. ⌜ (r ≡ bucket-in window flag due) × (r ≤ 2049) ⌝ }
 {
     let out = window.top + 1;
     if flag != 1 {

@@ -1,0 +1,6 @@
+pub mod TotalLaws
+pub mod WindowLaws
+pub mod BackLaws
+pub mod SpanLaws
+pub mod MarkLaws
+pub mod SubstituteLaws

@@ -1,8 +1,11 @@
 -- The mark of a slot: 0 far away, else the least weight by the next tight slot. Assumes nothing.
-use mathlib.Core.Path.{_≡_}
+use mathlib.Core.Path.{_≡_, sym, _∙_}
+use mathlib.Core.Bool.{Bool, true, false}
 use mathlib.Core.List.{List}
 use Prim.Native.Nat.{ℕ, suc, _+_, _-_, _≤_, _<_}
 use native.Mathlib.Omega.{arith}
+use lib.Dec.{leb}
+use borrow.Author.Tests.{leb-true, leb-false}
 use Rattle.rules.specs.Rows.{Row, Round, In}
 use Rattle.rules.specs.Plan.{plan, tight-after, mark, planned}
 use Rattle.rules.specs.Table.{round-in}
@@ -19,11 +22,12 @@ use Rattle.pick.specs.declared.near.Reach.{Reach}
 use Rattle.pick.proofs.RowLaws.{known}
 
 -- A FAR SLOT, whatever the plan is
-pub far-is : (t : List ℕ) (h : Head) (x : Reach) (s : ℕ) → Ready t h → Reaches (round-in t) x → h .slot .0 ≤ s → s ≤ h .last .0 → x .free ≤ s - h .slot .0 →
-    mark (round-in t) s ≡ 0
-far-is t h x s k w a b l =
+pub far-is : (t : List ℕ) (h : Head) (x : Reach) (s : ℕ) (far : Bool) → Ready t h → Reaches (round-in t) x → h .slot .0 ≤ s → s ≤ h .last .0 →
+    far ≡ leb (x .free) (s - h .slot .0) → far ≡ true → mark (round-in t) s ≡ 0
+far-is t h x s far k w a b d e =
     let n = known t h k in
     let r = round-in t in
+    let l = leb-true (x .free) (s - h .slot .0) (sym d ∙ e) in
     far-mark r (n .fine) (planned r) (planned-rows r (n .fine)) (r .slot + x .free) (w .near) s (omega (arith, l, a, n .slot)) (omega (arith, b, n .last))
 
 -- A NEAR ONE: some row is due by the next tight slot, so the least weight is a row's
@@ -47,8 +51,9 @@ near-least r f fs c z k s e m h l d g =
           near-mark-least r f (with-flag r fs) (chosen-rows r f fs c) z k s h l (o .row) (o .inside) (omega (arith, o .due, d)) (λ y i j. o .least y i (omega (arith, j, d))),
         )
 
-pub near-is : (t : List ℕ) (h : Head) (fs : List ℕ) (x : Reach) (s e m : ℕ) → Ready t h → Chosen (round-in t) fs → Reaches (round-in t) x → h .slot .0 ≤ s →
-    s - h .slot .0 < x .free → e ≡ tight-after (round-in t) (plan (round-in t)) s → Least-by (round-in t) fs e m → m ≡ mark (round-in t) s
-near-is t h fs x s e m k c w a l d g =
+pub near-is : (t : List ℕ) (h : Head) (fs : List ℕ) (x : Reach) (s e m : ℕ) (far : Bool) → Ready t h → Chosen (round-in t) fs → Reaches (round-in t) x → h .slot .0 ≤ s →
+    far ≡ leb (x .free) (s - h .slot .0) → far ≡ false → e ≡ tight-after (round-in t) (plan (round-in t)) s → Least-by (round-in t) fs e m → m ≡ mark (round-in t) s
+near-is t h fs x s e m far k c w a y z d g =
     let n = known t h k in
+    let l = leb-false (x .free) (s - h .slot .0) (sym y ∙ z) in
     near-least (round-in t) (n .fine) fs c (round-in t .slot + x .free) (w .near) s e m (omega (arith, a, n .slot)) (omega (arith, a, l, n .slot)) d g

@@ -7,6 +7,7 @@ use Prim.Native.Nat.{ℕ, zero, suc, _+_, _-_, _≤_, _<_, min}
 use native.Mathlib.Omega.{arith}
 use lib.ListN.{length, getD}
 use Rattle.rules.specs.Rows.{Row, Round}
+use Rattle.rules.specs.Table.{round-in}
 use Rattle.rules.specs.Plan.{plan, tight, tight-after, segment-start}
 use Rattle.theory.specs.Tests.{leb?, ltb?}
 use Rattle.theory.specs.Sum.{sum-le, length-sum}
@@ -18,7 +19,11 @@ use Rattle.theory.specs.Send.{next-by}
 use Rattle.theory.specs.Slack.{slack, slack-is, tight-least, least-tight}
 use Rattle.theory.specs.Members.{Rows, of-rows-fine}
 use Rattle.theory.specs.Near.{rows-le, rows-feas, start-same}
+use Rattle.theory.specs.Flags.{with-flag, Chosen, chosen-rows}
+use Rattle.round.specs.declared.Round.{Round as Head}
+use Rattle.pick.specs.Rows.{Ready}
 use Rattle.pick.specs.Near.{upto}
+use Rattle.pick.proofs.RowLaws.{known}
 use Rattle.marks.specs.Window.{window-at, Counted-in, Roomy}
 use Rattle.marks.specs.Span.{Back-to, Flat, Begins, Spans}
 use Rattle.marks.specs.declared.window.Window.{Window}
@@ -88,6 +93,7 @@ pub record Bounds (t n s : ℕ) (w : Window) : Type 0 where
   pub low : t ≤ w .low
   pub mid : w .low + w .mid ≡ s
   pub top : w .top ≡ w .mid + n
+  pub few : w .mid ≤ n
   pub side : (w .low ≡ t) ⊎ (w .mid ≡ n)
 
 pub bounds-of : (t n s : ℕ) (w : Window) → t ≤ s → w ≡ window-at t n s → Bounds t n s w
@@ -97,6 +103,7 @@ bounds-of t n s w h e =
       low = omega arith;
       mid = omega arith;
       top = refl;
+      few = omega arith;
       side = elim (leb? (s - t) n) [ inl a ↦ inl (omega (arith, a .1)) | inr a ↦ inr (omega (arith, a .1)) ];
     })
 
@@ -194,3 +201,38 @@ module _ (r : Round) (f : Fine r) (rs : List Row) (c : Rows r rs) (s : ℕ) (fro
   pub spans-is : (x : Back) (b p q : ℕ) → Back-to cs (w .top) (suc (w .mid)) x → Begins cs (w .mid) (w .top) b → p ≡ w .low + b → q ≡ w .low + (x .edge - 1) →
       Spans r s (record { first = p; last = q })
   spans-is x b p q g h d e = record { first = d ∙ sym (first-is b h); last = e ∙ sym (last-is x g) }
+
+-- THE SAME of a ready table
+pub record Viewed (r : Round) (s : ℕ) (w : Window) : Type 0 where
+  pub from : r .slot ≤ s
+  pub by : s ≤ r .last
+  pub is : w ≡ window-at (r .slot) (length (r .rows)) s
+  pub order : w .mid ≤ w .top
+  pub small : w .top ≤ 2048
+  pub low : w .low ≤ 4095
+
+pub viewed : (t : List ℕ) (h : Head) (s : ℕ) (w : Window) → Ready t h → h .slot .0 ≤ s → s ≤ h .last .0 → w ≡ window-at (h .slot .0) (h .used) s → Viewed (round-in t) s w
+viewed t h s w k a b e =
+    let n = known t h k in
+    let m = bounds-of (h .slot .0) (h .used) s w a e in
+    record {
+      from = omega (arith, a, n .slot);
+      by = omega (arith, b, n .last);
+      is = e ∙ ap (λ (v : ℕ). window-at v (h .used) s) (n .slot) ∙ ap (λ (v : ℕ). window-at (round-in t .slot) v s) (n .used);
+      order = omega (arith, m .top);
+      small = omega (arith, m .few, m .top, n .used, n .small);
+      low = omega (arith, m .mid, b, n .last, n .cap);
+    }
+
+pub viewed-room : (t : List ℕ) (h : Head) (fs : List ℕ) (s : ℕ) (w : Window) (cs : List ℕ) → Ready t h → Chosen (round-in t) fs → Viewed (round-in t) s w →
+    Counted-in (with-flag (round-in t) fs) w cs → Roomy cs (w .mid) (w .top)
+viewed-room t h fs s w cs k c v g =
+    let f = known t h k .fine in
+    room (round-in t) f (with-flag (round-in t) fs) (chosen-rows (round-in t) f fs c) s (v .from) (v .by) w (v .is) cs g
+
+pub viewed-spans : (t : List ℕ) (h : Head) (fs : List ℕ) (s : ℕ) (w : Window) (cs : List ℕ) (x : Back) (b p q : ℕ) → Ready t h → Chosen (round-in t) fs → Viewed (round-in t) s w →
+    Counted-in (with-flag (round-in t) fs) w cs → Back-to cs (w .top) (suc (w .mid)) x → Begins cs (w .mid) (w .top) b → p ≡ w .low + b → q ≡ w .low + (x .edge - 1) →
+    Spans (round-in t) s (record { first = p; last = q })
+viewed-spans t h fs s w cs x b p q k c v g =
+    let f = known t h k .fine in
+    spans-is (round-in t) f (with-flag (round-in t) fs) (chosen-rows (round-in t) f fs c) s (v .from) (v .by) w (v .is) cs g x b p q

@@ -211,3 +211,16 @@ module _ (r : Round) (f : Fine r) (time : r .slot ≤ r .last) (small : length (
     | inl a ↦ absurd (omega (arith, e, first-some (a .1)))
     | inr a ↦ later-blank (a .1) e
   ]
+
+-- THE SAME of a ready table
+module _ (t : List ℕ) (h : Head) (fs : List ℕ) (i d : ℕ) (x : Span) (o : Offer) (k : Ready t h) (c : Chosen (round-in t) fs) (l : i < h .used) (on : getD fs i 0 ≡ 1)
+    (a : Due-at (round-in t) i d) (w : Spans (round-in t) d x) (b : Best-offer (round-in t) fs x o) where
+  pub row-is : (o .number ≡ 0 → ⊥) → Substitutes (round-in t) i (Row-at (o .row))
+  row-is =
+      let n = known t h k in
+      answer-row (round-in t) (n .fine) (n .time) (n .small) (n .cap) fs c i (omega (arith, l, n .used)) on x (subst (λ (v : ℕ). Spans (round-in t) v x) (a .is) w) o b
+
+  pub blank-is : o .number ≡ 0 → Substitutes (round-in t) i (Blank (x .first))
+  blank-is =
+      let n = known t h k in
+      answer-blank (round-in t) (n .fine) (n .time) (n .small) (n .cap) fs c i (omega (arith, l, n .used)) on x (subst (λ (v : ℕ). Spans (round-in t) v x) (a .is) w) o b

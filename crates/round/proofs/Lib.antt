@@ -1,5 +1,7 @@
 pub mod NumberLaws
 pub mod ZeroLaws
 pub mod RowLaws
-pub mod WriteLaws
+pub mod HeadLaws
 pub mod JudgeLaws
+pub mod WriteLaws
+pub mod TableLaws

@@ -1,20 +1,18 @@
--- The judges of rows and head, as the code tests them. Assumes nothing.
+-- The judge of rows, as the code tests them. Assumes nothing.
 use mathlib.Core.Path.{_≡_, refl, sym, ap, ap₂, _∙_}
 use mathlib.Core.Bool.{Bool, true, false, _&&_}
-use mathlib.Core.List.{List, _∷_}
+use mathlib.Core.List.{List}
 use Prim.Native.Nat.{ℕ, suc, _+_, _*_, _-_, _≤_, _<_}
 use native.Mathlib.Omega.{arith}
 use native.Mathlib.Numerals.{add-one}
 use lib.Dec.{ltb, leb, eqb}
 use lib.ListN.{length, getD, take, drop, length-drop}
 use lib.Seq.{drop-cons, drop-drop, take-all, getD-take, getD-drop}
-use Rattle.rules.specs.Table.{value, field}
-use Rattle.theory.specs.Judge.{zeros, row-judged, rows-judged, head-judged}
+use Rattle.rules.specs.Table.{field}
+use Rattle.theory.specs.Judge.{zeros, row-judged, rows-judged}
 use Rattle.theory.specs.Fields.{zeros-at}
-use Rattle.round.specs.Head.{Head-of}
-use Rattle.round.specs.declared.Round.{Round}
 use Rattle.round.proofs.NumberLaws.{field-suc, field-zero}
-use Rattle.round.proofs.ZeroLaws.{value-small, zeros-split, zeros-field, zeros-rest}
+use Rattle.round.proofs.ZeroLaws.{value-small, zeros-rest}
 
 -- eight bytes are at most 1 as a number when the first is and the others are zero
 pub word-small : (xs : List ℕ) (a : ℕ) → a < length xs → leb (field a 8 xs) 1 ≡ leb (getD xs a 0) 1 && zeros (take 7 (drop (a + 1) xs))
@@ -74,12 +72,3 @@ unfolding rows-judged
 rows-none s l n b bs u i h =
     let e : u - i ≡ 0 = omega arith in
     rw e
-
--- THE HEAD
-pub head-is : (t : List ℕ) (h : Round) → Head-of t h →
-    (leb (h .used) (h .room) && leb (h .last .0) 4095)
-    && ((leb (h .slot .0) (h .last .0 + 1) && (leb 1 (h .next .0) && leb (h .next .0) 16777216)) && (eqb (field 10 2 t) 0 && eqb (field 12 4 t) 0))
-    ≡ head-judged t
-unfolding head-judged
-head-is t h d =
-    rw (d .slot, d .last, d .next, d .used, d .room, add-one, zeros-split t 10 2 4, zeros-field t 12 4)

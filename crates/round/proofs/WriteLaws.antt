@@ -1,5 +1,5 @@
 -- Head and rows written. Assumes nothing.
-use mathlib.Core.Path.{_≡_, refl, sym, ap, _∙_}
+use mathlib.Core.Path.{_≡_, refl, ap, _∙_}
 use mathlib.Core.List.{List, [], _∷_, _++_}
 use Prim.Native.Nat.{ℕ, zero, suc, _+_, _≤_}
 use native.Mathlib.Omega.{arith}
@@ -7,7 +7,7 @@ use lib.ListN.{length, getD, set, drop}
 use lib.Seq.{sets}
 use Rattle.rules.specs.Table.{low}
 use Rattle.theory.specs.Close.{head-bytes}
-use Rattle.round.specs.Row.{row-numbers}
+use Rattle.round.specs.Numbers.{head-numbers, row-numbers}
 
 -- A ROW's four stores are one
 pub row-stored : (t u v w : List ℕ) (a k d m b : ℕ) → u ≡ sets t (a + 0) (low 4 k) → v ≡ sets u (a + 4) (low 2 d) → w ≡ sets v (a + 6) (low 4 m) →
@@ -31,16 +31,20 @@ spelt zero t h = refl
 spelt (suc n) [] h = absurd (omega arith)
 spelt (suc n) (b ∷ t) h = ap (λ (bs : List ℕ). b ∷ bs) (spelt n t (omega arith))
 
--- A HEAD's six stores
+-- A HEAD's four stores
 abbrev stores : (s l n c : ℕ) → List ℕ → List ℕ
-stores s l n c bs = sets (sets (sets (sets (sets (sets bs 0 (low 2 s)) 2 (low 2 l)) 4 (low 4 n)) 8 (low 2 c)) 10 (low 2 0)) 12 (low 4 0)
+stores s l n c bs = sets (sets (sets (sets bs 0 (low 2 s)) 2 (low 2 l)) 4 (low 4 n)) 8 (low 2 c)
 
-stores-head : (s l n c : ℕ) (t bs : List ℕ) → stores s l n c (firsts 16 t ++ bs) ≡ head-bytes s l n c ++ bs
-unfolding firsts low head-bytes
+stores-head : (s l n c : ℕ) (t bs : List ℕ) → stores s l n c (firsts 10 t ++ bs) ≡ head-numbers s l n c ++ bs
+unfolding firsts low head-numbers
 stores-head s l n c t bs = refl
 
-pub head-stored : (t u v w x y z : List ℕ) (s l n c : ℕ) → 16 ≤ length t →
-    u ≡ sets t 0 (low 2 s) → v ≡ sets u 2 (low 2 l) → w ≡ sets v 4 (low 4 n) → x ≡ sets w 8 (low 2 c) → y ≡ sets x 10 (low 2 0) →
-    z ≡ sets y 12 (low 4 0) → z ≡ head-bytes s l n c ++ drop 16 t
-head-stored t u v w x y z s l n c h e f g i j k =
-    rw (k, j, i, g, f, e) (ap (stores s l n c) (spelt 16 t h) ∙ stores-head s l n c t (drop 16 t))
+pub head-stored : (t u v w x : List ℕ) (s l n c : ℕ) → 10 ≤ length t →
+    u ≡ sets t 0 (low 2 s) → v ≡ sets u 2 (low 2 l) → w ≡ sets v 4 (low 4 n) → x ≡ sets w 8 (low 2 c) → x ≡ head-numbers s l n c ++ drop 10 t
+head-stored t u v w x s l n c h e f g i =
+    rw (i, g, f, e) (ap (stores s l n c) (spelt 10 t h) ∙ stores-head s l n c t (drop 10 t))
+
+-- over a whole head they leave a whole head
+pub head-over : (s l n c t k m d : ℕ) (bs : List ℕ) → head-numbers s l n c ++ drop 10 (head-bytes t k m d ++ bs) ≡ head-bytes s l n c ++ bs
+unfolding low head-numbers head-bytes
+head-over s l n c t k m d bs = refl

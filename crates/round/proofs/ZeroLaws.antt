@@ -18,8 +18,9 @@ use Rattle.theory.specs.Judge.{zeros}
 pub sum-zero : (a b : ℕ) → eqb a 0 && eqb b 0 ≡ eqb (a + b) 0
 sum-zero a b =
     elim (eqb? a 0) [
-      inl h ↦ let e : b ≡ a + b = omega (arith, h .1) in rw (h .0) (ap (λ (n : ℕ). eqb n 0) e) |
-      inr h ↦ rw (h .0) (sym (ne-eqb (a + b) 0 (λ e. h .1 (omega arith)))) ]
+      | inl h ↦ let e : b ≡ a + b = omega (arith, h .1) in rw (h .0) (ap (λ (n : ℕ). eqb n 0) e)
+      | inr h ↦ rw (h .0) (sym (ne-eqb (a + b) 0 (λ e. h .1 (omega arith))))
+    ]
 
 -- both of three tests, grouped either way
 pub and-assoc : (a b c : Bool) → (a && b) && c ≡ a && (b && c)
@@ -43,8 +44,9 @@ zeros-value (b ∷ bs) =
     scaled : (n : ℕ) → eqb n 0 ≡ eqb (256 * n) 0
     scaled n =
         elim (eqb? n 0) [
-          inl h ↦ h .0 ∙ sym (eq-eqb (256 * n) 0 (omega (arith, h .1))) |
-          inr h ↦ h .0 ∙ sym (ne-eqb (256 * n) 0 (λ e. h .1 (omega arith))) ]
+          | inl h ↦ h .0 ∙ sym (eq-eqb (256 * n) 0 (omega (arith, h .1)))
+          | inr h ↦ h .0 ∙ sym (ne-eqb (256 * n) 0 (λ e. h .1 (omega arith)))
+        ]
 
 pub zeros-field : (bs : List ℕ) (a n : ℕ) → zeros (take n (drop a bs)) ≡ eqb (field a n bs) 0
 unfolding field
@@ -57,9 +59,9 @@ zeros-split bs a m n =
     ∙ zeros-append (take m (drop a bs)) (take n (drop m (drop a bs)))
     ∙ rw (zeros-field bs a m, drop-drop m a bs)
 
--- six numbers of four bytes, as two sums of three
+-- 24 bytes are zero when the sum of their six numbers is
 pub zeros-row : (bs : List ℕ) (a : ℕ) →
-    eqb (field a 4 bs + (field (a + 4) 4 bs + field (a + 8) 4 bs) + (field (a + 12) 4 bs + (field (a + 16) 4 bs + field (a + 20) 4 bs))) 0
+    eqb ((field a 4 bs + field (a + 4) 4 bs + field (a + 8) 4 bs) + (field (a + 12) 4 bs + field (a + 16) 4 bs + field (a + 20) 4 bs)) 0
     ≡ zeros (take 24 (drop a bs))
 zeros-row bs a =
     let p : a + 4 + 4 ≡ a + 8 = omega arith in
@@ -80,9 +82,9 @@ zeros-row bs a =
     )
     (six (field a 4 bs) (field (a + 4) 4 bs) (field (a + 8) 4 bs) (field (a + 12) 4 bs) (field (a + 16) 4 bs) (field (a + 20) 4 bs))
   where
-    six : (a b c d e f : ℕ) → eqb (a + (b + c) + (d + (e + f))) 0 ≡ eqb a 0 && (eqb b 0 && (eqb c 0 && (eqb d 0 && (eqb e 0 && eqb f 0))))
+    six : (a b c d e f : ℕ) → eqb ((a + b + c) + (d + e + f)) 0 ≡ eqb a 0 && (eqb b 0 && (eqb c 0 && (eqb d 0 && (eqb e 0 && eqb f 0))))
     six a b c d e f =
-        let k : a + (b + c) + (d + (e + f)) ≡ a + (b + (c + (d + (e + f)))) = omega arith in
+        let k : (a + b + c) + (d + e + f) ≡ a + (b + (c + (d + (e + f)))) = omega arith in
         rw (sum-zero e f, sum-zero d (e + f), sum-zero c (d + (e + f)), sum-zero b (c + (d + (e + f))), sum-zero a (b + (c + (d + (e + f)))), k)
 
 -- the bytes from a place on: so many, and the rest
@@ -128,8 +130,10 @@ value-small b bs = small b (value bs) ∙ ap (λ (t : Bool). leb b 1 && t) (sym 
     small : (b v : ℕ) → leb (b + 256 * v) 1 ≡ leb b 1 && eqb v 0
     small b v =
         elim (leb? b 1) [
-          inl h ↦ rw (h .0)
+          | inl h ↦ rw (h .0)
               (elim (eqb? v 0) [
-                inl g ↦ le-leb (b + 256 * v) 1 (omega (arith, h .1, g .1)) ∙ sym (g .0) |
-                inr g ↦ lt-leb (b + 256 * v) 1 (omega (arith, g .1)) ∙ sym (g .0) ]) |
-          inr h ↦ rw (h .0) (lt-leb (b + 256 * v) 1 (omega (arith, h .1))) ]
+                | inl g ↦ le-leb (b + 256 * v) 1 (omega (arith, h .1, g .1)) ∙ sym (g .0)
+                | inr g ↦ lt-leb (b + 256 * v) 1 (omega (arith, g .1)) ∙ sym (g .0)
+              ])
+          | inr h ↦ rw (h .0) (lt-leb (b + 256 * v) 1 (omega (arith, h .1)))
+        ]

@@ -1,3 +1,3 @@
 pub mod Head
-pub mod Row
+pub mod Numbers
 pub mod Judge

@@ -1,13 +1,13 @@
 // The table's length and its head.
 ghost use mathlib.Core.Path.{_≡_};
-ghost use mathlib.Core.Bool.{true};
 ghost use mathlib.Core.List.{_++_};
-ghost use Prim.Native.Nat.{ℕ, _-_, _/_, _≤_};
+ghost use Prim.Native.Nat.{_≤_};
 ghost use lib.ListN.{length, drop};
+ghost use Rattle.rules.specs.Limits.{head-size, most-rows, head-zeros-at};
 ghost use Rattle.rules.specs.Table.{length-good, rows-of};
 ghost use Rattle.theory.specs.Judge.{head-judged};
-ghost use Rattle.theory.specs.Close.{head-bytes};
 ghost use Rattle.round.specs.Head.{Head-of};
+ghost use Rattle.round.specs.Numbers.{head-numbers};
 use crate::Round;
 use crate::Slot;
 use crate::Ticket;
@@ -29,7 +29,7 @@ pub fn length_is_good(length: usize) -> bool
 
 // How many rows a table has room for.
 pub fn rows_of(table: &[u8]) -> usize
-    requires { ⌜ 16 ≤ length (now table) ⌝ }
+    requires { ⌜ head-size ≤ length (now table) ⌝ }
     ensures { λ r. ⌜ r ≡ rows-of (now (table .entry)) ⌝ }
 {
     (table.len() - Round::HEAD_SIZE) / Round::ROW_SIZE
@@ -37,7 +37,7 @@ pub fn rows_of(table: &[u8]) -> usize
 
 // The head as a value, whatever it holds.
 pub fn read_head(table: &[u8]) -> Round
-    requires { ⌜ 16 ≤ length (now table) ⌝ }
+    requires { ⌜ head-size ≤ length (now table) ⌝ }
     ensures { λ r. ⌜ Head-of (now (table .entry)) r ⌝ }
 {
     Round {
@@ -51,26 +51,24 @@ pub fn read_head(table: &[u8]) -> Round
 
 // Whether the numbers of a head are within the limits and its last six bytes zero.
 pub fn head_is_sound(table: &[u8], round: Round) -> bool
-    requires { ⌜ (16 ≤ length (now table)) × Head-of (now table) round ⌝ }
+    requires { ⌜ (head-size ≤ length (now table)) × Head-of (now table) round ⌝ }
     ensures { λ r. ⌜ r ≡ head-judged (now (table .entry)) ⌝ }
 {
     let fits = (round.used <= round.room) & (round.last.0 <= Round::LAST);
-    let time = round.slot.0 as u64 <= round.last.0 as u64 + 1;
+    let in_time = round.slot.0 as u64 <= round.last.0 as u64 + 1;
     let next = (1 <= round.next.0) & (round.next.0 <= Round::TICKETS);
     let zeros = (read2(table, Round::HEAD_ZEROS_AT) == 0)
         & (read4(table, Round::HEAD_ZEROS_AT + 2) == 0);
-    fits & ((time & next) & zeros)
+    fits & ((in_time & next) & zeros)
 }
 
-// A round's head written, its six zero bytes with it.
+// A round's numbers written into the head; its zero bytes stay as they are.
 pub fn write_head(table: &mut [u8], round: Round)
-    requires { ⌜ (16 ≤ length (now table)) × (round .used ≤ 1024) ⌝ }
-    ensures { λ _. ⌜ now (table .exit) ≡ head-bytes (round .slot .0) (round .last .0) (round .next .0) (round .used) ++ drop 16 (now (table .entry)) ⌝ }
+    requires { ⌜ (head-zeros-at ≤ length (now table)) × (round .used ≤ most-rows) ⌝ }
+    ensures { λ _. ⌜ now (table .exit) ≡ head-numbers (round .slot .0) (round .last .0) (round .next .0) (round .used) ++ drop head-zeros-at (now (table .entry)) ⌝ }
 {
     write2(table, Round::SLOT_AT, round.slot.0);
     write2(table, Round::LAST_AT, round.last.0);
     write4(table, Round::NEXT_AT, round.next.0);
     write2(table, Round::USED_AT, round.used as u32);
-    write2(table, Round::HEAD_ZEROS_AT, 0);
-    write4(table, Round::HEAD_ZEROS_AT + 2, 0);
 }

@@ -7,6 +7,7 @@ pub mod head; // head.rt: the table's length and its head
 pub mod rows; // rows.rt: a row's bytes
 pub mod sound; // sound.rt: the judge of a whole table
 
+// Three sorts of count, so that none can stand in another's place.
 pub struct Slot(pub u32);
 
 pub struct Weight(pub u32);

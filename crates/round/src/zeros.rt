@@ -1,15 +1,16 @@
 // Bytes that are zero: checked, and written.
 ghost use mathlib.Core.Path.{_≡_};
 ghost use mathlib.Core.List.{_++_};
-ghost use Prim.Native.Nat.{_+_, _-_, _%_, _≤_, _<_};
+ghost use Prim.Native.Nat.{_+_, _*_, _-_, _%_, _≤_, _<_};
 ghost use lib.ListN.{length, take, drop, replicate};
+ghost use Rattle.rules.specs.Limits.{row-size};
 ghost use Rattle.theory.specs.Judge.{zeros};
 use crate::Round;
 use crate::bytes::read4;
 
 // Whether all bytes from a place on are zero; whole rows follow it.
 pub fn zeros_from(table: &[u8], from: usize) -> bool
-    requires { ⌜ (from ≤ length (now table)) × ((length (now table) - from) % 24 ≡ 0) ⌝ }
+    requires { ⌜ (from ≤ length (now table)) × ((length (now table) - from) % row-size ≡ 0) ⌝ }
     ensures { λ r. ⌜ r ≡ zeros (drop from (now (table .entry))) ⌝ }
 {
     let mut at = from;
@@ -22,10 +23,10 @@ pub fn zeros_from(table: &[u8], from: usize) -> bool
     true
 }
 
-// A sum of six numbers is zero when each is, and costs one branch a row.
+// A sum is zero when each of its numbers is: one branch a row, and two sums of three measured cheaper than one of six.
 fn row_is_zero(table: &[u8], at: usize) -> bool
-    requires { ⌜ at + 24 ≤ length (now table) ⌝ }
-    ensures { λ r. ⌜ r ≡ zeros (take 24 (drop at (now (table .entry)))) ⌝ }
+    requires { ⌜ at + row-size ≤ length (now table) ⌝ }
+    ensures { λ r. ⌜ r ≡ zeros (take row-size (drop at (now (table .entry)))) ⌝ }
 {
     let low = sum3(read4(table, at), read4(table, at + 4), read4(table, at + 8));
     let high = sum3(
@@ -36,10 +37,11 @@ fn row_is_zero(table: &[u8], at: usize) -> bool
     low + high == 0
 }
 
+// The bound lets two such sums be added.
 fn sum3(a: u32, b: u32, c: u32) -> u64
-    ensures { λ r. ⌜ (r ≡ a + (b + c)) × (r < 12884901888) ⌝ }
+    ensures { λ r. ⌜ (r ≡ a + b + c) × (r < 3 * 4294967296) ⌝ }
 {
-    a as u64 + (b as u64 + c as u64)
+    a as u64 + b as u64 + c as u64
 }
 
 // Every byte from a place on becomes zero.

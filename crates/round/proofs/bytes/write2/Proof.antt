@@ -1,36 +1,28 @@
-use Rattle.round.proofs.NumberLaws.{sets2}
+-- `round::bytes::write2` meets its contract: two stores side by side are the bytes of a number. Assumes nothing.
 use lib.ListN.{length-set}
 use borrow.Author.Needs.{needs}
+use Rattle.round.proofs.NumberLaws.{sets2}
 use Rattle.round.proofs.bytes.write2.Statement.{statement}
 use Rattle.round.proofs.bytes.write2.Tie as tie
-use Rattle.round.proofs.bytes.write2.Reads as reads
-use Rattle.round.proofs.bytes.write2.Lts as lts
 
--- src/bytes.rt:52:17
 cast-bytes : tie.Need-cast-bytes
 cast-bytes c = search needs
 
--- src/bytes.rt:52:5
 slice-write-bytes : tie.Need-slice-write-bytes
 slice-write-bytes c = search needs
 
--- src/bytes.rt:53:21
 cast-bytes-2 : tie.Need-cast-bytes-2
 cast-bytes-2 c = search needs
 
--- src/bytes.rt:53:11
 add-bytes : tie.Need-add-bytes
 add-bytes c = search needs
 
--- src/bytes.rt:53:5
 slice-write-bytes-2 : tie.Need-slice-write-bytes-2
 slice-write-bytes-2 c = simp length-set (search needs)
 
--- src/bytes.rt:48:1
 same-length : tie.Need-same-length
 same-length c = search needs
 
--- src/bytes.rt:48:1
 returns : tie.Need-returns
 returns c = sets2 (c .args .bytes .now) (c .args .at) (c .args .value)
 

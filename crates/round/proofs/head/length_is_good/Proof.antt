@@ -1,25 +1,20 @@
+-- `round::head::length_is_good` meets its contract: the tests are those of refusal 2. Assumes nothing.
+use borrow.Author.Needs.{needs}
 use borrow.Author.Tests.{le-leb, lt-leb}
 use Rattle.rules.specs.Table.{length-good}
-use borrow.Author.Needs.{needs}
 use Rattle.round.proofs.head.length_is_good.Statement.{statement}
 use Rattle.round.proofs.head.length_is_good.Tie as tie
-use Rattle.round.proofs.head.length_is_good.Reads as reads
-use Rattle.round.proofs.head.length_is_good.Lts as lts
 
--- src/head.rt:23:17
 add-if1 : tie.Need-add-if1
 add-if1 c = search needs
 
--- src/head.rt:24:9
 returns : tie.Need-returns
 unfolding length-good
 returns c = simp (lt-leb _ _ (c .if1 .taken))
 
--- src/head.rt:26:18
 sub-behind : tie.Need-sub-behind
 sub-behind c = search needs
 
--- src/head.rt:20:1
 returns-2 : tie.Need-returns-2
 unfolding length-good
 returns-2 c = simp (le-leb _ _ (c .if1 .left))

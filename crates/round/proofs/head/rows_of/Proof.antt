@@ -1,15 +1,12 @@
-use Rattle.rules.specs.Table.{rows-of}
+-- `round::head::rows_of` meets its contract: by definition. Assumes nothing.
 use borrow.Author.Needs.{needs}
+use Rattle.rules.specs.Table.{rows-of}
 use Rattle.round.proofs.head.rows_of.Statement.{statement}
 use Rattle.round.proofs.head.rows_of.Tie as tie
-use Rattle.round.proofs.head.rows_of.Reads as reads
-use Rattle.round.proofs.head.rows_of.Lts as lts
 
--- src/head.rt:35:6
 sub-result : tie.Need-sub-result
 sub-result c = search needs
 
--- src/head.rt:31:1
 returns : tie.Need-returns
 unfolding rows-of
 returns c = search needs

@@ -1,54 +1,48 @@
-use lib.Seq.{take-all}
-use Rattle.round.proofs.ZeroLaws.{cleared-none, cleared-more}
-use lib.ListN.{length, take, replicate, length-set}
-use native.Mathlib.Omega.{arith}
-use Prim.Native.Nat.{_+_, _-_, _≤_}
+-- `round::zeros::clear` meets its contract. The invariant: the bytes from the start up to here are zero, and those before it as they were. Assumes nothing.
 use mathlib.Core.List.{_++_}
-use mathlib.Core.Path.{_≡_, sym, ap, _∙_}
+use mathlib.Core.Path.{_≡_, sym, _∙_}
+use Prim.Native.Nat.{_+_, _-_, _≤_}
+use native.Mathlib.Omega.{arith}
+use lib.ListN.{length, take, replicate, length-set}
+use lib.Seq.{take-all}
 use borrow.Author.Needs.{needs}
+use Rattle.round.proofs.ZeroLaws.{cleared-none, cleared-more}
 use Rattle.round.proofs.zeros.clear.Statement.{statement}
 use Rattle.round.proofs.zeros.clear.Tie as tie
-use Rattle.round.proofs.zeros.clear.Reads as reads
-use Rattle.round.proofs.zeros.clear.Lts as lts
 
 abbrev Inv-loop : tie.InvT-loop
-Inv-loop table₀ from i₀ table i = 
+Inv-loop table₀ from i₀ table i =
     (from ≤ i) × (i ≤ length table₀) × (length table ≡ length table₀) × (take i table ≡ take from table₀ ++ replicate (i - from) 0)
 
 abbrev μ-loop : tie.MeasureT-loop
 μ-loop table₀ from i₀ table i = length table - i
 
--- src/zeros.rt:51:5
 loop-holds : tie.Need-loop-holds Inv-loop μ-loop
 loop-holds c = (search needs, search needs, search needs, cleared-none (c .args .table .now) (c .args .from))
 
--- src/zeros.rt:52:9
 slice-write-table : tie.Need-slice-write-table Inv-loop μ-loop
 slice-write-table c = search needs
 
--- src/zeros.rt:53:9
 add-i : tie.Need-add-i Inv-loop μ-loop
 add-i c = search needs
 
--- src/zeros.rt:51:5
 loop-less : tie.Need-loop-less Inv-loop μ-loop
 loop-less c = simp length-set (search needs)
 
--- src/zeros.rt:51:5
 loop-again : tie.Need-loop-again Inv-loop μ-loop
-loop-again c = 
-    (search needs,
-    search needs,
-    simp length-set (search needs),
-    cleared-more (c .before .before .args .table .now) (c .before .loop .table) (c .before .before .args .from) (c .before .loop .i) (search needs) (search needs) (c .before .loop .inv .3))
+loop-again c = (
+  search needs,
+  search needs,
+  simp length-set (search needs),
+  cleared-more (c .before .before .args .table .now) (c .before .loop .table) (c .before .before .args .from) (c .before .loop .i)
+      (search needs) (search needs) (c .before .loop .inv .3),
+)
 
--- src/zeros.rt:46:1
 same-length : tie.Need-same-length Inv-loop μ-loop
 same-length c = search needs
 
--- src/zeros.rt:46:1
 returns : tie.Need-returns Inv-loop μ-loop
-returns c = 
+returns c =
     let e : c .before .loop .i ≡ length (c .before .before .args .table .now) = omega arith in
     sym (take-all (c .before .loop .i) (c .before .loop .table) (search needs)) ∙ c .before .loop .inv .3 ∙ (rw e)
 

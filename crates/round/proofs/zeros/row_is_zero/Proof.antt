@@ -1,71 +1,53 @@
-use Rattle.round.proofs.ZeroLaws.{zeros-row}
+-- `round::zeros::row_is_zero` meets its contract: a sum is zero where all its numbers are. Assumes nothing.
 use borrow.Author.Needs.{needs}
+use Rattle.round.proofs.ZeroLaws.{zeros-row}
 use Rattle.round.proofs.zeros.row_is_zero.Statement.{statement}
 use Rattle.round.proofs.zeros.row_is_zero.Tie as tie
-use Rattle.round.proofs.zeros.row_is_zero.Reads as reads
-use Rattle.round.proofs.zeros.row_is_zero.Lts as lts
-use Rattle.round.proofs.bytes.read4.Reads as read4-reads
-use Rattle.round.proofs.zeros.sum3.Reads as sum3-reads
 
--- src/zeros.rt:30:20
 read4-requires : tie.Need-read4-requires
 read4-requires c κs = search needs
 
--- src/zeros.rt:30:51
 add-read4 : tie.Need-add-read4
 add-read4 c = search needs
 
--- src/zeros.rt:30:38
 read4-requires-2 : tie.Need-read4-requires-2
 read4-requires-2 c κs = search needs
 
--- src/zeros.rt:30:73
 add-read4-2 : tie.Need-add-read4-2
 add-read4-2 c = search needs
 
--- src/zeros.rt:30:60
 read4-requires-3 : tie.Need-read4-requires-3
 read4-requires-3 c κs = search needs
 
--- src/zeros.rt:30:9
 sum3-requires : tie.Need-sum3-requires
 sum3-requires c κs = search needs
 
--- src/zeros.rt:32:22
 add-read4-3 : tie.Need-add-read4-3
 add-read4-3 c = search needs
 
--- src/zeros.rt:32:9
 read4-requires-4 : tie.Need-read4-requires-4
 read4-requires-4 c κs = search needs
 
--- src/zeros.rt:33:22
 add-read4-4 : tie.Need-add-read4-4
 add-read4-4 c = search needs
 
--- src/zeros.rt:33:9
 read4-requires-5 : tie.Need-read4-requires-5
 read4-requires-5 c κs = search needs
 
--- src/zeros.rt:34:22
 add-read4-5 : tie.Need-add-read4-5
 add-read4-5 c = search needs
 
--- src/zeros.rt:34:9
 read4-requires-6 : tie.Need-read4-requires-6
 read4-requires-6 c κs = search needs
 
--- src/zeros.rt:31:9
 sum3-requires-2 : tie.Need-sum3-requires-2
 sum3-requires-2 c κs = search needs
 
--- src/zeros.rt:36:5
 add-result : tie.Need-add-result
 add-result c = search needs
 
--- src/zeros.rt:26:1
 returns : tie.Need-returns
-returns c = 
+returns c =
     rw (
       c .before .before .before .before .sum3 .ensures .0,
       c .sum32 .ensures .0,
@@ -76,7 +58,7 @@ returns c =
       c .before .before .read45 .ensures,
       c .before .read46 .ensures,
     )
-    (zeros-row (c .before .before .before .before .before .before .before .before .before .args .table .now) (c .before .before .before .before .before .before .before .before .before .args .at))
+    (zeros-row _ _)
 
 pub row-is-zero-spec : {M : Type 1} → statement M
 row-is-zero-spec =

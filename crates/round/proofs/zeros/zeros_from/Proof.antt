@@ -1,16 +1,14 @@
-use Rattle.round.proofs.ZeroLaws.{zeros-more, zeros-none}
-use Rattle.theory.specs.Judge.{zeros}
-use lib.ListN.{length, drop}
-use borrow.Author.Tests.{not-true, not-false}
-use Prim.Native.Nat.{_+_, _-_, _%_, _≤_}
+-- `round::zeros::zeros_from` meets its contract. The invariant: the bytes from the start are zero where those from here on are, and whole rows follow. Assumes nothing.
 use mathlib.Core.Bool.{true, false}
 use mathlib.Core.Path.{_≡_, refl, sym, _∙_}
+use Prim.Native.Nat.{_-_, _%_, _≤_}
+use lib.ListN.{length, drop}
 use borrow.Author.Needs.{needs}
+use borrow.Author.Tests.{not-true, not-false}
+use Rattle.theory.specs.Judge.{zeros}
+use Rattle.round.proofs.ZeroLaws.{zeros-more, zeros-none}
 use Rattle.round.proofs.zeros.zeros_from.Statement.{statement}
 use Rattle.round.proofs.zeros.zeros_from.Tie as tie
-use Rattle.round.proofs.zeros.zeros_from.Reads as reads
-use Rattle.round.proofs.zeros.zeros_from.Lts as lts
-use Rattle.round.proofs.zeros.row_is_zero.Reads as row-is-zero-reads
 
 abbrev Inv-loop : tie.InvT-loop
 Inv-loop table from at₀ at = (at ≤ length table) × ((length table - at) % 24 ≡ 0) × (zeros (drop from table) ≡ zeros (drop at table))
@@ -18,35 +16,32 @@ Inv-loop table from at₀ at = (at ≤ length table) × ((length table - at) % 2
 abbrev μ-loop : tie.MeasureT-loop
 μ-loop table from at₀ at = length table - at
 
--- src/zeros.rt:16:5
 loop-holds : tie.Need-loop-holds Inv-loop μ-loop
 loop-holds c = (search needs, search needs, refl)
 
--- src/zeros.rt:17:13
 row-is-zero-requires : tie.Need-row-is-zero-requires Inv-loop μ-loop
 row-is-zero-requires c κs = search needs
 
--- src/zeros.rt:18:13
 returns : tie.Need-returns Inv-loop μ-loop
-returns c = 
-    sym (zeros-more (c .before .before .before .before .before .args .table .now) (c .before .before .before .before .before .args .from) (c .before .before .before .loop .at) _ false (c .before .row-is-zero .ensures) (not-true _ (c .if1 .taken)) (c .before .before .before .loop .inv .2))
+returns c =
+    sym
+    (zeros-more (c .before .before .before .before .before .args .table .now) (c .before .before .before .before .before .args .from) (c .before .before .before .loop .at)
+    _ false (c .before .row-is-zero .ensures) (not-true _ (c .if1 .taken)) (c .before .before .before .loop .inv .2))
 
--- src/zeros.rt:20:9
 add-at : tie.Need-add-at Inv-loop μ-loop
 add-at c = search needs
 
--- src/zeros.rt:16:5
 loop-less : tie.Need-loop-less Inv-loop μ-loop
 loop-less c = search needs
 
--- src/zeros.rt:16:5
 loop-again : tie.Need-loop-again Inv-loop μ-loop
-loop-again c = 
-    (search needs,
-    search needs,
-    zeros-more (c .before .before .before .before .before .args .table .now) (c .before .before .before .before .before .args .from) (c .before .before .before .loop .at) _ true (c .before .row-is-zero .ensures) (not-false _ (c .if1 .left)) (c .before .before .before .loop .inv .2))
+loop-again c = (
+  search needs,
+  search needs,
+  zeros-more (c .before .before .before .before .before .args .table .now) (c .before .before .before .before .before .args .from) (c .before .before .before .loop .at)
+      _ true (c .before .row-is-zero .ensures) (not-false _ (c .if1 .left)) (c .before .before .before .loop .inv .2),
+)
 
--- src/zeros.rt:11:1
 returns-2 : tie.Need-returns-2 Inv-loop μ-loop
 returns-2 c = sym (c .before .loop .inv .2 ∙ zeros-none (c .before .before .before .args .table .now) (c .before .loop .at) (search needs))
 

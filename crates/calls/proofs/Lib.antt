@@ -1,0 +1,5 @@
+pub mod Outcomes
+pub mod Opened
+pub mod TakingNumber
+pub mod Taken
+pub mod Readings

@@ -1,0 +1,38 @@
+-- Opening: refusal 4, and what is owed once all is written. Assumes nothing.
+use mathlib.Core.Path.{_≡_, ap, _∙_}
+use mathlib.Core.Bool.{true}
+use mathlib.Core.List.{List, _++_}
+use Prim.Native.Nat.{ℕ, _-_, _≤_, _<_}
+use native.Mathlib.Omega.{arith}
+use borrow.Author.Tests.{lt-ltb, le-ltb}
+use lib.ListN.{length, take, drop, replicate, length-append}
+use lib.Seq.{length-take-le}
+use Rattle.rules.specs.Limits.{most-last}
+use Rattle.rules.specs.Rows.{round}
+use Rattle.rules.specs.Table.{round-in, length-good}
+use Rattle.rules.specs.Calls.{opening, done, open-refusal, refusal, says, leaves}
+use Rattle.theory.specs.Clauses.{length-long}
+use Rattle.round.specs.Numbers.{head-numbers}
+use Rattle.round.proofs.TableLaws.{opened-table}
+use Rattle.calls.specs.Says.{Says}
+use Rattle.calls.proofs.Outcomes.{says-accepted, opening-number}
+
+module _ (l : ℕ) (t : List ℕ) (good : length-good (length t) ≡ true) where
+  pub last-refused : most-last < l → refusal (opening l) t ≡ 4
+  unfolding open-refusal
+  last-refused h = opening-number l t good ∙ rw (lt-ltb most-last l h)
+
+  pub head-fits : 16 ≤ length t
+  head-fits = omega (arith, length-long t good .0)
+
+  pub cleared-fits : (v : List ℕ) → v ≡ take 10 t ++ replicate (length t - 10) 0 → 10 ≤ length v
+  cleared-fits v e =
+      omega (arith, head-fits, ap length e, length-append (take 10 t) (replicate (length t - 10) 0), length-take-le 10 t (omega (arith, head-fits)))
+
+  -- ALL WRITTEN: zeros behind the head, then the head of a round just opened
+  pub opened-says : l ≤ most-last → (a b n u : ℕ) (v z : List ℕ) → (a ≡ 0) × (b ≡ l) × (n ≡ 1) × (u ≡ 0) → v ≡ take 10 t ++ replicate (length t - 10) 0 →
+      z ≡ head-numbers a b n u ++ drop 10 v → Says (opening l) done t z
+  unfolding open-refusal says leaves round-in round
+  opened-says h a b n u v z g e f =
+      says-accepted (opening l) t z (opening-number l t good ∙ rw (le-ltb most-last l h))
+      (opened-table l t v z good e (f ∙ rw (g .0, g .1, g .2, g .3)))

@@ -1,0 +1,3 @@
+// The public calls. Each judges the lent table, refuses by document 01's numbers in their order, and leaves the bytes that the rules name.
+pub mod opening; // opening.rt: opening a round
+pub mod taking; // taking.rt: taking a frame

@@ -1,0 +1,92 @@
+// Taking a frame: refusals 2, 3 and 5 to 9.
+ghost use mathlib.Core.Path.{_≡_};
+ghost use Prim.Native.Nat.{ℕ, _<_};
+ghost use Rattle.rules.specs.Table.{table-refusal};
+ghost use Rattle.rules.specs.Calls.{taking};
+ghost use Rattle.round.specs.Head.{Head-of};
+ghost use Rattle.calls.specs.Replies.{of-taken};
+ghost use Rattle.calls.specs.Says.{Says};
+ghost use Rattle.calls.specs.Taking.{taking-number, One-more};
+use round::Round;
+use round::Slot;
+use round::Ticket;
+use round::Weight;
+use round::head::write_head;
+use round::rows::row_at;
+use round::rows::write_row;
+use round::sound::Judged;
+use round::sound::judge;
+
+pub enum Taken {
+    As(Ticket),
+    Refused(u32),
+}
+
+pub fn take_frame(due: Slot, weight: Weight, table: &mut [u8]) -> Taken
+    ensures { λ r. ⌜ Says (taking (due .0) (weight .0)) (of-taken r) (now (table .entry)) (now (table .exit)) ⌝ }
+{
+    match judge(table) {
+        Judged::Refused(n) => Taken::Refused(n),
+        Judged::Sound(round) => take_into(table, round, due, weight),
+    }
+}
+
+// The same on a sound table.
+fn take_into(table: &mut [u8], round: Round, due: Slot, weight: Weight) -> Taken
+    requires { ⌜ (table-refusal (now table) ≡ 0) × Head-of (now table) round ⌝ }
+    ensures { λ r. ⌜ Says (taking (due .0) (weight .0)) (of-taken r) (now (table .entry)) (now (table .exit)) ⌝ }
+{
+    let refusal = taking_refusal(round, due, weight);
+    if 0 < refusal {
+        return Taken::Refused(refusal);
+    }
+    let next = round.next;
+    let at = row_at(round.used);
+    write_row(table, at, next, due, weight, 0);
+    write_head(table, one_more(round));
+    Taken::As(next)
+}
+
+// The head once a frame is taken.
+fn one_more(round: Round) -> Round
+    requires { ⌜ (round .next .0 < 16777216) × (round .used < 1024) ⌝ }
+    ensures { λ r. ⌜ One-more round r ⌝ }
+{
+    let slot = round.slot;
+    let last = round.last;
+    Round {
+        slot,
+        last,
+        next: Ticket(round.next.0 + 1),
+        used: round.used + 1,
+        room: round.room,
+    }
+}
+
+// 5 to 9, or 0: the first that applies.
+fn taking_refusal(round: Round, due: Slot, weight: Weight) -> u32
+    ensures { λ r. ⌜ r ≡ taking-number (round .slot .0) (round .last .0) (round .next .0) (round .used) (round .room) (due .0) (weight .0) ⌝ }
+{
+    if round.last.0 < round.slot.0 {
+        return 5;
+    }
+    if weight.0 == 0 {
+        return 6;
+    }
+    if Round::WEIGHT < weight.0 {
+        return 6;
+    }
+    if due.0 < round.slot.0 {
+        return 7;
+    }
+    if round.last.0 < due.0 {
+        return 7;
+    }
+    if round.next.0 == Round::TICKETS {
+        return 8;
+    }
+    if round.room <= round.used {
+        return 9;
+    }
+    0
+}

@@ -1,0 +1,57 @@
+-- The head: its judge as the code tests it, and what a sound table says of it. Assumes nothing.
+use mathlib.Core.Path.{_≡_, sym, ap, _∙_}
+use mathlib.Core.Bool.{_&&_}
+use mathlib.Core.List.{List}
+use Prim.Native.Nat.{ℕ, _+_, _*_, _≤_}
+use native.Mathlib.Omega.{arith}
+use native.Mathlib.Numerals.{add-one}
+use lib.Dec.{leb, eqb}
+use lib.ListN.{length, drop}
+use Rattle.rules.specs.Rows.{round}
+use Rattle.rules.specs.Table.{field, round-in, table-refusal}
+use Rattle.rules.specs.Conditions.{used-in}
+use Rattle.theory.specs.Back.{length-table, rising-le}
+use Rattle.theory.specs.Judge.{head-judged}
+use Rattle.theory.specs.Clauses.{rows-count}
+use Rattle.theory.specs.Sane.{sound}
+use Rattle.round.specs.declared.Round.{Round}
+use Rattle.round.specs.Head.{Head-of}
+use Rattle.round.proofs.ZeroLaws.{zeros-split, zeros-field}
+
+-- THE JUDGE of a head
+pub head-is : (t : List ℕ) (h : Round) → Head-of t h →
+    (leb (h .used) (h .room) && leb (h .last .0) 4095)
+    && ((leb (h .slot .0) (h .last .0 + 1) && (leb 1 (h .next .0) && leb (h .next .0) 16777216)) && (eqb (field 10 2 t) 0 && eqb (field 12 4 t) 0))
+    ≡ head-judged t
+unfolding head-judged
+head-is t h d =
+    rw (d .slot, d .last, d .next, d .used, d .room, add-one, zeros-split t 10 2 4, zeros-field t 12 4)
+
+-- THE HEAD OF A SOUND TABLE
+pub record Sound-head (t : List ℕ) (h : Round) : Type 0 where
+  pub long : length t ≡ 16 + 24 * h .room
+  pub some : 1 ≤ h .room
+  pub few : h .room ≤ 1024
+  pub used : h .used ≤ h .room
+  pub last : h .last .0 ≤ 4095
+  pub slot : h .slot .0 ≤ h .last .0 + 1
+  pub least : 1 ≤ h .next .0
+  pub most : h .next .0 ≤ 16777216
+
+pub sound-head : (t : List ℕ) (h : Round) → table-refusal t ≡ 0 → Head-of t h → Sound-head t h
+unfolding round-in round
+sound-head t h e k =
+    let r = round-in t in
+    let s = sound t e in
+    let z = s .sane .size in
+    let f = s .sane .fine in
+    record {
+      long = sym (ap length (s .bytes)) ∙ length-table r (z .long) ∙ ap (λ (n : ℕ). 16 + 24 * n) (sym (k .room));
+      some = omega (arith, s .sane .some, k .room);
+      few = omega (arith, z .room, k .room);
+      used = omega (arith, z .long, k .room, k .used, rows-count (used-in t) (drop 16 t));
+      last = omega (arith, z .last, k .last);
+      slot = omega (arith, f .time, k .slot, k .last);
+      least = omega (arith, rising-le 1 (r .next) (r .rows) (f .rising), k .next);
+      most = omega (arith, z .next, k .next);
+    }

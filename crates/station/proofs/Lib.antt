@@ -1,0 +1,3 @@
+pub mod Exported
+pub mod Unpack
+pub mod Fitting

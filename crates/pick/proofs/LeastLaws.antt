@@ -13,9 +13,9 @@ use Rattle.theory.specs.Full.{Fine, Row-fine}
 use Rattle.theory.specs.Keys.{getD-in}
 use Rattle.theory.specs.Index.{flag-in, chosen-index, each-chosen}
 use Rattle.theory.specs.Flags.{raised, with-flag, Chosen}
-use Rattle.pick.specs.Rows.{Due-at, Weight-at, at}
+use Rattle.tally.specs.Rows.{Due-at, Weight-at, at}
 use Rattle.pick.specs.Lead.{Lightest, Least-by}
-use Rattle.pick.proofs.TallyLaws.{flag-on, flag-off}
+use Rattle.tally.proofs.TallyLaws.{flag-on, flag-off}
 
 -- row j of the plan is due by a slot
 abbrev pub Due-by : Round → (flags : List ℕ) → (by row : ℕ) → Type 0

@@ -2,7 +2,7 @@
 use mathlib.Core.Path.{_≡_}
 use mathlib.Core.Bool.{Bool, cond}
 use mathlib.Core.List.{List}
-use Prim.Native.Nat.{ℕ, zero, suc, _/_, _≤_, max}
+use Prim.Native.Nat.{ℕ, _/_, _≤_}
 use lib.Dec.{ltb, leb, eqb}
 use lib.ListN.{getD}
 use Rattle.rules.specs.Limits.{most-weight}
@@ -14,10 +14,10 @@ use Rattle.pick.specs.declared.lead.Leader.{Leader}
 abbrev pub most-key : ℕ
 most-key = 70368748371967
 
--- the greatest of n keys from a place on
-abbrev pub peak : List ℕ → (from n : ℕ) → ℕ
-peak ks a zero = 0
-peak ks a (suc n) = max (peak ks (suc a) n) (getD ks a 0)
+-- the greatest of the keys at places from a to top; 0 where there are none
+pub record Greatest (ks : List ℕ) (a top k : ℕ) : Type 0 where
+  pub most : (u : ℕ) → a ≤ u → u ≤ top → getD ks u 0 ≤ k
+  pub some : 1 ≤ k → (u : ℕ) × (a ≤ u) × (u ≤ top) × (getD ks u 0 ≡ k)
 
 -- the score of a row and the row that stands in for it, by their keys
 abbrev pub leader-score : Leader → ℕ
@@ -31,9 +31,6 @@ pub record Fair (l : Leader) : Type 0 where
 abbrev pub takes-lead : (lead new : Leader) → Bool
 takes-lead l n = cond (eqb (n .other) (l .other)) (ltb (l .key) (n .key)) (leb (leader-score l) (leader-score n))
 
-abbrev pub ahead-of : (lead new : Leader) → Leader
-ahead-of l n = cond (takes-lead l n) n l
-
 -- a lightest row due by a slot
 pub record Lightest (rs : List Row) (by m : ℕ) : Type 0 where
   pub row : Row
@@ -46,3 +43,7 @@ pub record Lightest (rs : List Row) (by m : ℕ) : Type 0 where
 pub record Least-by (r : Round) (fs : List ℕ) (by m : ℕ) : Type 0 where
   pub most : m ≤ most-weight
   pub found : (y : Row) → In y (with-flag r fs) → y .due ≤ by → Lightest (with-flag r fs) by m
+
+-- in a first segment of one slot its row is alone
+abbrev pub Alone : Round → (flags : List ℕ) → (slot key end : ℕ) → Type 0
+Alone r fs d k e = e ≡ 1 → Least-by r fs d (k / 4194304)

@@ -3,21 +3,21 @@ ghost use Prim.Native.Nat.{ℕ, _≤_};
 ghost use mathlib.Core.Path.{_≡_};
 ghost use Rattle.rules.specs.Table.{round-in};
 ghost use Rattle.theory.specs.Flags.{Chosen};
-ghost use Rattle.pick.specs.Rows.{Ready};
-ghost use Rattle.pick.specs.Near.{Reaches};
-ghost use Rattle.pick.specs.Tally.{Tallied};
+ghost use Rattle.tally.specs.Rows.{Ready};
+ghost use Rattle.tally.specs.Near.{Reaches};
+ghost use Rattle.tally.specs.Tally.{Tallied};
 ghost use Rattle.pick.specs.Choice.{leap-of, Picked};
 use crate::lead::Leader;
-use crate::lead::challenge;
+use crate::lead::first_mark;
 use crate::lead::leader_score;
-use crate::lead::least_by;
 use crate::lead::peak_of;
 use crate::lead::score_of;
-use crate::near::Reach;
-use crate::rows::larger;
-use crate::rows::top_of;
-use crate::rows::weight_of;
-use crate::rows::wide;
+use crate::lead::takes;
+use tally::near::Reach;
+use tally::rows::larger;
+use tally::rows::top_of;
+use tally::rows::weight_of;
+use tally::rows::wide;
 use round::Round;
 
 // The key of the row that goes, and how; first and last are buckets, the ends of its segment.
@@ -107,14 +107,16 @@ pub fn choose(
                 last: end - 1,
                 other,
             };
-            lead = challenge(lead, new);
             key = 0;
             end = s;
+            if takes(lead, new) {
+                lead = new;
+            }
         }
     }
     let first = larger(key, kept[0]);
-    let mark = least_by(table, flags, round, round.slot.0 + (end - 1) as u32);
-    if leader_score(lead) <= score_of(weight_of(first), mark as u64) {
+    let mark = first_mark(table, flags, round, first, end);
+    if leader_score(lead) <= score_of(weight_of(first), mark) {
         return Pick::First { key: first };
     }
     leap(lead, free)

@@ -1,15 +1,15 @@
 // The row that leads among those due from a slot on, and its score.
 ghost use mathlib.Core.Path.{_≡_};
-ghost use Prim.Native.Nat.{ℕ, suc, _-_, _≤_, min};
+ghost use Prim.Native.Nat.{ℕ, _+_, _-_, _≤_, min};
 ghost use Rattle.rules.specs.Table.{round-in};
 ghost use Rattle.rules.specs.PlanM.{score};
 ghost use Rattle.theory.specs.Flags.{Chosen};
-ghost use Rattle.pick.specs.Rows.{Ready};
-ghost use Rattle.pick.specs.Lead.{peak, Fair, leader-score, takes-lead, ahead-of, Least-by};
-use crate::rows::due_at;
-use crate::rows::larger;
-use crate::rows::weight_at;
-use crate::rows::weight_of;
+ghost use Rattle.tally.specs.Rows.{Ready};
+ghost use Rattle.pick.specs.Lead.{Greatest, Fair, leader-score, takes-lead, Least-by, Alone};
+use tally::rows::due_at;
+use tally::rows::larger;
+use tally::rows::weight_at;
+use tally::rows::weight_of;
 use round::Round;
 
 // Its key, the first and last bucket of its segment, and the greatest key of the rows left out from first on, 0 for none.
@@ -29,18 +29,23 @@ pub fn score_of(weight: u64, substitute: u64) -> u64
     weight * 39088169 + substitute * 63245986
 }
 
-// The greatest key in buckets from..=top.
+// The greatest key in buckets from..=top; 0 where there are none. A place, not the key, is carried: no vectors of 64-bit numbers.
 pub fn peak_of(keys: &[u64; 1025], from: usize, top: usize) -> u64
-    requires { ⌜ (from ≤ suc top) × (top ≤ 1024) ⌝ }
-    ensures { λ r. ⌜ r ≡ peak (now (keys .entry)) from (suc top - from) ⌝ }
+    requires { ⌜ top ≤ 1024 ⌝ }
+    ensures { λ r. ⌜ Greatest (now (keys .entry)) from top r ⌝ }
 {
-    let mut s = top + 1;
-    let mut key: u64 = 0;
-    while from < s {
-        s -= 1;
-        key = larger(key, keys[s]);
+    if top < from {
+        return 0;
     }
-    key
+    let mut at = from;
+    let mut s = from;
+    while s < top {
+        s += 1;
+        if keys[at] < keys[s] {
+            at = s;
+        }
+    }
+    keys[at]
 }
 
 pub fn leader_score(lead: Leader) -> u64
@@ -51,7 +56,7 @@ pub fn leader_score(lead: Leader) -> u64
 }
 
 // With the same row left out the keys decide: an earlier row of equal weight has the greater one. Else a score no less does.
-fn takes(lead: Leader, new: Leader) -> bool
+pub fn takes(lead: Leader, new: Leader) -> bool
     requires { ⌜ Fair lead × Fair new ⌝ }
     ensures { λ r. ⌜ r ≡ takes-lead lead new ⌝ }
 {
@@ -59,17 +64,6 @@ fn takes(lead: Leader, new: Leader) -> bool
         return lead.key < new.key;
     }
     leader_score(lead) <= leader_score(new)
-}
-
-// The leader once the heaviest row of an earlier segment joins.
-pub fn challenge(lead: Leader, new: Leader) -> Leader
-    requires { ⌜ Fair lead × Fair new ⌝ }
-    ensures { λ r. ⌜ r ≡ ahead-of lead new ⌝ }
-{
-    if takes(lead, new) {
-        return new;
-    }
-    lead
 }
 
 fn smaller(a: u32, b: u32) -> u32
@@ -99,4 +93,16 @@ pub fn least_by(table: &[u8], flags: &[u8], round: Round, by: u32) -> u32
         }
     }
     least
+}
+
+// The mark of the current slot: in a first segment of one slot its only row's weight, else the least weight due by its end.
+pub fn first_mark(table: &[u8], flags: &[u8], round: Round, key: u64, end: usize) -> u64
+    requires { ⌜ Ready (now table) round × Chosen (round-in (now table)) (now flags) × (1 ≤ end) × (end ≤ 1025) × Alone (round-in (now table)) (now flags) (round .slot .0) key end ⌝ }
+    ensures { λ r. ⌜ Least-by (round-in (now (table .entry))) (now (flags .entry)) (round .slot .0 + (end - 1)) r ⌝ }
+{
+    if end == 1 {
+        return weight_of(key);
+    }
+    let last = (end - 1) as u32;
+    least_by(table, flags, round, round.slot.0 + last) as u64
 }

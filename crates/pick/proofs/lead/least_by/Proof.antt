@@ -2,15 +2,15 @@ use borrow.Author.Needs.{needs}
 use Prim.Native.Nat.{_-_, _≤_}
 use Rattle.rules.specs.Table.{round-in}
 use Rattle.pick.proofs.LeastLaws.{Looking, look-start, look-takes, look-skips, look-end, skip-out, skip-late, due-kept}
-use Rattle.pick.proofs.RowLaws.{known}
+use Rattle.tally.proofs.RowLaws.{known}
 use native.Mathlib.Omega.{arith}
 use Rattle.pick.proofs.lead.least_by.Statement.{statement}
 use Rattle.pick.proofs.lead.least_by.Tie as tie
 use Rattle.pick.proofs.lead.least_by.Reads as reads
 use Rattle.pick.proofs.lead.least_by.Lts as lts
 use Rattle.pick.proofs.lead.smaller.Reads as smaller-reads
-use Rattle.pick.proofs.rows.due_at.Reads as due-at-reads
-use Rattle.pick.proofs.rows.weight_at.Reads as weight-at-reads
+use Rattle.tally.proofs.rows.due_at.Reads as due-at-reads
+use Rattle.tally.proofs.rows.weight_at.Reads as weight-at-reads
 
 abbrev Inv-loop : tie.InvT-loop
 Inv-loop table flags round by used least₀ i₀ least i = (i ≤ used) × Looking (round-in table) flags by i least

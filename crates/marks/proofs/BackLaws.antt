@@ -8,7 +8,7 @@ use lib.Dec.{leb}
 use lib.ListN.{getD}
 use borrow.Author.Tests.{leb-true, leb-false}
 use Rattle.theory.specs.Tests.{pick, leb?, eqb?}
-use Rattle.pick.specs.Near.{upto}
+use Rattle.tally.specs.Near.{upto}
 use Rattle.marks.specs.Window.{Roomy}
 use Rattle.marks.specs.Span.{one-back, Back-from, Back-to, Flat, Begins}
 use Rattle.marks.specs.declared.span.Back.{Back}

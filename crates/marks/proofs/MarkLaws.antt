@@ -15,11 +15,11 @@ use Rattle.theory.specs.Near.{Near, rows-feas, far-mark, near-after, near-mark-
 use Rattle.theory.specs.Members.{Rows, planned-rows}
 use Rattle.theory.specs.Flags.{with-flag, Chosen, chosen-rows}
 use Rattle.round.specs.declared.Round.{Round as Head}
-use Rattle.pick.specs.Rows.{Ready}
-use Rattle.pick.specs.Near.{Reaches}
+use Rattle.tally.specs.Rows.{Ready}
+use Rattle.tally.specs.Near.{Reaches}
 use Rattle.pick.specs.Lead.{Lightest, Least-by}
-use Rattle.pick.specs.declared.near.Reach.{Reach}
-use Rattle.pick.proofs.RowLaws.{known}
+use Rattle.tally.specs.declared.near.Reach.{Reach}
+use Rattle.tally.proofs.RowLaws.{known}
 
 -- A FAR SLOT, whatever the plan is
 pub far-is : (t : List ℕ) (h : Head) (x : Reach) (s : ℕ) (far : Bool) → Ready t h → Reaches (round-in t) x → h .slot .0 ≤ s → s ≤ h .last .0 →

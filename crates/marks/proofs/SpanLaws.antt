@@ -21,9 +21,9 @@ use Rattle.theory.specs.Members.{Rows, of-rows-fine}
 use Rattle.theory.specs.Near.{rows-le, rows-feas, start-same}
 use Rattle.theory.specs.Flags.{with-flag, Chosen, chosen-rows}
 use Rattle.round.specs.declared.Round.{Round as Head}
-use Rattle.pick.specs.Rows.{Ready}
-use Rattle.pick.specs.Near.{upto}
-use Rattle.pick.proofs.RowLaws.{known}
+use Rattle.tally.specs.Rows.{Ready}
+use Rattle.tally.specs.Near.{upto}
+use Rattle.tally.proofs.RowLaws.{known}
 use Rattle.marks.specs.Window.{window-at, Counted-in, Roomy}
 use Rattle.marks.specs.Span.{Back-to, Flat, Begins, Spans}
 use Rattle.marks.specs.declared.window.Window.{Window}

@@ -22,9 +22,9 @@ use Rattle.theory.specs.Index.{flag-in, first-at, later-at, later-none-at}
 use Rattle.theory.specs.Members.{found-member}
 use Rattle.theory.specs.Flags.{raised, with-flag, Chosen, chosen-rows}
 use Rattle.round.specs.declared.Round.{Round as Head}
-use Rattle.pick.specs.Rows.{Ready, Due-at, Weight-at, at, key-at}
-use Rattle.pick.proofs.RowLaws.{known}
-use Rattle.pick.proofs.TallyLaws.{flag-on, flag-off}
+use Rattle.tally.specs.Rows.{Ready, Due-at, Weight-at, at, key-at}
+use Rattle.tally.proofs.RowLaws.{known}
+use Rattle.tally.proofs.TallyLaws.{flag-on, flag-off}
 use Rattle.marks.specs.Span.{Spans}
 use Rattle.marks.specs.Substitute.{light-offer, left-offer, offer-of, better-of, offer-at, Best-offer, Substitutes}
 use Rattle.marks.specs.declared.span.Span.{Span}

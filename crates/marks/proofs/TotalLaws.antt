@@ -15,7 +15,7 @@ use Rattle.theory.specs.Full.{Fine}
 use Rattle.theory.specs.Index.{chosen-next}
 use Rattle.theory.specs.Members.{found-total}
 use Rattle.theory.specs.Flags.{raised, with-flag, Chosen, chosen-rows, raised-at, length-raised}
-use Rattle.pick.specs.Rows.{Weight-at, at}
+use Rattle.tally.specs.Rows.{Weight-at, at}
 
 -- the rows of the plan among the first i
 abbrev pub so-far : Round → (flags : List ℕ) → (i : ℕ) → List Row

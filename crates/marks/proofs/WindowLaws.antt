@@ -13,10 +13,10 @@ use Rattle.theory.specs.Sum.{sum}
 use Rattle.theory.specs.Feas.{num}
 use Rattle.theory.specs.Marks.{box, box-yes, box?, box-num}
 use Rattle.theory.specs.Flags.{with-flag, Chosen}
-use Rattle.pick.specs.Rows.{Due-at, at}
-use Rattle.pick.specs.Near.{upto}
-use Rattle.pick.proofs.NearLaws.{set?}
-use Rattle.pick.proofs.PeakLaws.{zeros-at}
+use Rattle.tally.specs.Rows.{Due-at, at}
+use Rattle.tally.specs.Near.{upto}
+use Rattle.tally.proofs.NearLaws.{set?}
+use Rattle.tally.proofs.TopLaws.{zeros-at}
 use Rattle.marks.specs.Window.{bucket-in, Counted-in}
 use Rattle.marks.specs.declared.window.Window.{Window}
 use Rattle.marks.proofs.TotalLaws.{so-far, so-far-next, so-far-all}

@@ -6,7 +6,7 @@ use Prim.Native.Nat.{ℕ, suc, _+_, _*_, _-_, _≤_, _<_}
 use lib.Dec.{leb}
 use Rattle.rules.specs.Rows.{Round}
 use Rattle.rules.specs.Plan.{plan, tight-after, segment-start}
-use Rattle.pick.specs.Near.{upto}
+use Rattle.tally.specs.Near.{upto}
 use Rattle.marks.specs.declared.span.Span.{Span}
 use Rattle.marks.specs.declared.span.Back.{Back}
 

@@ -7,7 +7,7 @@ use lib.Dec.{ltb, eqb}
 use lib.ListN.{length, getD}
 use Rattle.rules.specs.Rows.{Round, blank}
 use Rattle.rules.specs.Plan.{plan, substitute}
-use Rattle.pick.specs.Rows.{at, key-at}
+use Rattle.tally.specs.Rows.{at, key-at}
 use Rattle.marks.specs.declared.span.Span.{Span}
 use Rattle.marks.specs.declared.substitute.Offer.{Offer}
 use Rattle.marks.specs.declared.substitute.Sub.{Sub}

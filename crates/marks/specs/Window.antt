@@ -8,7 +8,7 @@ use lib.ListN.{length, getD}
 use Rattle.rules.specs.Rows.{Row}
 use Rattle.theory.specs.Sum.{sum}
 use Rattle.theory.specs.Marks.{box}
-use Rattle.pick.specs.Near.{upto}
+use Rattle.tally.specs.Near.{upto}
 use Rattle.marks.specs.declared.window.Window.{Window}
 
 -- n buckets behind slot s, as many before it, from slot t on

@@ -5,11 +5,11 @@ ghost use lib.Dec.{leb};
 ghost use Rattle.rules.specs.Plan.{mark};
 ghost use Rattle.rules.specs.Table.{round-in};
 ghost use Rattle.theory.specs.Flags.{Chosen};
-ghost use Rattle.pick.specs.Rows.{Ready};
-ghost use Rattle.pick.specs.Near.{Reaches};
+ghost use Rattle.tally.specs.Rows.{Ready};
+ghost use Rattle.tally.specs.Near.{Reaches};
 use crate::span::span_of;
 use pick::lead::least_by;
-use pick::near::Reach;
+use tally::near::Reach;
 use round::Round;
 
 // Whether a slot is so far that its mark is 0, whatever the plan is.

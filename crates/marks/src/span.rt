@@ -3,12 +3,12 @@ ghost use mathlib.Core.Path.{_≡_};
 ghost use Prim.Native.Nat.{ℕ, suc, _+_, _≤_, _<_};
 ghost use Rattle.rules.specs.Table.{round-in};
 ghost use Rattle.theory.specs.Flags.{Chosen};
-ghost use Rattle.pick.specs.Rows.{Ready};
+ghost use Rattle.tally.specs.Rows.{Ready};
 ghost use Rattle.marks.specs.Window.{Roomy};
 ghost use Rattle.marks.specs.Span.{one-back, Back-to, Begins, Spans};
 use crate::window::count_in;
 use crate::window::window_of;
-use pick::rows::wide;
+use tally::rows::wide;
 use round::Round;
 
 pub struct Span {

@@ -4,13 +4,13 @@ ghost use Prim.Native.Nat.{ℕ, _≤_, _<_};
 ghost use lib.ListN.{getD};
 ghost use Rattle.rules.specs.Table.{round-in};
 ghost use Rattle.theory.specs.Flags.{Chosen};
-ghost use Rattle.pick.specs.Rows.{Ready};
+ghost use Rattle.tally.specs.Rows.{Ready};
 ghost use Rattle.marks.specs.Substitute.{light-offer, left-offer, offer-of, better-of, Best-offer, Substitutes};
 use crate::span::Span;
 use crate::span::span_of;
-use pick::rows::due_at;
-use pick::rows::key_of;
-use pick::rows::weight_at;
+use tally::rows::due_at;
+use tally::rows::key_of;
+use tally::rows::weight_at;
 use round::Round;
 
 // A row by its index, or the blank due at a slot.

@@ -6,8 +6,8 @@ ghost use lib.Dec.{eqb};
 ghost use Rattle.rules.specs.Plan.{total};
 ghost use Rattle.rules.specs.Table.{round-in};
 ghost use Rattle.theory.specs.Flags.{Chosen};
-ghost use Rattle.pick.specs.Rows.{Ready};
-use pick::rows::weight_at;
+ghost use Rattle.tally.specs.Rows.{Ready};
+use tally::rows::weight_at;
 use round::Round;
 
 // What a row adds, a frame or a kept blank.

@@ -4,10 +4,10 @@ ghost use Prim.Native.Nat.{ℕ, _≤_};
 ghost use lib.ListN.{replicate};
 ghost use Rattle.rules.specs.Table.{round-in};
 ghost use Rattle.theory.specs.Flags.{with-flag, Chosen};
-ghost use Rattle.pick.specs.Rows.{Ready};
+ghost use Rattle.tally.specs.Rows.{Ready};
 ghost use Rattle.marks.specs.Window.{window-at, bucket-in, Counted-in};
-use pick::rows::bucket_of;
-use pick::rows::due_at;
+use tally::rows::bucket_of;
+use tally::rows::due_at;
 use round::Round;
 
 // Buckets 0 to top: slots from low on; bucket mid is the slot asked about.

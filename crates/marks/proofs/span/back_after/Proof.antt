@@ -8,7 +8,7 @@ use Rattle.marks.proofs.span.back_after.Tie as tie
 use Rattle.marks.proofs.span.back_after.Reads as reads
 use Rattle.marks.proofs.span.back_after.Lts as lts
 use Rattle.marks.proofs.span.back_one.Reads as back-one-reads
-use Rattle.pick.proofs.rows.wide.Reads as wide-reads
+use Rattle.tally.proofs.rows.wide.Reads as wide-reads
 
 abbrev Inv-loop : tie.InvT-loop
 Inv-loop counts mid top s₀ back₀ s back = (suc mid ≤ s) × Going counts top s back

@@ -7,7 +7,7 @@ use Rattle.marks.proofs.span.back_before.Tie as tie
 use Rattle.marks.proofs.span.back_before.Reads as reads
 use Rattle.marks.proofs.span.back_before.Lts as lts
 use Rattle.marks.proofs.span.back_one.Reads as back-one-reads
-use Rattle.pick.proofs.rows.wide.Reads as wide-reads
+use Rattle.tally.proofs.rows.wide.Reads as wide-reads
 
 abbrev Inv-loop : tie.InvT-loop
 Inv-loop counts mid top s₀ back₀ s back = Seeking counts mid top s back

@@ -1,5 +1,5 @@
 use Rattle.marks.proofs.SpanLaws.{viewed, viewed-room, viewed-spans}
-use Rattle.pick.proofs.RowLaws.{known}
+use Rattle.tally.proofs.RowLaws.{known}
 use mathlib.Core.Path.{refl}
 use native.Mathlib.Omega.{arith}
 use borrow.Author.Needs.{needs}

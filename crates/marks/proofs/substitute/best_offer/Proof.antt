@@ -1,7 +1,7 @@
 use Rattle.marks.proofs.SubstituteLaws.{Offered, offer-start, offer-step, offer-end, offer-read, key-read-most}
 use borrow.Author.Needs.{needs}
 use Rattle.marks.specs.Substitute.{offer-at}
-use Rattle.pick.proofs.RowLaws.{known}
+use Rattle.tally.proofs.RowLaws.{known}
 use Rattle.rules.specs.Table.{round-in}
 use native.Mathlib.Omega.{arith}
 use Prim.Native.Nat.{_-_, _≤_}
@@ -11,9 +11,9 @@ use Rattle.marks.proofs.substitute.best_offer.Reads as reads
 use Rattle.marks.proofs.substitute.best_offer.Lts as lts
 use Rattle.marks.proofs.substitute.better_of.Reads as better-of-reads
 use Rattle.marks.proofs.substitute.offer_of.Reads as offer-of-reads
-use Rattle.pick.proofs.rows.due_at.Reads as due-at-reads
-use Rattle.pick.proofs.rows.key_of.Reads as key-of-reads
-use Rattle.pick.proofs.rows.weight_at.Reads as weight-at-reads
+use Rattle.tally.proofs.rows.due_at.Reads as due-at-reads
+use Rattle.tally.proofs.rows.key_of.Reads as key-of-reads
+use Rattle.tally.proofs.rows.weight_at.Reads as weight-at-reads
 
 abbrev Inv-loop : tie.InvT-loop
 Inv-loop table flags round span used slot best₀ i₀ best i = (i ≤ used) × Offered (offer-at (round-in table) flags span) i best

@@ -1,5 +1,5 @@
 use Rattle.marks.proofs.SubstituteLaws.{row-is, blank-is}
-use Rattle.pick.proofs.RowLaws.{known}
+use Rattle.tally.proofs.RowLaws.{known}
 use native.Mathlib.Omega.{arith}
 use borrow.Author.Needs.{needs}
 use Rattle.marks.proofs.substitute.substitute_at.Statement.{statement}
@@ -8,7 +8,7 @@ use Rattle.marks.proofs.substitute.substitute_at.Reads as reads
 use Rattle.marks.proofs.substitute.substitute_at.Lts as lts
 use Rattle.marks.proofs.span.span_of.Reads as span-of-reads
 use Rattle.marks.proofs.substitute.best_offer.Reads as best-offer-reads
-use Rattle.pick.proofs.rows.due_at.Reads as due-at-reads
+use Rattle.tally.proofs.rows.due_at.Reads as due-at-reads
 
 -- src/substitute.rt:103:45
 due-at-requires : tie.Need-due-at-requires

@@ -1,6 +1,6 @@
 use borrow.Author.Needs.{needs}
 use Rattle.marks.proofs.TotalLaws.{Summing, sum-start, sum-step, sum-end}
-use Rattle.pick.proofs.RowLaws.{known}
+use Rattle.tally.proofs.RowLaws.{known}
 use Rattle.rules.specs.Table.{round-in}
 use native.Mathlib.Omega.{arith}
 use Prim.Native.Nat.{_-_, _≤_}
@@ -9,7 +9,7 @@ use Rattle.marks.proofs.total.total_of.Tie as tie
 use Rattle.marks.proofs.total.total_of.Reads as reads
 use Rattle.marks.proofs.total.total_of.Lts as lts
 use Rattle.marks.proofs.total.added.Reads as added-reads
-use Rattle.pick.proofs.rows.weight_at.Reads as weight-at-reads
+use Rattle.tally.proofs.rows.weight_at.Reads as weight-at-reads
 
 abbrev Inv-loop : tie.InvT-loop
 Inv-loop table flags round used sum₀ i₀ sum i = (i ≤ used) × Summing (round-in table) flags i sum

@@ -4,7 +4,7 @@ use Rattle.marks.proofs.window.bucket_in.Statement.{statement}
 use Rattle.marks.proofs.window.bucket_in.Tie as tie
 use Rattle.marks.proofs.window.bucket_in.Reads as reads
 use Rattle.marks.proofs.window.bucket_in.Lts as lts
-use Rattle.pick.proofs.rows.bucket_of.Reads as bucket-of-reads
+use Rattle.tally.proofs.rows.bucket_of.Reads as bucket-of-reads
 
 -- src/window.rt:38:15
 add-out : tie.Need-add-out

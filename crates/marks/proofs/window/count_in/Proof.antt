@@ -2,14 +2,14 @@ use borrow.Author.Needs.{needs}
 use Prim.Native.Nat.{_-_, _≤_}
 use native.Mathlib.Omega.{arith}
 use Rattle.rules.specs.Table.{round-in}
-use Rattle.pick.proofs.RowLaws.{known}
+use Rattle.tally.proofs.RowLaws.{known}
 use Rattle.marks.proofs.WindowLaws.{Counting-in, window-start, window-step, window-end}
 use Rattle.marks.proofs.window.count_in.Statement.{statement}
 use Rattle.marks.proofs.window.count_in.Tie as tie
 use Rattle.marks.proofs.window.count_in.Reads as reads
 use Rattle.marks.proofs.window.count_in.Lts as lts
 use Rattle.marks.proofs.window.bucket_in.Reads as bucket-in-reads
-use Rattle.pick.proofs.rows.due_at.Reads as due-at-reads
+use Rattle.tally.proofs.rows.due_at.Reads as due-at-reads
 
 abbrev Inv-loop : tie.InvT-loop
 Inv-loop table flags counts₀ round window used i₀ counts i = (i ≤ used) × Counting-in (round-in table) flags window i counts

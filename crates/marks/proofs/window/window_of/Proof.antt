@@ -3,7 +3,7 @@ use Rattle.marks.proofs.window.window_of.Statement.{statement}
 use Rattle.marks.proofs.window.window_of.Tie as tie
 use Rattle.marks.proofs.window.window_of.Reads as reads
 use Rattle.marks.proofs.window.window_of.Lts as lts
-use Rattle.pick.proofs.rows.bucket_of.Reads as bucket-of-reads
+use Rattle.tally.proofs.rows.bucket_of.Reads as bucket-of-reads
 
 -- src/window.rt:25:9
 bucket-of-requires : tie.Need-bucket-of-requires

@@ -1,6 +1,7 @@
 // The segment of a slot: its first slot and its last.
 ghost use mathlib.Core.Path.{_≡_};
 ghost use Prim.Native.Nat.{ℕ, suc, _+_, _≤_, _<_};
+ghost use lib.ListN.{length};
 ghost use Rattle.rules.specs.Table.{round-in};
 ghost use Rattle.theory.specs.Flags.{Chosen};
 ghost use Rattle.tally.specs.Rows.{Ready};
@@ -17,9 +18,9 @@ pub struct Span {
 }
 
 // From the last bucket back: over rows wait for an earlier bucket; the latest segment seen begins at bucket edge.
-struct Back {
-    over: usize,
-    edge: usize,
+pub struct Back {
+    pub over: usize,
+    pub edge: usize,
 }
 
 // One bucket back: it takes one row, and a segment begins where none has to wait.
@@ -41,8 +42,8 @@ fn back_one(back: Back, bucket: usize, count: usize) -> Back
 }
 
 // Where the segment behind a bucket's begins.
-fn back_after(counts: &[u16; 2050], mid: usize, top: usize) -> Back
-    requires { ⌜ (mid ≤ top) × (top ≤ 2048) ⌝ }
+pub fn back_after(counts: &[u16], mid: usize, top: usize) -> Back
+    requires { ⌜ (mid ≤ top) × (top ≤ 2048) × (top < length (now counts)) ⌝ }
     ensures { λ r. ⌜ Back-to (now (counts .entry)) top (suc mid) r ⌝ }
 {
     let mut s = top + 1;
@@ -55,8 +56,8 @@ fn back_after(counts: &[u16; 2050], mid: usize, top: usize) -> Back
 }
 
 // Where its own begins.
-fn back_before(counts: &[u16; 2050], mid: usize, top: usize, after: Back) -> usize
-    requires { ⌜ (mid ≤ top) × (top ≤ 2048) × Back-to (now counts) top (suc mid) after × Roomy (now counts) mid top ⌝ }
+fn back_before(counts: &[u16], mid: usize, top: usize, after: Back) -> usize
+    requires { ⌜ (mid ≤ top) × (top ≤ 2048) × (top < length (now counts)) × Back-to (now counts) top (suc mid) after × Roomy (now counts) mid top ⌝ }
     ensures { λ r. ⌜ Begins (now (counts .entry)) mid top r ⌝ }
 {
     let mut s = mid + 1;

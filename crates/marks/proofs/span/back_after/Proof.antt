@@ -1,5 +1,5 @@
-use mathlib.Core.Path.{_≡_}
 use borrow.Author.Needs.{needs}
+use mathlib.Core.Path.{_≡_}
 use native.Mathlib.Omega.{arith}
 use Prim.Native.Nat.{suc, _-_, _≤_}
 use Rattle.marks.proofs.BackLaws.{Going, go-start, go-back}
@@ -16,49 +16,49 @@ Inv-loop counts mid top s₀ back₀ s back = (suc mid ≤ s) × Going counts to
 abbrev μ-loop : tie.MeasureT-loop
 μ-loop counts mid top s₀ back₀ s back = s
 
--- src/span.rt:48:17
+-- src/span.rt:49:17
 add-s : tie.Need-add-s Inv-loop μ-loop
 add-s c = search needs
 
--- src/span.rt:50:5
+-- src/span.rt:51:5
 loop-holds : tie.Need-loop-holds Inv-loop μ-loop
 loop-holds c = (search needs, go-start _ _ _ (omega arith))
 
--- src/span.rt:50:11
+-- src/span.rt:51:11
 add-loop : tie.Need-add-loop Inv-loop μ-loop
 add-loop c = search needs
 
--- src/span.rt:51:9
+-- src/span.rt:52:9
 sub-s : tie.Need-sub-s Inv-loop μ-loop
 sub-s c = search needs
 
--- src/span.rt:52:39
+-- src/span.rt:53:39
 mul-wide : tie.Need-mul-wide Inv-loop μ-loop
 mul-wide c = search needs
 
--- src/span.rt:52:39
-element-copy-out-wide : tie.Need-element-copy-out-wide Inv-loop μ-loop
-element-copy-out-wide c = search needs
+-- src/span.rt:53:39
+shared-slice-read-wide : tie.Need-shared-slice-read-wide Inv-loop μ-loop
+shared-slice-read-wide c = search needs
 
--- src/span.rt:52:34
+-- src/span.rt:53:34
 wide-requires : tie.Need-wide-requires Inv-loop μ-loop
 wide-requires c κs = search needs
 
--- src/span.rt:52:9
+-- src/span.rt:53:9
 back-one-requires : tie.Need-back-one-requires Inv-loop μ-loop
-back-one-requires c κs = omega (arith, c .before .before .before .loop .inv .1 .back .few, c .wide .ensures .1, c .before .before .before .before .pre .1)
+back-one-requires c κs = omega (arith, c .before .before .before .loop .inv .1 .back .few, c .wide .ensures .1, c .before .before .before .before .before .pre .1)
 
--- src/span.rt:50:5
+-- src/span.rt:51:5
 loop-less : tie.Need-loop-less Inv-loop μ-loop
 loop-less c = search needs
 
--- src/span.rt:50:5
+-- src/span.rt:51:5
 loop-again : tie.Need-loop-again Inv-loop μ-loop
 loop-again c = (search needs, go-back _ _ _ _ _ _ (omega arith) (c .before .before .before .before .loop .inv .1) (c .before .wide .ensures .0) (c .before .wide .ensures .1) (c .back-one .ensures))
 
--- src/span.rt:44:1
+-- src/span.rt:45:1
 returns : tie.Need-returns Inv-loop μ-loop
-returns c = let e : c .before .loop .s ≡ suc (c .before .before .args .mid) = omega arith in rw e at (c .before .loop .inv .1 .back)
+returns c = let e : c .before .loop .s ≡ suc (c .before .before .before .args .mid) = omega arith in rw e at (c .before .loop .inv .1 .back)
 
 pub back-after-spec : {M : Type 1} → statement M
 back-after-spec =
@@ -71,7 +71,7 @@ back-after-spec =
     add-loop
     sub-s
     mul-wide
-    element-copy-out-wide
+    shared-slice-read-wide
     wide-requires
     back-one-requires
     loop-less

@@ -94,20 +94,21 @@ module _ (r : Round) (f : Fine r) (o : r .slot ≤ r .last) (fs : List ℕ) (c :
       ))
 
 -- THE MARK as it is answered
-module _ (t : List ℕ) (h : Head) (fs : List ℕ) (x : Reach) (s : ℕ) (far : Bool) (k : Ready t h) (c : Chosen (round-in t) fs) (w : Reaches (round-in t) x)
-    (a : h .slot .0 ≤ s) (b : s ≤ h .last .0) (d : far ≡ leb (x .free) (s - h .slot .0)) (e : far ≡ false) where
-  pub near-under : s - h .slot .0 < x .free
-  near-under = leb-false (x .free) (s - h .slot .0) (sym d ∙ e)
+pub record Nearby (h : Head) (x : Reach) (s : ℕ) : Type 0 where
+  pub under : s - h .slot .0 < x .free
+  pub small : x .free ≤ 1025
 
-  pub near-small : x .free ≤ 1025
-  near-small = let n = known t h k in omega (arith, w .sweep .high, n .small)
+pub nearby : (t : List ℕ) (h : Head) (x : Reach) (s : ℕ) (far : Bool) → Ready t h → Reaches (round-in t) x → far ≡ leb (x .free) (s - h .slot .0) → far ≡ false → Nearby h x s
+nearby t h x s far k w d e =
+    let n = known t h k in
+    record { under = leb-false (x .free) (s - h .slot .0) (sym d ∙ e); small = omega (arith, w .sweep .high, n .small) }
 
-  pub near-is : (cs : List ℕ) (y : Back) (v m : ℕ) → Counted (round-in t) (with-flag (round-in t) fs) cs → Back-to cs (x .free - 1) (suc (s - h .slot .0)) y → v ≡ h .slot .0 + (y .edge - 1) →
-      Least-by (round-in t) fs v m → m ≡ mark (round-in t) s
-  near-is cs y v m g i q l =
-      let n = known t h k in
-      let u = near-under in
-      near-least (round-in t) (n .fine) fs c (round-in t .slot + x .free) (w .near) s v m (omega (arith, a, n .slot)) (omega (arith, a, u, n .slot))
-      (q ∙ ap (λ (p : ℕ). p + (y .edge - 1)) (n .slot)
-      ∙ sym (next-is (round-in t) (n .fine) (n .time) fs c x w cs g s (s - h .slot .0) y (omega (arith, a, n .slot)) u i))
-      l
+pub near-is : (t : List ℕ) (h : Head) (fs : List ℕ) (x : Reach) (s : ℕ) (cs : List ℕ) (y : Back) (v m : ℕ) → Ready t h → Chosen (round-in t) fs → Reaches (round-in t) x →
+    h .slot .0 ≤ s → Nearby h x s → Counted (round-in t) (with-flag (round-in t) fs) cs → Back-to cs (x .free - 1) (suc (s - h .slot .0)) y → v ≡ h .slot .0 + (y .edge - 1) →
+    Least-by (round-in t) fs v m → m ≡ mark (round-in t) s
+near-is t h fs x s cs y v m k c w a u g i q l =
+    let n = known t h k in
+    near-least (round-in t) (n .fine) fs c (round-in t .slot + x .free) (w .near) s v m (omega (arith, a, n .slot)) (omega (arith, a, u .under, n .slot))
+    (q ∙ ap (λ (p : ℕ). p + (y .edge - 1)) (n .slot)
+    ∙ sym (next-is (round-in t) (n .fine) (n .time) fs c x w cs g s (s - h .slot .0) y (omega (arith, a, n .slot)) (u .under) i))
+    l

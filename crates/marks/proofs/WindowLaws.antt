@@ -30,10 +30,13 @@ bucket-by w f d = elim (eqb? f 1) [
 
 pub bucket-own : (w : Window) (f d v : ℕ) → v ≤ w .top → bucket-in w f d ≡ v → (f ≡ 1) × (d ≡ w .low + v)
 bucket-own w f d v h e = elim (eqb? f 1) [
-  | inl a ↦ (a .1, elim (ltb? d (w .low)) [
-    | inl b ↦ absurd (omega (arith, h, rw (a .0, b .0) at e))
-    | inr b ↦ omega (arith, h, rw (a .0, b .0) at e, b .1)
-  ])
+  | inl a ↦ (
+    a .1,
+    elim (ltb? d (w .low)) [
+      | inl b ↦ absurd (omega (arith, h, rw (a .0, b .0) at e))
+      | inr b ↦ omega (arith, h, rw (a .0, b .0) at e, b .1)
+    ],
+  )
   | inr a ↦ absurd (omega (arith, h, rw (a .0) at e))
 ]
 

@@ -35,13 +35,7 @@ fn out(flag: u8) -> u16
 }
 
 // Counts of all rows by bucket become those of the plan's; they are where none is left out.
-fn keep_counts(
-    table: &[u8],
-    flags: &[u8],
-    counts: &mut [u16; 1025],
-    round: Round,
-    reach: Reach,
-)
+fn keep_counts(table: &[u8], flags: &[u8], counts: &mut [u16; 1025], round: Round, reach: Reach)
     requires { ⌜ Ready (now table) round × Chosen (round-in (now table)) (now flags) × Reaches (round-in (now table)) reach × Counted (round-in (now table)) (round-in (now table) .rows) (now counts) ⌝ }
     ensures { λ _. ⌜ Counted (round-in (now (table .entry))) (with-flag (round-in (now (table .entry))) (now (flags .entry))) (now (counts .exit)) ⌝ }
 {

@@ -9,8 +9,8 @@ ghost use Rattle.marks.specs.Window.{Roomy};
 ghost use Rattle.marks.specs.Span.{one-back, Back-to, Begins, Spans};
 use crate::window::count_in;
 use crate::window::window_of;
-use tally::rows::wide;
 use round::Round;
+use tally::rows::wide;
 
 pub struct Span {
     pub first: u32,

@@ -8,10 +8,10 @@ ghost use Rattle.tally.specs.Rows.{Ready};
 ghost use Rattle.marks.specs.Substitute.{light-offer, left-offer, offer-of, better-of, Best-offer, Substitutes};
 use crate::span::Span;
 use crate::span::span_of;
+use round::Round;
 use tally::rows::due_at;
 use tally::rows::key_of;
 use tally::rows::weight_at;
-use round::Round;
 
 // A row by its index, or the blank due at a slot.
 pub enum Sub {

@@ -7,8 +7,8 @@ ghost use Rattle.rules.specs.Plan.{total};
 ghost use Rattle.rules.specs.Table.{round-in};
 ghost use Rattle.theory.specs.Flags.{Chosen};
 ghost use Rattle.tally.specs.Rows.{Ready};
-use tally::rows::weight_at;
 use round::Round;
+use tally::rows::weight_at;
 
 // What a row adds, a frame or a kept blank.
 fn added(flag: u8, weight: u32) -> u64

@@ -6,9 +6,9 @@ ghost use Rattle.rules.specs.Table.{round-in};
 ghost use Rattle.theory.specs.Flags.{with-flag, Chosen};
 ghost use Rattle.tally.specs.Rows.{Ready};
 ghost use Rattle.marks.specs.Window.{window-at, bucket-in, Counted-in};
+use round::Round;
 use tally::rows::bucket_of;
 use tally::rows::due_at;
-use round::Round;
 
 // Buckets 0 to top: slots from low on; bucket mid is the slot asked about.
 pub struct Window {
@@ -45,13 +45,7 @@ fn bucket_in(window: Window, flag: u8, due: u32) -> usize
     bucket_of(due, window.low, out)
 }
 
-pub fn count_in(
-    table: &[u8],
-    flags: &[u8],
-    counts: &mut [u16; 2050],
-    round: Round,
-    window: Window,
-)
+pub fn count_in(table: &[u8], flags: &[u8], counts: &mut [u16; 2050], round: Round, window: Window)
     requires { ⌜ Ready (now table) round × Chosen (round-in (now table)) (now flags) × (window .top ≤ 2048) × (now counts ≡ replicate 2050 0) ⌝ }
     ensures { λ _. ⌜ Counted-in (with-flag (round-in (now (table .entry))) (now (flags .entry))) window (now (counts .exit)) ⌝ }
 {

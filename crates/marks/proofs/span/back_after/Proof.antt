@@ -1,14 +1,11 @@
+-- `marks::span::back_after` meets its contract. The invariant: the way back has come to bucket s. Assumes nothing.
 use borrow.Author.Needs.{needs}
 use mathlib.Core.Path.{_≡_}
+use Prim.Native.Nat.{suc, _≤_}
 use native.Mathlib.Omega.{arith}
-use Prim.Native.Nat.{suc, _-_, _≤_}
 use Rattle.marks.proofs.BackLaws.{Going, go-start, go-back}
 use Rattle.marks.proofs.span.back_after.Statement.{statement}
 use Rattle.marks.proofs.span.back_after.Tie as tie
-use Rattle.marks.proofs.span.back_after.Reads as reads
-use Rattle.marks.proofs.span.back_after.Lts as lts
-use Rattle.marks.proofs.span.back_one.Reads as back-one-reads
-use Rattle.tally.proofs.rows.wide.Reads as wide-reads
 
 abbrev Inv-loop : tie.InvT-loop
 Inv-loop counts mid top s₀ back₀ s back = (suc mid ≤ s) × Going counts top s back
@@ -16,47 +13,36 @@ Inv-loop counts mid top s₀ back₀ s back = (suc mid ≤ s) × Going counts to
 abbrev μ-loop : tie.MeasureT-loop
 μ-loop counts mid top s₀ back₀ s back = s
 
--- src/span.rt:49:17
 add-s : tie.Need-add-s Inv-loop μ-loop
 add-s c = search needs
 
--- src/span.rt:51:5
 loop-holds : tie.Need-loop-holds Inv-loop μ-loop
 loop-holds c = (search needs, go-start _ _ _ (omega arith))
 
--- src/span.rt:51:11
 add-loop : tie.Need-add-loop Inv-loop μ-loop
 add-loop c = search needs
 
--- src/span.rt:52:9
 sub-s : tie.Need-sub-s Inv-loop μ-loop
 sub-s c = search needs
 
--- src/span.rt:53:39
 mul-wide : tie.Need-mul-wide Inv-loop μ-loop
 mul-wide c = search needs
 
--- src/span.rt:53:39
 shared-slice-read-wide : tie.Need-shared-slice-read-wide Inv-loop μ-loop
 shared-slice-read-wide c = search needs
 
--- src/span.rt:53:34
 wide-requires : tie.Need-wide-requires Inv-loop μ-loop
 wide-requires c κs = search needs
 
--- src/span.rt:53:9
 back-one-requires : tie.Need-back-one-requires Inv-loop μ-loop
 back-one-requires c κs = omega (arith, c .before .before .before .loop .inv .1 .back .few, c .wide .ensures .1, c .before .before .before .before .before .pre .1)
 
--- src/span.rt:51:5
 loop-less : tie.Need-loop-less Inv-loop μ-loop
 loop-less c = search needs
 
--- src/span.rt:51:5
 loop-again : tie.Need-loop-again Inv-loop μ-loop
 loop-again c = (search needs, go-back _ _ _ _ _ _ (omega arith) (c .before .before .before .before .loop .inv .1) (c .before .wide .ensures .0) (c .before .wide .ensures .1) (c .back-one .ensures))
 
--- src/span.rt:45:1
 returns : tie.Need-returns Inv-loop μ-loop
 returns c = let e : c .before .loop .s ≡ suc (c .before .before .before .args .mid) = omega arith in rw e at (c .before .loop .inv .1 .back)
 

@@ -1,23 +1,18 @@
+-- `marks::span::back_one` meets its contract. Assumes nothing.
 use borrow.Author.Tests.{le-leb, lt-leb}
 use borrow.Author.Needs.{needs}
 use Rattle.marks.proofs.span.back_one.Statement.{statement}
 use Rattle.marks.proofs.span.back_one.Tie as tie
-use Rattle.marks.proofs.span.back_one.Reads as reads
-use Rattle.marks.proofs.span.back_one.Lts as lts
 
--- src/span.rt:30:19
 add-waiting : tie.Need-add-waiting
 add-waiting c = search needs
 
--- src/span.rt:32:9
 returns : tie.Need-returns
 returns c = simp (le-leb _ _ (c .if1 .taken))
 
--- src/span.rt:38:15
 sub-t6 : tie.Need-sub-t6
 sub-t6 c = search needs
 
--- src/span.rt:26:1
 returns-2 : tie.Need-returns-2
 returns-2 c = simp (lt-leb _ _ (c .if1 .left))
 

@@ -1,15 +1,11 @@
-use borrow.Author.Needs.{needs}
+-- `marks::substitute::better_of` meets its contract. Assumes nothing.
 use borrow.Author.Tests.{lt-ltb, le-ltb}
 use Rattle.marks.proofs.substitute.better_of.Statement.{statement}
 use Rattle.marks.proofs.substitute.better_of.Tie as tie
-use Rattle.marks.proofs.substitute.better_of.Reads as reads
-use Rattle.marks.proofs.substitute.better_of.Lts as lts
 
--- src/substitute.rt:72:9
 returns : tie.Need-returns
 returns c = simp (lt-ltb _ _ (c .if1 .taken))
 
--- src/substitute.rt:68:1
 returns-2 : tie.Need-returns-2
 returns-2 c = simp (le-ltb _ _ (c .if1 .left))
 

@@ -1,19 +1,14 @@
-use borrow.Author.Needs.{needs}
+-- `marks::substitute::left_offer` meets its contract. Assumes nothing.
 use borrow.Author.Tests.{eq-eqb, ne-eqb, lt-ltb, le-ltb}
 use Rattle.marks.proofs.substitute.left_offer.Statement.{statement}
 use Rattle.marks.proofs.substitute.left_offer.Tie as tie
-use Rattle.marks.proofs.substitute.left_offer.Reads as reads
-use Rattle.marks.proofs.substitute.left_offer.Lts as lts
 
--- src/substitute.rt:50:9
 returns : tie.Need-returns
 returns c = simp (eq-eqb _ _ (c .if1 .taken))
 
--- src/substitute.rt:53:9
 returns-2 : tie.Need-returns-2
 returns-2 c = simp (ne-eqb _ _ (c .before .if1 .left), lt-ltb _ _ (c .if2 .taken))
 
--- src/substitute.rt:46:1
 returns-3 : tie.Need-returns-3
 returns-3 c = simp (ne-eqb _ _ (c .before .if1 .left), le-ltb _ _ (c .if2 .left))
 

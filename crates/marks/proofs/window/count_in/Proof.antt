@@ -1,15 +1,13 @@
+-- `marks::window::count_in` meets its contract. The invariant: the rows passed are counted. Assumes nothing.
 use borrow.Author.Needs.{needs}
-use Prim.Native.Nat.{_-_, _≤_}
+use Prim.Native.Nat.{_-_, _≤_, _<_}
 use native.Mathlib.Omega.{arith}
+use lib.ListN.{length}
 use Rattle.rules.specs.Table.{round-in}
 use Rattle.tally.proofs.RowLaws.{known}
 use Rattle.marks.proofs.WindowLaws.{Counting-in, window-start, window-step, window-end}
 use Rattle.marks.proofs.window.count_in.Statement.{statement}
 use Rattle.marks.proofs.window.count_in.Tie as tie
-use Rattle.marks.proofs.window.count_in.Reads as reads
-use Rattle.marks.proofs.window.count_in.Lts as lts
-use Rattle.marks.proofs.window.bucket_in.Reads as bucket-in-reads
-use Rattle.tally.proofs.rows.due_at.Reads as due-at-reads
 
 abbrev Inv-loop : tie.InvT-loop
 Inv-loop table flags counts₀ round window used i₀ counts i = (i ≤ used) × Counting-in (round-in table) flags window i counts
@@ -17,11 +15,15 @@ Inv-loop table flags counts₀ round window used i₀ counts i = (i ≤ used) ×
 abbrev μ-loop : tie.MeasureT-loop
 μ-loop table flags counts₀ round window used i₀ counts i = used - i
 
+-- the row in hand
+row : (c : tie.In-loop Inv-loop μ-loop) → c .before .loop .i < length (round-in (c .before .before .before .before .args .table .now) .rows)
+row c = omega (arith, known _ _ (c .before .before .before .before .pre .0) .used, c .loop-test .taken)
+
 loop-holds : tie.Need-loop-holds Inv-loop μ-loop
 loop-holds c = (search needs, window-start _ _ _ _ (c .before .before .pre .3))
 
 shared-slice-read-bucket-in : tie.Need-shared-slice-read-bucket-in Inv-loop μ-loop
-shared-slice-read-bucket-in c = omega (arith, known _ _ (c .before .before .before .before .before .pre .0) .used, c .before .before .before .before .before .pre .1 .long)
+shared-slice-read-bucket-in c = omega (arith, row (c .before), c .before .before .before .before .before .pre .1 .long)
 
 due-at-requires : tie.Need-due-at-requires Inv-loop μ-loop
 due-at-requires c κs = (c .before .before .before .before .before .pre .0, search needs)
@@ -36,7 +38,7 @@ element-copy-out-counts : tie.Need-element-copy-out-counts Inv-loop μ-loop
 element-copy-out-counts c = search needs
 
 add-counts : tie.Need-add-counts Inv-loop μ-loop
-add-counts c = let k = known _ _ (c .before .before .before .before .before .before .before .before .pre .0) in omega (arith, c .before .before .before .before .before .loop .inv .1 .few (c .before .bucket-in .result), k .used, k .small, c .before .before .before .before .loop-test .taken)
+add-counts c = omega (arith, c .before .before .before .before .before .loop .inv .1 .few (c .before .bucket-in .result), row (c .before .before .before .before), known _ _ (c .before .before .before .before .before .before .before .before .pre .0) .small)
 
 mul-counts-2 : tie.Need-mul-counts-2 Inv-loop μ-loop
 mul-counts-2 c = search needs
@@ -51,10 +53,11 @@ loop-less : tie.Need-loop-less Inv-loop μ-loop
 loop-less c = search needs
 
 loop-again : tie.Need-loop-again Inv-loop μ-loop
-loop-again c = (search needs, window-step _ _ _ _ _ _ _ (c .before .before .before .before .before .before .before .before .pre .1) (omega (arith, known _ _ (c .before .before .before .before .before .before .before .before .pre .0) .used, c .before .before .before .before .loop-test .taken)) (c .before .before .before .before .before .before .before .before .pre .2) (c .before .before .due-at .ensures) (c .before .bucket-in .ensures .0) (c .before .before .before .before .before .loop .inv .1))
+loop-again c =
+    (search needs, window-step _ _ _ _ _ _ _ (c .before .before .before .before .before .before .before .before .pre .1) (row (c .before .before .before .before)) (c .before .before .before .before .before .before .before .before .pre .2) (c .before .before .due-at .ensures) (c .before .bucket-in .ensures .0) (c .before .before .before .before .before .loop .inv .1))
 
 returns : tie.Need-returns Inv-loop μ-loop
-returns c = window-end _ _ _ _ _ (c .before .before .before .before .pre .1) (omega (arith, known _ _ (c .before .before .before .before .pre .0) .used)) (c .before .loop .inv .1)
+returns c = let s = c .before .before .before .before in window-end _ _ _ _ _ (s .pre .1) (omega (arith, known _ _ (s .pre .0) .used)) (c .before .loop .inv .1)
 
 pub count-in-spec : {M : Type 1} → statement M
 count-in-spec =

@@ -1,27 +1,20 @@
+-- `marks::window::window_of` meets its contract. Assumes nothing.
 use borrow.Author.Needs.{needs}
 use Rattle.marks.proofs.window.window_of.Statement.{statement}
 use Rattle.marks.proofs.window.window_of.Tie as tie
-use Rattle.marks.proofs.window.window_of.Reads as reads
-use Rattle.marks.proofs.window.window_of.Lts as lts
-use Rattle.tally.proofs.rows.bucket_of.Reads as bucket-of-reads
 
--- src/window.rt:25:9
 bucket-of-requires : tie.Need-bucket-of-requires
 bucket-of-requires c κs = search needs
 
--- src/window.rt:27:21
 cast-t4 : tie.Need-cast-t4
 cast-t4 c = search needs
 
--- src/window.rt:27:14
 sub-t5 : tie.Need-sub-t5
 sub-t5 c = search needs
 
--- src/window.rt:29:14
 add-t6 : tie.Need-add-t6
 add-t6 c = search needs
 
--- src/window.rt:21:1
 returns : tie.Need-returns
 returns c = simp (c .before .bucket-of .ensures)
 

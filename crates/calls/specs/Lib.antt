@@ -1,3 +1,6 @@
 pub mod Replies
+pub mod Steps
+pub mod Asking
 pub mod Says
 pub mod Taking
+pub mod Finding

@@ -8,22 +8,22 @@ ghost use Rattle.tally.specs.Near.{Reaches};
 ghost use Rattle.pick.specs.Choice.{Picked};
 ghost use Rattle.shifting.specs.Chain.{due-named};
 ghost use Rattle.leap.specs.Send.{Went-of, Alone, Notes, Sent-says};
-use shifting::chain::end_from;
-use shifting::chain::row_of;
-use shifting::chain::shift_chain;
 use closing::close::close_up;
-use shifting::marks::marks_by;
 use closing::write::write_kept;
 use closing::write::write_weight;
 use pick::choice::Pick;
 use pick::lead::least_by;
-use tally::near::Reach;
 use round::Round;
 use round::Slot;
 use round::Ticket;
 use round::Weight;
 use round::bytes::read4;
 use round::rows::row_at;
+use shifting::chain::end_from;
+use shifting::chain::row_of;
+use shifting::chain::shift_chain;
+use shifting::marks::marks_by;
+use tally::near::Reach;
 
 // What went out: a row's ticket and kind; ticket 0 is silence.
 pub struct Went {

@@ -29,7 +29,13 @@ pub fn flag_rows(table: &[u8], flags: &mut [u8], round: Round, reach: Reach)
 }
 
 // What goes out by the plan's flags, and what it leaves.
-fn send_flagged(table: &mut [u8], flags: &[u8], counts: &mut [u16; 1025], round: Round, reach: Reach) -> Went
+fn send_flagged(
+    table: &mut [u8],
+    flags: &[u8],
+    counts: &mut [u16; 1025],
+    round: Round,
+    reach: Reach,
+) -> Went
     requires { ⌜ Ready (now table) round × (1 ≤ round .used) × Chosen (round-in (now table)) (now flags) × Counted (round-in (now table)) (round-in (now table) .rows) (now counts) × Reaches (round-in (now table)) reach ⌝ }
     ensures { λ r. ⌜ Sent-says (now (table .entry)) (now (table .exit)) r ⌝ }
 {

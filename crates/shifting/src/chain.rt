@@ -9,12 +9,12 @@ ghost use Rattle.theory.specs.Flags.{Chosen, with-flag};
 ghost use Rattle.tally.specs.Rows.{Ready};
 ghost use Rattle.shifting.specs.Chain.{First-end, Ends, row-named, Named, linked, ended, ended-bytes, passed, passed-bytes, Fair-links, Chained, Shifts};
 use closing::write::write_shift;
-use tally::near::Reach;
-use tally::rows::larger;
-use tally::rows::wide;
 use round::Round;
 use round::Slot;
 use round::Weight;
+use tally::near::Reach;
+use tally::rows::larger;
+use tally::rows::wide;
 
 // The end of a bucket's segment: the first from it on by which the plan's rows fill the slots. Both last and free - 1 are ends.
 pub fn end_from(counts: &[u16; 1025], last: usize, bucket: usize, free: usize) -> usize

@@ -6,9 +6,9 @@ ghost use Rattle.rules.specs.Table.{round-in};
 ghost use Rattle.theory.specs.Flags.{Chosen};
 ghost use Rattle.tally.specs.Rows.{Ready};
 ghost use Rattle.shifting.specs.Marks.{Blank-marks, Lowered, lowered, Own-marks, Marks};
+use round::Round;
 use tally::rows::due_at;
 use tally::rows::weight_at;
-use round::Round;
 
 fn smaller(a: u32, b: u32) -> u32
     ensures { λ r. ⌜ r ≡ min a b ⌝ }

@@ -6,7 +6,7 @@ use mathlib.Core.List.{List, _++_, append-assoc}
 use Prim.Native.Nat.{ℕ, zero, suc, _+_, _*_, _-_, _≤_, _<_}
 use native.Mathlib.Omega.{arith}
 use lib.Dec.{leb, eqb}
-use lib.ListN.{length, getD, take, drop, replicate, length-replicate}
+use lib.ListN.{length, getD, take, drop, replicate}
 use lib.Seq.{sets, paste, take-take, drop-length, length-take-le}
 use Rattle.rules.specs.Rows.{Row, Round, round, blank}
 use Rattle.rules.specs.Conditions.{row-at}
@@ -17,12 +17,12 @@ use Rattle.theory.specs.Back.{value-low, fits-bytes}
 use Rattle.theory.specs.Fields.{field-drop, field-take}
 use Rattle.theory.specs.Sane.{Sane, sound}
 use Rattle.theory.specs.Keys.{getD-in}
-use Rattle.theory.specs.Close.{stays, closed, head-bytes, length-head, table-is, kept-of, closing-start, bytes-here, kept-more, kept-still, closing-skip, closing-copy, closing-paste, closing-rows, length-closed}
+use Rattle.theory.specs.Close.{stays, closed, head-bytes, length-head, table-is, kept-of, kept-most, closing-start, bytes-here, kept-more, kept-still, closing-skip, closing-copy, closing-paste, closing-rows, length-closed}
 use Rattle.theory.specs.Write.{head-sets, zeros-join, zero-byte}
 use Rattle.round.specs.Head.{Head-of}
 use Rattle.round.specs.declared.Round.{Round as Head}
 use Rattle.closing.specs.Close.{stays-in, Kept, Front, Closing-in, Closed-rows, closed-up}
-use Rattle.closing.proofs.HeadLaws.{head-slot, head-used}
+use Rattle.closing.proofs.HeadLaws.{head-slot, head-used, table-room}
 
 -- whether a row stays, as the code reads it
 pub stays-read : (t : List ℕ) (s k i at d n : ℕ) → at ≡ row-at i → d ≡ field (at + 4) 2 t → n ≡ field (at + 0) 4 t →
@@ -123,21 +123,39 @@ module _ (s k : ℕ) (r : Round) (z : Sane r) where
         closing-copy s k hd (r .rows) zs m (blank 0) t t i (c .1) g refl refl (ap (λ (x : ℕ). take 24 (drop (16 + 24 * x) t)) (sym (c .0))) refl,
       )
 
--- THE FIRST ROWS of a sound table
-pub closing-front : (s k n : ℕ) (t : List ℕ) → table-refusal t ≡ 0 → (u : ℕ) → u ≡ length (round-in t .rows) → Front s k u t n →
-    (n ≡ kept-of s k (round-in t .rows) n) × Closing-in s k (round-in t) n t
-closing-front s k n t e u l f =
-    let h = sound t e in
-    front-from s k (round-in t) (h .sane) t (sym (h .bytes)) u n f n (omega arith) (omega (arith, f .by))
+-- THE LOOP: row i of u is next, and n of those before it are kept
+pub record Moving (s k u : ℕ) (t : List ℕ) (i n : ℕ) (w : List ℕ) : Type 0 where
+  pub by : i ≤ u
+  pub long : length w ≡ length t
+  pub kept : n ≡ kept-of s k (round-in t .rows) i
+  pub rows : Closing-in s k (round-in t) i w
 
-pub closing-end : (s k u : ℕ) (t w : List ℕ) (i n : ℕ) → i ≡ u → u ≡ length (round-in t .rows) → n ≡ kept-of s k (round-in t .rows) i →
-    Closing-in s k (round-in t) i w → Closed-rows s k t w n
-closing-end s k u t w i n e f g q =
-    let r = round-in t in
-    let q2 : Closing-in s k r (length (r .rows)) w = subst (λ (j : ℕ). Closing-in s k r j w) (e ∙ f) q in
-    let h = closing-rows s k (head-bytes (r .slot) (r .last) (r .next) (length (r .rows))) (r .rows) (replicate (24 * (r .room - length (r .rows))) 0) w
-    (length-head (r .slot) (r .last) (r .next) (length (r .rows))) q2 in
-    record { rows = q2; many = g ∙ ap (kept-of s k (r .rows)) (e ∙ f) ∙ h .0 }
+module _ {s k u : ℕ} {t : List ℕ} (e : table-refusal t ≡ 0) (l : u ≡ length (round-in t .rows)) where
+  pub moving-start : {n : ℕ} → Front s k u t n → Moving s k u t n n t
+  moving-start {n} f =
+      let h = sound t e in
+      let q = front-from s k (round-in t) (h .sane) t (sym (h .bytes)) u n f n (omega arith) (omega (arith, f .by)) in
+      record { by = f .by; long = refl; kept = q .0; rows = q .1 }
+
+  module _ {i n : ℕ} {w : List ℕ} (q : Moving s k u t i n w) where
+    pub moving-room : i < u → (i < 1024) × (row-at (suc i) ≤ length w) × (n ≤ i)
+    moving-room h =
+        let g = table-room t e l in
+        (omega (arith, g .0), omega (arith, g .1, q .long), omega (arith, q .kept, kept-most s k (round-in t .rows) i (omega (arith, l))))
+
+    pub moving-step : {m : ℕ} {v : List ℕ} → i < u → Kept s k i n w v m → length v ≡ length w → Moving s k u t (i + 1) m v
+    moving-step {m} {v} h d g =
+        let c = closing-step s k (round-in t) (sound t e .sane) i n m w v (omega (arith, l)) (q .kept) (q .rows) d in
+        record { by = omega arith; long = g ∙ q .long; kept = c .0; rows = c .1 }
+
+    pub moving-end : u ≤ i → Closed-rows s k t w n
+    moving-end h =
+        let r = round-in t in
+        let f : i ≡ length (r .rows) = omega (arith, q .by, l) in
+        let c : Closing-in s k r (length (r .rows)) w = subst (λ (j : ℕ). Closing-in s k r j w) f (q .rows) in
+        let g = closing-rows s k (head-bytes (r .slot) (r .last) (r .next) (length (r .rows))) (r .rows) (replicate (24 * (r .room - length (r .rows))) 0) w
+        (length-head (r .slot) (r .last) (r .next) (length (r .rows))) c in
+        record { rows = c; many = q .kept ∙ ap (kept-of s k (r .rows)) f ∙ g .0 }
 
 -- AT THE END: zeros behind the rows kept, the head's slot and count
 module _ (k : ℕ) (t w : List ℕ) (n : ℕ) (e : table-refusal t ≡ 0) (q : Closed-rows (suc (round-in t .slot)) k t w n) where
@@ -192,20 +210,23 @@ module _ (k : ℕ) (t w : List ℕ) (n : ℕ) (e : table-refusal t ≡ 0) (q : C
       ∙ ap (λ (m : ℕ). head-bytes (suc (r .slot)) (r .last) (r .next) m ++ (rows-bytes ks ++ replicate (24 * (r .room - length ks)) 0)) (q .many)
       ∙ sym (table-is (suc (r .slot)) (r .last) (r .next) (r .room) ks)
 
--- how many are kept
-pub kept-few : (s k : ℕ) (t w : List ℕ) (n : ℕ) → Closed-rows s k t w n → (n ≤ length (round-in t .rows)) × (length w ≡ 16 + 24 * length (round-in t .rows) + 24 * (round-in t .room - length (round-in t .rows)))
-kept-few s k t w n q =
-    let r = round-in t in (
-      omega (arith, q .many, length-closed s k (r .rows)),
-      omega (arith, q .rows .long, length-replicate (24 * (r .room - length (r .rows))) zero-byte),
-    )
+-- how many are kept: their places are there
+module _ {s k : ℕ} {t w : List ℕ} {n : ℕ} (q : Closed-rows s k t w n) (e : table-refusal t ≡ 0) {h : Head} (d : Head-of t h) where
+  pub kept-few : (n ≤ h .used) × (h .used ≤ 1024) × (row-at (h .used) ≤ length w)
+  kept-few =
+      let r = round-in t in
+      let u = head-used d in (
+        omega (arith, q .many, length-closed s k (r .rows), u),
+        table-room t e u .0,
+        omega (arith, q .rows .long, u),
+      )
 
 -- the same with the head's numbers
-pub closed-written : (t w v x y : List ℕ) (h : Head) (k n from end : ℕ) → table-refusal t ≡ 0 → Head-of t h → Closed-rows (h .slot .0 + 1) k t w n →
+pub closed-written : {t w v x y : List ℕ} {h : Head} {k n from end : ℕ} → table-refusal t ≡ 0 → Head-of t h → Closed-rows (h .slot .0 + 1) k t w n →
     from ≡ row-at n → end ≡ row-at (h .used) → v ≡ take from (take end w) ++ replicate (length (take end w) - from) 0 →
     x ≡ sets (v ++ drop end w) 0 (low 2 (h .slot .0 + 1)) → y ≡ sets x 8 (low 2 n) → y ≡ closed-up k t
-closed-written t w v x y h k n from end e d q a b c f g =
-    let s : h .slot .0 + 1 ≡ suc (round-in t .slot) = omega (arith, head-slot t h d) in
+closed-written {t} {w} {v} {x} {y} {h} {k} {n} {from} {end} e d q a b c f g =
+    let s : h .slot .0 + 1 ≡ suc (round-in t .slot) = omega (arith, head-slot d) in
     g
-    ∙ closed-table k t w n e (subst (λ (m : ℕ). Closed-rows m k t w n) s q) (v ++ drop end w) x from end a (b ∙ ap row-at (head-used t h d))
+    ∙ closed-table k t w n e (subst (λ (m : ℕ). Closed-rows m k t w n) s q) (v ++ drop end w) x from end a (b ∙ ap row-at (head-used d))
     (ap (λ (bs : List ℕ). bs ++ drop end w) c) (f ∙ ap (λ (m : ℕ). sets (v ++ drop end w) 0 (low 2 m)) s)

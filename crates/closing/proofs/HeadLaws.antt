@@ -13,26 +13,21 @@ use Rattle.theory.specs.Sane.{sound}
 use Rattle.round.specs.Head.{Head-of}
 use Rattle.round.specs.declared.Round.{Round as Head}
 
-pub head-slot : (t : List ℕ) (h : Head) → Head-of t h → h .slot .0 ≡ round-in t .slot
-unfolding round-in round
-head-slot t h d = d .slot
+module _ {t : List ℕ} {h : Head} (d : Head-of t h) where
+  pub head-slot : h .slot .0 ≡ round-in t .slot
+  unfolding round-in round
+  head-slot = d .slot
 
-pub head-last : (t : List ℕ) (h : Head) → Head-of t h → h .last .0 ≡ round-in t .last
-unfolding round-in round
-head-last t h d = d .last
-
-pub head-used : (t : List ℕ) (h : Head) → Head-of t h → h .used ≡ length (round-in t .rows)
-unfolding round-in round
-head-used t h d = d .used ∙ sym (rows-count (used-in t) (drop 16 t))
+  pub head-used : h .used ≡ length (round-in t .rows)
+  unfolding round-in round
+  head-used = d .used ∙ sym (rows-count (used-in t) (drop 16 t))
 
 -- so many rows fit a sound table
-pub table-room : (t : List ℕ) → table-refusal t ≡ 0 → (u : ℕ) → u ≡ length (round-in t .rows) → (u ≤ 1024) × (row-at u ≤ length t)
-table-room t e u l =
+pub table-room : (t : List ℕ) → table-refusal t ≡ 0 → {u : ℕ} → u ≡ length (round-in t .rows) → (u ≤ 1024) × (row-at u ≤ length t)
+table-room t e l =
     let h = sound t e in
     let z = h .sane .size in
     (omega (arith, z .long, z .room), omega (arith, l, z .long, length-table (round-in t) (z .long), ap length (h .bytes)))
 
-pub slot-small : (t : List ℕ) → table-refusal t ≡ 0 → (round-in t .slot ≤ 4096) × (round-in t .last ≤ 4095)
-slot-small t e =
-    let z = sound t e .sane in
-    (omega (arith, z .fine .time, z .size .last), z .size .last)
+pub slot-small : {t : List ℕ} {h : Head} → table-refusal t ≡ 0 → Head-of t h → h .slot .0 ≤ 4096
+slot-small {t} {h} e d = let z = sound t e .sane in omega (arith, z .fine .time, z .size .last, head-slot d)

@@ -2,24 +2,22 @@
 ghost use mathlib.Core.Path.{_≡_};
 ghost use Prim.Native.Nat.{_-_, _≤_, _<_};
 ghost use Rattle.rules.specs.Table.{round-in};
-ghost use Rattle.theory.specs.Flags.{Chosen};
 ghost use Rattle.tally.specs.Rows.{Ready, at};
-ghost use Rattle.tally.specs.Near.{Reaches};
-ghost use Rattle.pick.specs.Choice.{Picked};
+ghost use Rattle.pick.specs.Whole.{every};
 ghost use Rattle.shifting.specs.Chain.{due-named};
-ghost use Rattle.leap.specs.Send.{Went-of, Alone, Notes, Sent-says};
+ghost use Rattle.leap.specs.Send.{Went-of, Leaves-alone, Goes-by, Noted, Sent-says};
 use closing::close::close_up;
 use closing::write::write_kept;
 use closing::write::write_weight;
 use pick::choice::Pick;
 use pick::lead::least_by;
+use pick::stretch::stretch_of;
 use round::Round;
 use round::Slot;
 use round::Ticket;
 use round::Weight;
 use round::bytes::read4;
 use round::rows::row_at;
-use shifting::chain::end_from;
 use shifting::chain::row_of;
 use shifting::chain::shift_chain;
 use shifting::marks::marks_by;
@@ -61,7 +59,7 @@ pub fn send_silence(table: &mut [u8], round: Round) -> Went
 
 // Only the row that goes leaves: an ordinary step, or a leap from afar.
 fn send_alone(table: &mut [u8], round: Round, key: u64, leap: bool) -> Went
-    requires { ⌜ Ready (now table) round × Alone (round-in (now table)) leap key ⌝ }
+    requires { ⌜ Leaves-alone (now table) round leap key ⌝ }
     ensures { λ r. ⌜ Sent-says (now (table .entry)) (now (table .exit)) r ⌝ }
 {
     let went = went_of(table, round, row_of(key), leap);
@@ -80,7 +78,7 @@ fn send_kept(
     first: usize,
     last: usize,
 ) -> Went
-    requires { ⌜ Ready (now table) round × Chosen (round-in (now table)) (now flags) × Reaches (round-in (now table)) reach × Picked (round-in (now table)) (now flags) (reach .free) (Pick.Kept key first last) ⌝ }
+    requires { ⌜ Goes-by (now table) round (now flags) reach (Pick.Kept key first last) ⌝ }
     ensures { λ r. ⌜ Sent-says (now (table .entry)) (now (table .exit)) r ⌝ }
 {
     let row = row_of(key);
@@ -114,13 +112,13 @@ fn send_swapped(
     last: usize,
     other: u64,
 ) -> Went
-    requires { ⌜ Ready (now table) round × Chosen (round-in (now table)) (now flags) × Notes (round-in (now table)) (now flags) reach (now counts) (now kept) (now marks) × Picked (round-in (now table)) (now flags) (reach .free) (Pick.Swapped key first last other) ⌝ }
+    requires { ⌜ Noted (now table) round (now flags) reach (now counts) (now kept) (now marks) (Pick.Swapped key first last other) ⌝ }
     ensures { λ r. ⌜ Sent-says (now (table .entry)) (now (table .exit)) r ⌝ }
 {
     let went = went_of(table, round, row_of(key), true);
     let gone = went.ticket;
     let bucket = ahead_of(other, round.slot.0);
-    let to = end_from(counts, last, bucket, reach.free);
+    let to = stretch_of(counts, reach.free, bucket).last;
     marks_by(table, flags, round, marks, to);
     shift_chain(table, flags, counts, kept, marks, round, reach, last, to);
     write_weight(table, row_of(other), Weight(marks[to]));
@@ -139,7 +137,7 @@ pub fn send_picked(
     reach: Reach,
     pick: Pick,
 ) -> Went
-    requires { ⌜ Ready (now table) round × Chosen (round-in (now table)) (now flags) × Notes (round-in (now table)) (now flags) reach (now counts) (now kept) (now marks) × Picked (round-in (now table)) (now flags) (reach .free) pick ⌝ }
+    requires { ⌜ Noted (now table) round (now flags) reach (now counts) (now kept) (now marks) pick ⌝ }
     ensures { λ r. ⌜ Sent-says (now (table .entry)) (now (table .exit)) r ⌝ }
 {
     match pick {
@@ -164,5 +162,27 @@ pub fn send_picked(
             last,
             other,
         ),
+    }
+}
+
+// The same where nothing is left out: every row is the plan's, and no row can take another's place.
+pub fn send_all(table: &mut [u8], round: Round, reach: Reach, pick: Pick) -> Went
+    requires { ⌜ Goes-by (now table) round (every (round-in (now table))) reach pick ⌝ }
+    ensures { λ r. ⌜ Sent-says (now (table .entry)) (now (table .exit)) r ⌝ }
+{
+    match pick {
+        Pick::First { key } => send_alone(table, round, key, false),
+        Pick::Far { key } => send_alone(table, round, key, true),
+        Pick::Kept { key, first, last } => {
+            let ones = [1u8; 1024];
+            let used = round.used;
+            send_kept(table, &ones[..used], round, reach, key, first, last)
+        }
+        Pick::Swapped {
+            key,
+            first: _,
+            last: _,
+            other: _,
+        } => send_alone(table, round, key, true),
     }
 }

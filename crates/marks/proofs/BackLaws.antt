@@ -1,8 +1,8 @@
 -- The way back over counts: rows that wait for an earlier bucket, and where segments begin. Assumes nothing.
-use mathlib.Core.Path.{_≡_, refl, sym, ap, _∙_, subst}
-use mathlib.Core.Logic.{_⊎_, inl, inr}
+use mathlib.Core.Path.{_≡_, sym, ap, subst}
+use mathlib.Core.Logic.{inl, inr}
 use mathlib.Core.List.{List}
-use Prim.Native.Nat.{ℕ, zero, suc, _+_, _*_, _-_, _≤_, _<_}
+use Prim.Native.Nat.{ℕ, zero, suc, _+_, _-_, _≤_, _<_}
 use native.Mathlib.Omega.{arith}
 use lib.Dec.{leb}
 use lib.ListN.{getD}
@@ -60,7 +60,8 @@ back-more F m s q e n b d h =
 pub back-top : (cs : List ℕ) (top : ℕ) → Back-to cs top (suc top) (record { over = 0; edge = suc top })
 back-top cs top = record { few = omega arith; back = back-start (λ v. upto v cs) (suc top) }
 
-pub back-step : (cs : List ℕ) (top s c : ℕ) (x y : Back) → suc s ≤ suc top → Back-to cs top (suc s) x → c ≡ getD cs s 0 → c ≤ 65535 → y ≡ one-back x s c → Back-to cs top s y
+pub back-step : (cs : List ℕ) (top s c : ℕ) (x y : Back) → suc s ≤ suc top → Back-to cs top (suc s) x → c ≡ getD cs s 0 → c ≤ 65535 → y ≡ one-back x s c →
+    Back-to cs top s y
 back-step cs top s c x y h b e k d =
     let g : upto (suc s) cs ≡ upto s cs + c = omega (arith, e) in
     subst (Back-to cs top s) (sym d)
@@ -79,7 +80,8 @@ pub record Going (cs : List ℕ) (top s : ℕ) (x : Back) : Type 0 where
 pub go-start : (cs : List ℕ) (top s : ℕ) → s ≡ suc top → Going cs top s (record { over = 0; edge = s })
 go-start cs top s e = rw e (record { by = omega arith; back = back-top cs top })
 
-pub go-back : (cs : List ℕ) (top s c : ℕ) (x y : Back) → 0 < s → Going cs top s x → c ≡ getD cs (s - 1) 0 → c ≤ 65535 → y ≡ one-back x (s - 1) c → Going cs top (s - 1) y
+pub go-back : (cs : List ℕ) (top s c : ℕ) (x y : Back) → 0 < s → Going cs top s x → c ≡ getD cs (s - 1) 0 → c ≤ 65535 → y ≡ one-back x (s - 1) c →
+    Going cs top (s - 1) y
 go-back cs top zero c x y h g e k d = absurd (omega arith)
 go-back cs top (suc s) c x y h g e k d =
     let p : suc s - 1 ≡ s = omega arith in
@@ -106,7 +108,8 @@ seek-on cs mid top zero x r h k =
     absurd (omega (arith, b .full 0 (omega arith) (omega (arith, h)), r .room (x .edge) h (b .high)))
 seek-on cs mid top (suc s) x r h k = omega arith
 
-pub seek-back : (cs : List ℕ) (mid top s c : ℕ) (x y : Back) → Roomy cs mid top → mid < x .edge → Seeking cs mid top s x → c ≡ getD cs (s - 1) 0 → c ≤ 65535 → y ≡ one-back x (s - 1) c →
+pub seek-back : (cs : List ℕ) (mid top s c : ℕ) (x y : Back) → Roomy cs mid top → mid < x .edge → Seeking cs mid top s x → c ≡ getD cs (s - 1) 0 → c ≤ 65535 →
+    y ≡ one-back x (s - 1) c →
     Seeking cs mid top (s - 1) y
 seek-back cs mid top s c x y r h k e l d =
     let o = seek-on cs mid top s x r h k in

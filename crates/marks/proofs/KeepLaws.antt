@@ -1,9 +1,9 @@
 -- Counts of all rows become those of the plan's, row by row. Assumes nothing.
 use mathlib.Core.Path.{_≡_, refl, sym, ap, _∙_}
-use mathlib.Core.Logic.{_⊎_, inl, inr}
+use mathlib.Core.Logic.{inl, inr}
 use mathlib.Core.Bool.{Bool, true, false, cond}
 use mathlib.Core.List.{List, [], _∷_}
-use Prim.Native.Nat.{ℕ, suc, _+_, _-_, _≤_, _<_}
+use Prim.Native.Nat.{ℕ, _+_, _-_, _≤_, _<_}
 use native.Mathlib.Omega.{arith}
 use lib.Dec.{eqb}
 use lib.ListN.{length, getD, set, drop, length-set}
@@ -12,7 +12,6 @@ use Rattle.rules.specs.Rows.{Row, Round, blank, chosen}
 use Rattle.rules.specs.Table.{round-in}
 use Rattle.theory.specs.Tests.{eqb?}
 use Rattle.theory.specs.Sum.{sum, sum-chosen, length-sum}
-use Rattle.theory.specs.Full.{Fine}
 use Rattle.theory.specs.Count.{in-bucket, sweep-out}
 use Rattle.theory.specs.Flags.{raised, with-flag, Chosen, chosen-rows}
 use Rattle.round.specs.declared.Round.{Round as Head}
@@ -100,7 +99,8 @@ chosen-whole (m ∷ ms) [] e = refl
 chosen-whole (true ∷ ms) (x ∷ xs) e = ap (λ (zs : List Row). x ∷ zs) (chosen-whole ms xs (omega arith))
 chosen-whole (false ∷ ms) (x ∷ xs) e = absurd (omega (arith, chosen-few ms xs))
 
-pub keep-all : (t : List ℕ) (h : Head) (fs cs : List ℕ) (x : Reach) → Ready t h → Chosen (round-in t) fs → Reaches (round-in t) x → Counted (round-in t) (round-in t .rows) cs →
+pub keep-all : (t : List ℕ) (h : Head) (fs cs : List ℕ) (x : Reach) → Ready t h → Chosen (round-in t) fs → Reaches (round-in t) x →
+    Counted (round-in t) (round-in t .rows) cs →
     x .over ≡ 0 → Counted (round-in t) (with-flag (round-in t) fs) cs
 keep-all t h fs cs x k c w g e =
     let n = known t h k in

@@ -53,11 +53,13 @@ near-least r f fs c z k s e m h l d g =
         omega (
           arith,
           o .weight,
-          near-mark-least r f (with-flag r fs) (chosen-rows r f fs c) z k s h l (o .row) (o .inside) (omega (arith, o .due, d)) (λ y i j. o .least y i (omega (arith, j, d))),
+          near-mark-least r f (with-flag r fs) (chosen-rows r f fs c) z k s h l (o .row) (o .inside) (omega (arith, o .due, d))
+              (λ y i j. o .least y i (omega (arith, j, d))),
         )
 
 -- THE NEXT TIGHT SLOT by counts: the first bucket that the plan's rows up to it fill
-module _ (r : Round) (f : Fine r) (o : r .slot ≤ r .last) (fs : List ℕ) (c : Chosen r fs) (x : Reach) (w : Reaches r x) (cs : List ℕ) (k : Counted r (with-flag r fs) cs) where
+module _ (r : Round) (f : Fine r) (o : r .slot ≤ r .last) (fs : List ℕ) (c : Chosen r fs) (x : Reach) (w : Reaches r x) (cs : List ℕ)
+    (k : Counted r (with-flag r fs) cs) where
   pub upto-num : (v : ℕ) → v ≤ x .free → upto v cs ≡ num 0 (r .slot + v) (with-flag r fs)
   upto-num v h =
       upto-is r (with-flag r fs) cs k v (omega (arith, h, w .sweep .high))
@@ -98,14 +100,15 @@ pub record Nearby (h : Head) (x : Reach) (s : ℕ) : Type 0 where
   pub under : s - h .slot .0 < x .free
   pub small : x .free ≤ 1025
 
-pub nearby : (t : List ℕ) (h : Head) (x : Reach) (s : ℕ) (far : Bool) → Ready t h → Reaches (round-in t) x → far ≡ leb (x .free) (s - h .slot .0) → far ≡ false → Nearby h x s
+pub nearby : (t : List ℕ) (h : Head) (x : Reach) (s : ℕ) (far : Bool) → Ready t h → Reaches (round-in t) x → far ≡ leb (x .free) (s - h .slot .0) → far ≡ false →
+    Nearby h x s
 nearby t h x s far k w d e =
     let n = known t h k in
     record { under = leb-false (x .free) (s - h .slot .0) (sym d ∙ e); small = omega (arith, w .sweep .high, n .small) }
 
-pub near-is : (t : List ℕ) (h : Head) (fs : List ℕ) (x : Reach) (s : ℕ) (cs : List ℕ) (y : Back) (v m : ℕ) → Ready t h → Chosen (round-in t) fs → Reaches (round-in t) x →
-    h .slot .0 ≤ s → Nearby h x s → Counted (round-in t) (with-flag (round-in t) fs) cs → Back-to cs (x .free - 1) (suc (s - h .slot .0)) y → v ≡ h .slot .0 + (y .edge - 1) →
-    Least-by (round-in t) fs v m → m ≡ mark (round-in t) s
+pub near-is : (t : List ℕ) (h : Head) (fs : List ℕ) (x : Reach) (s : ℕ) (cs : List ℕ) (y : Back) (v m : ℕ) → Ready t h → Chosen (round-in t) fs →
+    Reaches (round-in t) x → h .slot .0 ≤ s → Nearby h x s → Counted (round-in t) (with-flag (round-in t) fs) cs →
+    Back-to cs (x .free - 1) (suc (s - h .slot .0)) y → v ≡ h .slot .0 + (y .edge - 1) → Least-by (round-in t) fs v m → m ≡ mark (round-in t) s
 near-is t h fs x s cs y v m k c w a u g i q l =
     let n = known t h k in
     near-least (round-in t) (n .fine) fs c (round-in t .slot + x .free) (w .near) s v m (omega (arith, a, n .slot)) (omega (arith, a, u .under, n .slot))

@@ -3,9 +3,9 @@ use mathlib.Core.Path.{_≡_, refl, sym, ap, _∙_, subst}
 use mathlib.Core.Logic.{_⊎_, inl, inr}
 use mathlib.Core.Bool.{true, false≢true}
 use mathlib.Core.List.{List}
-use Prim.Native.Nat.{ℕ, zero, suc, _+_, _-_, _≤_, _<_, min}
+use Prim.Native.Nat.{ℕ, zero, suc, _+_, _-_, _≤_, _<_}
 use native.Mathlib.Omega.{arith}
-use lib.ListN.{length, getD}
+use lib.ListN.{length}
 use Rattle.rules.specs.Rows.{Row, Round}
 use Rattle.rules.specs.Table.{round-in}
 use Rattle.rules.specs.Plan.{plan, tight, tight-after, segment-start}
@@ -14,20 +14,18 @@ use Rattle.theory.specs.Sum.{sum-le, length-sum}
 use Rattle.theory.specs.All.{all-of-in}
 use Rattle.theory.specs.Feas.{below, num, below-1, num-early}
 use Rattle.theory.specs.Full.{Fine, plan-feas, plan-full}
-use Rattle.theory.specs.Marks.{Tight-in, tight?, Next, next, Start, start}
+use Rattle.theory.specs.Marks.{Tight-in, tight?, next, start}
 use Rattle.theory.specs.Send.{next-by}
-use Rattle.theory.specs.Slack.{slack, slack-is, tight-least, least-tight}
+use Rattle.theory.specs.Slack.{slack-is, tight-least, least-tight}
 use Rattle.theory.specs.Members.{Rows, of-rows-fine}
 use Rattle.theory.specs.Near.{rows-le, rows-feas, start-same}
 use Rattle.theory.specs.Flags.{with-flag, Chosen, chosen-rows}
 use Rattle.round.specs.declared.Round.{Round as Head}
 use Rattle.tally.specs.Rows.{Ready}
-use Rattle.tally.specs.Near.{upto}
 use Rattle.tally.proofs.RowLaws.{known}
 use Rattle.marks.specs.Window.{window-at, Counted-in, Roomy}
 use Rattle.marks.specs.Span.{Back-to, Flat, Begins, Spans}
 use Rattle.marks.specs.declared.window.Window.{Window}
-use Rattle.marks.specs.declared.span.Span.{Span}
 use Rattle.marks.specs.declared.span.Back.{Back}
 use Rattle.marks.proofs.WindowLaws.{upto-in}
 
@@ -211,7 +209,8 @@ pub record Viewed (r : Round) (s : ℕ) (w : Window) : Type 0 where
   pub small : w .top ≤ 2048
   pub low : w .low ≤ 4095
 
-pub viewed : (t : List ℕ) (h : Head) (s : ℕ) (w : Window) → Ready t h → h .slot .0 ≤ s → s ≤ h .last .0 → w ≡ window-at (h .slot .0) (h .used) s → Viewed (round-in t) s w
+pub viewed : (t : List ℕ) (h : Head) (s : ℕ) (w : Window) → Ready t h → h .slot .0 ≤ s → s ≤ h .last .0 → w ≡ window-at (h .slot .0) (h .used) s →
+    Viewed (round-in t) s w
 viewed t h s w k a b e =
     let n = known t h k in
     let m = bounds-of (h .slot .0) (h .used) s w a e in
@@ -230,8 +229,10 @@ viewed-room t h fs s w cs k c v g =
     let f = known t h k .fine in
     room (round-in t) f (with-flag (round-in t) fs) (chosen-rows (round-in t) f fs c) s (v .from) (v .by) w (v .is) cs g
 
-pub viewed-spans : (t : List ℕ) (h : Head) (fs : List ℕ) (s : ℕ) (w : Window) (cs : List ℕ) (x : Back) (b p q : ℕ) → Ready t h → Chosen (round-in t) fs → Viewed (round-in t) s w →
-    Counted-in (with-flag (round-in t) fs) w cs → Back-to cs (w .top) (suc (w .mid)) x → Begins cs (w .mid) (w .top) b → p ≡ w .low + b → q ≡ w .low + (x .edge - 1) →
+pub viewed-spans : (t : List ℕ) (h : Head) (fs : List ℕ) (s : ℕ) (w : Window) (cs : List ℕ) (x : Back) (b p q : ℕ) → Ready t h → Chosen (round-in t) fs →
+    Viewed (round-in t) s w →
+    Counted-in (with-flag (round-in t) fs) w cs → Back-to cs (w .top) (suc (w .mid)) x → Begins cs (w .mid) (w .top) b → p ≡ w .low + b → q ≡ w .low +
+    (x .edge - 1) →
     Spans (round-in t) s (record { first = p; last = q })
 viewed-spans t h fs s w cs x b p q k c v g =
     let f = known t h k .fine in

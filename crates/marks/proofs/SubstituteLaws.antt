@@ -1,21 +1,21 @@
 -- The best offer row by row, and the substitute that it is. Assumes nothing.
-use mathlib.Core.Path.{_≡_, refl, sym, ap, _∙_, subst}
+use mathlib.Core.Path.{_≡_, sym, ap, _∙_, subst}
 use mathlib.Core.Logic.{_⊎_, inl, inr}
-use mathlib.Core.Bool.{Bool, true, false, cond, true≢false}
+use mathlib.Core.Bool.{true, false, true≢false}
 use mathlib.Core.List.{List}
 use Prim.Native.Nat.{ℕ, suc, _+_, _-_, _≤_, _<_}
 use native.Mathlib.Omega.{arith}
 use lib.Dec.{ltb, eqb}
 use lib.ListN.{length, getD}
 use borrow.Author.Tests.{ltb-true, ltb-false, eq-eqb, ne-eqb}
-use Rattle.rules.specs.Rows.{Row, Round, blank}
+use Rattle.rules.specs.Rows.{Round, blank}
 use Rattle.rules.specs.Plan.{plan, tight-after, segment-start, first-end, substitute}
 use Rattle.rules.specs.Table.{round-in}
 use Rattle.theory.specs.Tests.{positive, pick, leb?, ltb?, eqb?}
 use Rattle.theory.specs.All.{all-in}
 use Rattle.theory.specs.Full.{Fine, Row-fine, plan-feas, plan-full}
 use Rattle.theory.specs.Feas.{num}
-use Rattle.theory.specs.Marks.{Tight-in, next, Start, start}
+use Rattle.theory.specs.Marks.{next, Start, start}
 use Rattle.theory.specs.Send.{next-by}
 use Rattle.theory.specs.Keys.{key, key-bound, getD-in}
 use Rattle.theory.specs.Index.{flag-in, first-at, later-at, later-none-at}
@@ -39,7 +39,8 @@ pub record Offered (number : ℕ → ℕ) (i : ℕ) (o : Offer) : Type 0 where
 pub offer-start : (number : ℕ → ℕ) → Offered number 0 (record { number = 0; row = 0 })
 offer-start n = record { most = λ j h. absurd (omega (arith, h)); some = λ h. absurd (omega (arith, h)) }
 
-pub offer-step : (number : ℕ → ℕ) (i : ℕ) (o q : Offer) (x : ℕ) → x ≡ number i → q ≡ better-of o (record { number = x; row = i }) → Offered number i o → Offered number (i + 1) q
+pub offer-step : (number : ℕ → ℕ) (i : ℕ) (o q : Offer) (x : ℕ) → x ≡ number i → q ≡ better-of o (record { number = x; row = i }) → Offered number i o →
+    Offered number (i + 1) q
 offer-step n i o q x e d s =
     subst (Offered n (i + 1)) (sym d)
     (pick (Offered n (i + 1)) (ltb (o .number) x) (record { number = x; row = i }) o
@@ -66,7 +67,8 @@ offer-end r fs x i o e s =
 pub key-read-most : (w d i k : ℕ) → w ≤ 16777216 → k ≡ key w d i → k ≤ 70368748371967
 key-read-most w d i k h e = omega (arith, e, key-bound w d i h)
 
-pub offer-read : (r : Round) (fs : List ℕ) (x : Span) (i t d w k n : ℕ) → t ≡ r .slot → Due-at r i d → Weight-at r i w → k ≡ key w d i → n ≡ offer-of x t (getD fs i 0) d k →
+pub offer-read : (r : Round) (fs : List ℕ) (x : Span) (i t d w k n : ℕ) → t ≡ r .slot → Due-at r i d → Weight-at r i w → k ≡ key w d i →
+    n ≡ offer-of x t (getD fs i 0) d k →
     n ≡ offer-at r fs x i
 offer-read r fs x i t d w k n a b c e g = let p = b .is in let q = c .is in cc
 
@@ -218,9 +220,11 @@ module _ (t : List ℕ) (h : Head) (fs : List ℕ) (i d : ℕ) (x : Span) (o : O
   pub row-is : (o .number ≡ 0 → ⊥) → Substitutes (round-in t) i (Row-at (o .row))
   row-is =
       let n = known t h k in
-      answer-row (round-in t) (n .fine) (n .time) (n .small) (n .cap) fs c i (omega (arith, l, n .used)) on x (subst (λ (v : ℕ). Spans (round-in t) v x) (a .is) w) o b
+      answer-row (round-in t) (n .fine) (n .time) (n .small) (n .cap) fs c i (omega (arith, l, n .used)) on x
+      (subst (λ (v : ℕ). Spans (round-in t) v x) (a .is) w) o b
 
   pub blank-is : o .number ≡ 0 → Substitutes (round-in t) i (Blank (x .first))
   blank-is =
       let n = known t h k in
-      answer-blank (round-in t) (n .fine) (n .time) (n .small) (n .cap) fs c i (omega (arith, l, n .used)) on x (subst (λ (v : ℕ). Spans (round-in t) v x) (a .is) w) o b
+      answer-blank (round-in t) (n .fine) (n .time) (n .small) (n .cap) fs c i (omega (arith, l, n .used)) on x
+      (subst (λ (v : ℕ). Spans (round-in t) v x) (a .is) w) o b

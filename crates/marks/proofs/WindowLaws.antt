@@ -1,9 +1,9 @@
 -- Counts of the plan's rows around a slot, row by row, and their sums. Assumes nothing.
-use mathlib.Core.Path.{_≡_, refl, sym, ap, _∙_, subst}
-use mathlib.Core.Logic.{_⊎_, inl, inr}
-use mathlib.Core.Bool.{Bool, cond}
+use mathlib.Core.Path.{_≡_, sym, ap, _∙_}
+use mathlib.Core.Logic.{inl, inr}
+use mathlib.Core.Bool.{cond}
 use mathlib.Core.List.{List}
-use Prim.Native.Nat.{ℕ, zero, suc, _+_, _-_, _≤_, _<_, min}
+use Prim.Native.Nat.{ℕ, zero, suc, _+_, _-_, _≤_, _<_}
 use native.Mathlib.Omega.{arith}
 use lib.Dec.{ltb, eqb}
 use lib.ListN.{length, getD, set, replicate, length-set, length-replicate}
@@ -100,7 +100,8 @@ window-step r fs w i cs d b c h l a e s =
           ];
     }
 
-pub window-end : (r : Round) (fs : List ℕ) (w : Window) (i : ℕ) (cs : List ℕ) → Chosen r fs → i ≡ length (r .rows) → Counting-in r fs w i cs → Counted-in (with-flag r fs) w cs
+pub window-end : (r : Round) (fs : List ℕ) (w : Window) (i : ℕ) (cs : List ℕ) → Chosen r fs → i ≡ length (r .rows) → Counting-in r fs w i cs →
+    Counted-in (with-flag r fs) w cs
 window-end r fs w i cs c e s =
     record {
       size = s .size;

@@ -1,7 +1,7 @@
 // The mark of a slot.
 ghost use mathlib.Core.Path.{_≡_};
 ghost use mathlib.Core.Bool.{cond};
-ghost use Prim.Native.Nat.{ℕ, _-_, _≤_};
+ghost use Prim.Native.Nat.{_-_, _≤_};
 ghost use lib.Dec.{leb, eqb};
 ghost use Rattle.rules.specs.Plan.{mark};
 ghost use Rattle.rules.specs.Table.{round-in};

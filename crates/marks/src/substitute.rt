@@ -1,6 +1,6 @@
 // The substitute of a row of the plan.
 ghost use mathlib.Core.Path.{_≡_};
-ghost use Prim.Native.Nat.{ℕ, _≤_, _<_};
+ghost use Prim.Native.Nat.{_≤_, _<_};
 ghost use lib.ListN.{getD};
 ghost use Rattle.rules.specs.Table.{round-in};
 ghost use Rattle.theory.specs.Flags.{Chosen};

@@ -1,6 +1,6 @@
 // The plan's rows due around a slot, counted slot by slot.
 ghost use mathlib.Core.Path.{_≡_};
-ghost use Prim.Native.Nat.{ℕ, _≤_};
+ghost use Prim.Native.Nat.{_≤_};
 ghost use lib.ListN.{replicate};
 ghost use Rattle.rules.specs.Table.{round-in};
 ghost use Rattle.theory.specs.Flags.{with-flag, Chosen};

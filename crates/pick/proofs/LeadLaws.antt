@@ -103,8 +103,8 @@ module _ (r : Round) (fs : List ℕ) (x : Reach) (s : Scene r fs x) where
       ])
 
   -- FAR ROWS
-  pub far-led : (top k : ℕ) → Peak (place r) (kept-key r fs) (length (r .rows)) (x .free) (suc (top-of r)) k → Led r fs (x .free) (r .slot + x .free) (made k (x .free) top 0)
-  far-led top k p = elim (ltb? 0 k) [
+  pub far-led : (k : ℕ) → Peak (place r) (kept-key r fs) (length (r .rows)) (x .free) (suc (top-of r)) k → Led r fs (x .free) (r .slot + x .free) (made k (x .free) (x .free) 0)
+  far-led k p = elim (ltb? 0 k) [
     | inl a ↦
         let w = peak-heaviest r fs x s (x .free) (suc (top-of r)) k p (a .1) in
         let i = w .0 in
@@ -370,7 +370,7 @@ module _ (r : Round) (fs : List ℕ) (x : Reach) (s : Scene r fs x) where
 
   -- with no slot full the far rows have them all
   pub far-goes : (k : ℕ) → x .free ≡ 0 → 1 ≤ length (r .rows) → Peak (place r) (kept-key r fs) (length (r .rows)) (x .free) (suc (top-of r)) k → Picked r fs (x .free) (Far k)
-  far-goes k z n p = elim (far-led 0 k p .who) [
+  far-goes k z n p = elim (far-led k p .who) [
     | inl v ↦
         let y = some-row r (s .fine) (s .time) (with-flag r fs) (plan-rows r fs x s) (at r 0) (getD-in (r .rows) (blank 0) 0 n) in
         absurd (omega (arith, v .2 (y .0) (y .1), z, of-rows-fine r (s .fine) (with-flag r fs) (plan-rows r fs x s) (y .0) (y .1) .0))

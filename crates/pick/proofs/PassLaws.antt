@@ -55,7 +55,7 @@ module _ (r : Round) (fs cs ks ls : List ℕ) (x : Reach) (s : Scene r fs x) (w 
       peak-is (place r) (kept-key r fs) (length (r .rows)) ks (x .free) (top-of r) k (w .kept) (subst (λ (v : ℕ). Greatest ks (x .free) v k) d g)
 
   pub pass-start : (top k : ℕ) → (x .free ≡ 0 → ⊥) → top ≡ top-of r → Greatest ks (x .free) top k →
-      Passing r fs (x .free) (made k (x .free) top 0) (x .free) (x .free) (x .free) 0 0
+      Passing r fs (x .free) (made k (x .free) (x .free) 0) (x .free) (x .free) (x .free) 0 0
   pass-start top k h d e =
       let p = far-peak top k d e in
       record {
@@ -67,7 +67,7 @@ module _ (r : Round) (fs cs ks ls : List ℕ) (x : Reach) (s : Scene r fs x) (w 
         gap = λ v a b. absurd (omega (arith, a, b));
         kept = peak-none (place r) (kept-key r fs) (length (r .rows)) (x .free);
         left = left-far r fs x s;
-        led = far-led r fs x s top k p;
+        led = far-led r fs x s k p;
       }
 
   module _ (l : Leader) (b e c k o : ℕ) (p : Passing r fs (x .free) l b e c k o) (h : 1 < b) where

@@ -3,17 +3,16 @@ use mathlib.Core.Path.{_≡_, refl, sym, ap, _∙_, subst}
 use mathlib.Core.Logic.{_⊎_, inl, inr}
 use mathlib.Core.Bool.{true, false, true≢false}
 use mathlib.Core.List.{List}
-use Prim.Native.Nat.{ℕ, zero, suc, _+_, _-_, _/_, _%_, _≤_, _<_, max}
+use Prim.Native.Nat.{ℕ, suc, _+_, _-_, _/_, _%_, _≤_, _<_, max}
 use native.Mathlib.Omega.{arith}
-use lib.ListN.{length, getD, replicate, length-replicate, getD-replicate}
+use lib.ListN.{length, getD, length-replicate, getD-replicate}
 use borrow.Author.Tests.{eq-eqb}
 use Rattle.rules.specs.Rows.{Row, Round, blank, In}
-use Rattle.rules.specs.Plan.{plan, in-plan, segment-start, substitute, first-end}
+use Rattle.rules.specs.Plan.{plan, in-plan, segment-start, substitute}
 use Rattle.rules.specs.PlanM.{score}
 use Rattle.rules.specs.Table.{round-in}
-use Rattle.theory.specs.Tests.{leb?, ltb?}
-use Rattle.theory.specs.Keys.{key, key-due, getD-in}
-use Rattle.theory.specs.Score.{score-of}
+use Rattle.theory.specs.Tests.{ltb?}
+use Rattle.theory.specs.Keys.{key, key-due}
 use Rattle.theory.specs.All.{blank-weight, blank-is}
 use Rattle.theory.specs.Substitute.{later-none, score-none}
 use Rattle.theory.specs.Best.{heaviest-beats}
@@ -30,16 +29,15 @@ use Rattle.tally.proofs.RowLaws.{known}
 use Rattle.tally.proofs.NearLaws.{place-by, upto-is}
 use Rattle.pick.specs.Peak.{Peak}
 use Rattle.pick.specs.Stretch.{Stretches}
-use Rattle.pick.specs.Lead.{leader-score, Lightest, Least-by}
+use Rattle.pick.specs.Lead.{Least-by}
 use Rattle.pick.specs.Choice.{Leading, None-left, Picked}
 use Rattle.pick.specs.Whole.{every, due-of, light-of, Gathers, key-bucket, Leaps}
 use Rattle.pick.specs.declared.stretch.Stretch.{Stretch}
 use Rattle.pick.specs.declared.whole.Gathered.{Gathered}
-use Rattle.pick.specs.declared.lead.Leader.{Leader}
 use Rattle.pick.specs.declared.choice.Pick.{Pick}
 use Rattle.pick.specs.declared.choice.Pick.the-variants.{First, Far, Kept, Swapped}
 use Rattle.pick.proofs.PeakLaws.{peak-first, peak-adds, peak-passes}
-use Rattle.pick.proofs.SceneLaws.{Scene, Heaviest, plan-rows, fine-at, from-place, before-place, place-from, place-before, key-most, weight-key, kept-is, kept-some, flag-is, peak-heaviest, heaviest-in, free-high, full-edge}
+use Rattle.pick.proofs.SceneLaws.{Scene, Heaviest, plan-rows, fine-at, from-place, before-place, place-from, place-before, key-most, weight-key, kept-is, flag-is, peak-heaviest, heaviest-in, free-high, full-edge}
 use Rattle.pick.proofs.LeadLaws.{Front, Nobody, made, late-over, late-none, segment-key, first-goes, front-stays, far-goes}
 use Rattle.pick.proofs.StretchLaws.{stretch-segment}
 

@@ -80,11 +80,10 @@ pub fn choose(
     ensures { λ r. ⌜ Picked (round-in (now (table .entry))) (now (flags .entry)) (reach .free) r ⌝ }
 {
     let free = reach.free;
-    let top = top_of(round);
     let mut lead = Leader {
-        key: peak_of(kept, free, top),
+        key: peak_of(kept, free, top_of(round)),
         first: free,
-        last: top,
+        last: free,
         other: 0,
     };
     if free == 0 {

@@ -8,9 +8,11 @@ ghost use Rattle.tally.specs.Rows.{Ready};
 ghost use Rattle.tally.specs.Near.{Counted, Reaches};
 ghost use Rattle.leap.specs.Send.{Sent-says};
 use leap::send::Went;
+use leap::send::send_all;
 use leap::send::send_picked;
 use leap::send::send_silence;
 use pick::choice::choose;
+use pick::whole::choose_all;
 use plan::choose::choose_rows;
 use round::Round;
 use tally::keys::tally;
@@ -47,18 +49,38 @@ fn send_flagged(
     send_picked(table, flags, counts, &kept, &mut marks, round, reach, pick)
 }
 
+// Nothing is left out: every row is in the plan.
+fn send_whole(table: &mut [u8], counts: &[u16; 1025], round: Round, reach: Reach) -> Went
+    requires { ⌜ Ready (now table) round × (1 ≤ round .used) × Counted (round-in (now table)) (round-in (now table) .rows) (now counts) × Reaches (round-in (now table)) reach × (reach .over ≡ 0) ⌝ }
+    ensures { λ r. ⌜ Sent-says (now (table .entry)) (now (table .exit)) r ⌝ }
+{
+    let pick = choose_all(table, counts, round, reach);
+    send_all(table, round, reach, pick)
+}
+
+// Some rows are left out.
+fn send_planned(table: &mut [u8], counts: &mut [u16; 1025], round: Round, reach: Reach) -> Went
+    requires { ⌜ Ready (now table) round × (1 ≤ round .used) × Counted (round-in (now table)) (round-in (now table) .rows) (now counts) × Reaches (round-in (now table)) reach ⌝ }
+    ensures { λ r. ⌜ Sent-says (now (table .entry)) (now (table .exit)) r ⌝ }
+{
+    let used = round.used;
+    let mut flags = [1u8; 1024];
+    flag_rows(table, &mut flags[..used], round, reach);
+    send_flagged(table, &flags[..used], counts, round, reach)
+}
+
 // A slot is left to send.
 pub fn send_sound(table: &mut [u8], round: Round) -> Went
     requires { ⌜ Ready (now table) round ⌝ }
     ensures { λ r. ⌜ Sent-says (now (table .entry)) (now (table .exit)) r ⌝ }
 {
-    let used = round.used;
-    if used == 0 {
+    if round.used == 0 {
         return send_silence(table, round);
     }
     let mut counts = [0u16; 1025];
-    let mut flags = [1u8; 1024];
     let reach = reach_of(table, &mut counts, round);
-    flag_rows(table, &mut flags[..used], round, reach);
-    send_flagged(table, &flags[..used], &mut counts, round, reach)
+    if reach.over == 0 {
+        return send_whole(table, &counts, round, reach);
+    }
+    send_planned(table, &mut counts, round, reach)
 }

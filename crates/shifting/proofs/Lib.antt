@@ -1,5 +1,4 @@
 pub mod MarkLaws
-pub mod EndLaws
 pub mod LinkLaws
 pub mod MoveLaws
 pub mod ChainLaws

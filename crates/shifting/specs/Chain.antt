@@ -9,34 +9,19 @@ use lib.ListN.{length, getD}
 use lib.Seq.{sets}
 use Rattle.rules.specs.Rows.{Row, Round, going-on}
 use Rattle.rules.specs.Conditions.{row-at}
-use Rattle.rules.specs.Table.{low, table}
+use Rattle.rules.specs.Table.{low, table, round-in}
 use Rattle.theory.specs.Feas.{num}
-use Rattle.theory.specs.Flags.{with-flag}
+use Rattle.theory.specs.Flags.{Chosen, with-flag}
 use Rattle.theory.specs.Chain.{Chain, moves}
 use Rattle.theory.specs.Segments.{Segment}
-use Rattle.tally.specs.Rows.{place}
-use Rattle.tally.specs.Near.{Counted, Reaches, upto}
+use Rattle.round.specs.declared.Round.{Round as Head}
+use Rattle.tally.specs.Rows.{Ready, place}
+use Rattle.tally.specs.Near.{Counted, Reaches}
 use Rattle.tally.specs.Tally.{kept-key, Tops}
 use Rattle.pick.specs.Lead.{most-key}
 use Rattle.tally.specs.declared.near.Reach.{Reach}
 use Rattle.shifting.specs.Marks.{Marks}
 use Rattle.shifting.specs.declared.chain.Links.{Links}
-
--- ENDS by counts: so many rows up to a bucket as buckets
-pub record Ends (cs : List ℕ) (last bucket free : ℕ) : Type 0 where
-  pub before : last < free
-  pub near : bucket < free
-  pub small : free ≤ 1025
-  pub size : length cs ≡ 1025
-  pub filled : upto (suc last) cs ≡ suc last
-  pub full : upto free cs ≡ free
-
-pub record First-end (cs : List ℕ) (last bucket free e : ℕ) : Type 0 where
-  pub above : last ≤ e
-  pub from : bucket ≤ e
-  pub near : e < free
-  pub end : upto (suc e) cs ≡ suc e
-  pub none : (u : ℕ) → last ≤ u → bucket ≤ u → u < e → upto (suc u) cs ≢ suc u
 
 -- the row that a key names; it stands in the table unless the key is 0
 abbrev pub row-named : (key : ℕ) → ℕ
@@ -75,17 +60,20 @@ pub record Fair-links (slot : ℕ) (l : Links) (t : List ℕ) : Type 0 where
   pub small : l .end ≤ 1024
   pub named : Named (l .waiting) t
 
--- WHAT A PASS GOES BY: from and to are ends, each before the far slots; b begins the segment that ends at from
-pub record Chained (r : Round) (fs : List ℕ) (x : Reach) (cs ks ms : List ℕ) (from to : ℕ) : Type 0 where
-  pub reach : Reaches r x
-  pub counts : Counted r (with-flag r fs) cs
-  pub kept : Tops (place r) (kept-key r fs) (length (r .rows)) ks
-  pub marks : Marks r fs to ms
+-- WHAT A PASS GOES BY: a sound table with its head and its plan's flags, counts, greatest keys and marks by bucket;
+-- from and to are ends before the far slots, and begin is the first slot of the segment that ends at from
+pub record Chained (t : List ℕ) (h : Head) (fs : List ℕ) (x : Reach) (cs ks ms : List ℕ) (from to : ℕ) : Type 0 where
+  pub ready : Ready t h
+  pub chosen : Chosen (round-in t) fs
+  pub reach : Reaches (round-in t) x
+  pub counts : Counted (round-in t) (with-flag (round-in t) fs) cs
+  pub kept : Tops (place (round-in t)) (kept-key (round-in t) fs) (length (round-in t .rows)) ks
+  pub marks : Marks (round-in t) fs to ms
   pub order : from ≤ to
   pub near : to < x .free
   pub begin : ℕ
-  pub first : Segment r (with-flag r fs) begin (r .slot + from)
-  pub last : num 0 (suc (r .slot + to)) (with-flag r fs) ≡ suc to
+  pub first : Segment (round-in t) (with-flag (round-in t) fs) begin (round-in t .slot + from)
+  pub last : num 0 (suc (round-in t .slot + to)) (with-flag (round-in t) fs) ≡ suc to
 
 -- the round with other rows
 abbrev pub having : Round → List Row → Round

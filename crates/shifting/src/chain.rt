@@ -1,13 +1,10 @@
 // A leap's shifts: one pass from the end of the substitute's segment back to the end of the sent row's. Ends are buckets.
 ghost use mathlib.Core.Path.{_≡_};
-ghost use mathlib.Core.Bool.{_&&_};
 ghost use Prim.Native.Nat.{_+_, _/_, _≤_, _<_, max};
-ghost use lib.Dec.{leb, eqb};
 ghost use lib.ListN.{getD};
 ghost use Rattle.rules.specs.Table.{round-in};
-ghost use Rattle.theory.specs.Flags.{Chosen, with-flag};
-ghost use Rattle.tally.specs.Rows.{Ready};
-ghost use Rattle.shifting.specs.Chain.{First-end, Ends, row-named, Named, linked, ended, ended-bytes, passed, passed-bytes, Fair-links, Chained, Shifts};
+ghost use Rattle.theory.specs.Flags.{with-flag};
+ghost use Rattle.shifting.specs.Chain.{row-named, Named, linked, ended, ended-bytes, passed, passed-bytes, Fair-links, Chained, Shifts};
 use closing::write::write_shift;
 use round::Round;
 use round::Slot;
@@ -15,30 +12,6 @@ use round::Weight;
 use tally::near::Reach;
 use tally::rows::larger;
 use tally::rows::wide;
-
-// The end of a bucket's segment: the first from it on by which the plan's rows fill the slots. Both last and free - 1 are ends.
-pub fn end_from(counts: &[u16; 1025], last: usize, bucket: usize, free: usize) -> usize
-    requires { ⌜ Ends (now counts) last bucket free ⌝ }
-    ensures { λ r. ⌜ First-end (now (counts .entry)) last bucket free r ⌝ }
-{
-    let mut s = last;
-    let mut under = last + 1;
-    while s + 1 < free {
-        if is_end(under, s, bucket) {
-            return s;
-        }
-        s += 1;
-        under += wide(counts[s]);
-    }
-    s
-}
-
-fn is_end(under: usize, s: usize, bucket: usize) -> bool
-    requires { ⌜ s < 1025 ⌝ }
-    ensures { λ r. ⌜ r ≡ (eqb under (s + 1) && leb bucket s) ⌝ }
-{
-    (under == s + 1) & (bucket <= s)
-}
 
 // The row and the weight that a key has.
 pub fn row_of(key: u64) -> usize
@@ -144,7 +117,7 @@ pub fn shift_chain(
     from: usize,
     to: usize,
 )
-    requires { ⌜ Ready (now table) round × Chosen (round-in (now table)) (now flags) × Chained (round-in (now table)) (now flags) reach (now counts) (now kept) (now marks) from to ⌝ }
+    requires { ⌜ Chained (now table) round (now flags) reach (now counts) (now kept) (now marks) from to ⌝ }
     ensures { λ _. ⌜ Shifts (round-in (now (table .entry))) (with-flag (round-in (now (table .entry))) (now (flags .entry))) (round-in (now (table .entry)) .slot + from) (round-in (now (table .entry)) .slot + to) (now (table .exit)) ⌝ }
 {
     let slot = Slot(round.slot.0);

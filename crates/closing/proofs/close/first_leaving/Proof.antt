@@ -1,8 +1,9 @@
-use Rattle.closing.specs.Close.{Front}
-use borrow.Author.Needs.{needs}
-use borrow.Author.Tests.{not-false}
+-- `closing::close::first_leaving` meets its contract. Assumes nothing.
 use mathlib.Core.Path.{sym, _∙_}
 use Prim.Native.Nat.{_-_}
+use borrow.Author.Needs.{needs}
+use borrow.Author.Tests.{not-false}
+use Rattle.closing.specs.Close.{Front}
 use Rattle.closing.proofs.CloseLaws.{front-none, front-more}
 use Rattle.closing.proofs.close.first_leaving.Statement.{statement}
 use Rattle.closing.proofs.close.first_leaving.Tie as tie
@@ -13,31 +14,24 @@ Inv-loop table used slot gone i₀ i = Front (slot .0) (gone .0) used table i
 abbrev μ-loop : tie.MeasureT-loop
 μ-loop table used slot gone i₀ i = used - i
 
--- src/close.rt:79:5
 loop-holds : tie.Need-loop-holds Inv-loop μ-loop
 loop-holds c = front-none _ _ _ _
 
--- src/close.rt:80:13
 row-stays-requires : tie.Need-row-stays-requires Inv-loop μ-loop
 row-stays-requires c κs = search needs
 
--- src/close.rt:81:13
 returns : tie.Need-returns Inv-loop μ-loop
 returns c = c .before .before .before .loop .inv
 
--- src/close.rt:83:9
 add-i : tie.Need-add-i Inv-loop μ-loop
 add-i c = search needs
 
--- src/close.rt:79:5
 loop-less : tie.Need-loop-less Inv-loop μ-loop
 loop-less c = search needs
 
--- src/close.rt:79:5
 loop-again : tie.Need-loop-again Inv-loop μ-loop
 loop-again c = front-more (c .before .before .before .before .before .args .slot .0) (c .before .before .before .before .before .args .gone .0) (c .before .before .before .before .before .args .used) (c .before .before .before .before .before .args .table .now) (c .before .before .before .loop .i) (c .before .before .before .loop .inv) (search needs) (sym (c .before .row-stays .ensures) ∙ not-false _ (c .if1 .left))
 
--- src/close.rt:74:1
 returns-2 : tie.Need-returns-2 Inv-loop μ-loop
 returns-2 c = c .before .loop .inv
 

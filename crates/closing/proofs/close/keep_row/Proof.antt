@@ -1,43 +1,35 @@
+-- `closing::close::keep_row` meets its contract. Assumes nothing.
 use mathlib.Core.Logic.{inl, inr}
 use mathlib.Core.Path.{refl, sym, _∙_}
-use Rattle.closing.proofs.CloseLaws.{kept-copied}
 use borrow.Author.Needs.{needs}
+use Rattle.closing.proofs.CloseLaws.{kept-copied}
 use Rattle.closing.proofs.close.keep_row.Statement.{statement}
 use Rattle.closing.proofs.close.keep_row.Tie as tie
 
--- src/close.rt:66:8
 row-stays-requires : tie.Need-row-stays-requires
 row-stays-requires c κs = search needs
 
--- src/close.rt:67:25
 row-at-requires : tie.Need-row-at-requires
 row-at-requires c κs = search needs
 
--- src/close.rt:67:39
 row-at-requires-2 : tie.Need-row-at-requires-2
 row-at-requires-2 c κs = search needs
 
--- src/close.rt:67:9
 copy-row-requires : tie.Need-copy-row-requires
 copy-row-requires c κs = search needs
 
--- src/close.rt:68:16
 add-result : tie.Need-add-result
 add-result c = search needs
 
--- src/close.rt:68:9
 same-length : tie.Need-same-length
 same-length c = search needs
 
--- src/close.rt:68:9
 returns : tie.Need-returns
 returns c = inl (sym (c .before .before .before .before .before .before .before .row-stays .ensures) ∙ c .before .before .before .before .before .before .if1 .taken, refl, kept-copied (c .before .before .before .before .before .before .before .before .before .before .args .table .now) _ (c .before .before .before .before .before .before .before .before .before .before .args .row) (c .before .before .before .before .before .before .before .before .before .before .args .kept) _ _ (c .before .before .before .before .row-at .ensures) (c .before .before .before .row-at2 .ensures) (c .before .before .copy-row .ensures))
 
--- src/close.rt:62:1
 same-length-2 : tie.Need-same-length-2
 same-length-2 c = search needs
 
--- src/close.rt:62:1
 returns-2 : tie.Need-returns-2
 returns-2 c = inr (sym (c .before .row-stays .ensures) ∙ c .if1 .left, refl, refl)
 

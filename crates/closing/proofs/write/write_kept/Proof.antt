@@ -1,29 +1,24 @@
-use Rattle.closing.proofs.WriteLaws.{kept-stored}
+-- `closing::write::write_kept` meets its contract. Assumes nothing.
 use borrow.Author.Needs.{needs}
+use Rattle.closing.proofs.WriteLaws.{kept-stored}
 use Rattle.closing.proofs.write.write_kept.Statement.{statement}
 use Rattle.closing.proofs.write.write_kept.Tie as tie
 
--- src/write.rt:39:5
 write-shift-requires : tie.Need-write-shift-requires
 write-shift-requires c κs = search needs
 
--- src/write.rt:40:16
 row-at-requires : tie.Need-row-at-requires
 row-at-requires c κs = search needs
 
--- src/write.rt:40:16
 add-kind : tie.Need-add-kind
 add-kind c = search needs
 
--- src/write.rt:41:5
 slice-write-table : tie.Need-slice-write-table
 slice-write-table c = search needs
 
--- src/write.rt:35:1
 same-length : tie.Need-same-length
 same-length c = search needs
 
--- src/write.rt:35:1
 returns : tie.Need-returns
 returns c = kept-stored (c .before .before .before .before .before .before .args .table .now) _ _ (c .before .before .before .before .before .before .args .row) (c .before .before .before .before .before .before .args .due .0) (c .before .before .before .before .before .before .args .weight .0) (c .row-at .ensures) (c .before .before .before .write-shift .ensures)
 

@@ -1,17 +1,15 @@
-use Rattle.leap.proofs.SendLaws.{silence-says}
+-- `leap::send::send_silence` meets its contract. Assumes nothing.
 use borrow.Author.Needs.{needs}
+use Rattle.leap.proofs.SendLaws.{silence-says}
 use Rattle.leap.proofs.send.send_silence.Statement.{statement}
 use Rattle.leap.proofs.send.send_silence.Tie as tie
 
--- src/send.rt:54:5
 close-up-requires : tie.Need-close-up-requires
 close-up-requires c κs = search needs
 
--- src/send.rt:50:1
 same-length : tie.Need-same-length
 same-length c = search needs
 
--- src/send.rt:50:1
 returns : tie.Need-returns
 returns c = silence-says (c .before .before .before .before .before .args .table .now) (c .before .before .before .before .before .args .round) (c .before .before .before .before .before .pre .0) (c .before .before .before .before .before .pre .1) _ (c .before .before .close-up .ensures)
 

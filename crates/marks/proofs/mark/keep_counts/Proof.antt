@@ -20,8 +20,11 @@ abbrev μ-loop : tie.MeasureT-loop
 row : (c : tie.In-loop Inv-loop μ-loop) → c .before .loop .i < length (round-in (c .before .before .before .before .before .before .before .args .table .now) .rows)
 row c = omega (arith, known _ _ (c .before .before .before .before .before .before .before .pre .0) .used, c .loop-test .taken)
 
-bucket : (c : tie.After-bucket-of Inv-loop μ-loop) → Bucket-at (round-in (c .before .before .before .before .before .before .before .before .before .args .table .now)) (c .before .before .before .loop .i) (c .bucket-of .result)
-bucket c = bucket-read _ _ _ _ _ _ (c .before .before .before .before .before .before .before .before .before .pre .0) (c .before .before .before .before .top-of .ensures) (c .before .due-at .ensures) (c .bucket-of .ensures)
+bucket : (c : tie.After-bucket-of Inv-loop μ-loop) →
+    Bucket-at (round-in (c .before .before .before .before .before .before .before .before .before .args .table .now)) (c .before .before .before .loop .i) (c .bucket-of .result)
+bucket c =
+    bucket-read _ _ _ _ _ _ (c .before .before .before .before .before .before .before .before .before .pre .0) (c .before .before .before .before .top-of .ensures)
+    (c .before .due-at .ensures) (c .bucket-of .ensures)
 
 returns : tie.Need-returns Inv-loop μ-loop
 returns c =
@@ -38,10 +41,13 @@ due-at-requires : tie.Need-due-at-requires Inv-loop μ-loop
 due-at-requires c κs = (c .before .before .before .before .before .before .before .pre .0, search needs)
 
 bucket-of-requires : tie.Need-bucket-of-requires Inv-loop μ-loop
-bucket-of-requires c κs = let k = known _ _ (c .before .before .before .before .before .before .before .before .pre .0) in omega (arith, c .due-at .ensures .from, k .slot)
+bucket-of-requires c κs =
+    let k = known _ _ (c .before .before .before .before .before .before .before .before .pre .0) in
+    omega (arith, c .due-at .ensures .from, k .slot)
 
 shared-slice-read-out : tie.Need-shared-slice-read-out Inv-loop μ-loop
-shared-slice-read-out c = omega (arith, row (c .before .before .before), c .before .before .before .before .before .before .before .before .before .before .pre .1 .long)
+shared-slice-read-out c =
+    omega (arith, row (c .before .before .before), c .before .before .before .before .before .before .before .before .before .before .pre .1 .long)
 
 out-requires : tie.Need-out-requires Inv-loop μ-loop
 out-requires c κs = search needs
@@ -53,7 +59,11 @@ element-copy-out-counts : tie.Need-element-copy-out-counts Inv-loop μ-loop
 element-copy-out-counts c = omega (arith, bucket (c .before .before) .small)
 
 sub-counts : tie.Need-sub-counts Inv-loop μ-loop
-sub-counts c = omega (arith, keep-less _ _ _ _ _ _ (c .before .before .before .before .before .before .before .before .before .before .before .before .pre .1) (row (c .before .before .before .before .before)) (bucket (c .before .before .before)) (c .before .out .ensures) (c .before .before .before .before .before .before .loop .inv .1))
+sub-counts c =
+    omega (
+      arith,
+      keep-less _ _ _ _ _ _ (c .before .before .before .before .before .before .before .before .before .before .before .before .pre .1) (row (c .before .before .before .before .before)) (bucket (c .before .before .before)) (c .before .out .ensures) (c .before .before .before .before .before .before .loop .inv .1),
+    )
 
 mul-counts-2 : tie.Need-mul-counts-2 Inv-loop μ-loop
 mul-counts-2 c = let s : c .before .before .before .bucket-of .result ≤ 1024 = bucket (c .before .before .before) .small in search needs
@@ -68,10 +78,17 @@ loop-less : tie.Need-loop-less Inv-loop μ-loop
 loop-less c = omega (arith, c .before .before .before .before .before .loop-test .taken)
 
 loop-again : tie.Need-loop-again Inv-loop μ-loop
-loop-again c = (search needs, keep-step _ _ _ _ _ _ (c .before .before .before .before .before .before .before .before .before .before .before .before .pre .1) (row (c .before .before .before .before .before)) (bucket (c .before .before .before)) (c .before .out .ensures) (c .before .before .before .before .before .before .loop .inv .1))
+loop-again c = (
+  search needs,
+  keep-step _ _ _ _ _ _ (c .before .before .before .before .before .before .before .before .before .before .before .before .pre .1)
+      (row (c .before .before .before .before .before)) (bucket (c .before .before .before)) (c .before .out .ensures)
+      (c .before .before .before .before .before .before .loop .inv .1),
+)
 
 returns-2 : tie.Need-returns-2 Inv-loop μ-loop
-returns-2 c = let s = c .before .before .before .before .before .before .before in keep-end _ _ _ _ (s .pre .1) (omega (arith, known _ _ (s .pre .0) .used)) (c .before .loop .inv .1)
+returns-2 c =
+    let s = c .before .before .before .before .before .before .before in
+    keep-end _ _ _ _ (s .pre .1) (omega (arith, known _ _ (s .pre .0) .used)) (c .before .loop .inv .1)
 
 pub keep-counts-spec : {M : Type 1} → statement M
 keep-counts-spec =

@@ -7,7 +7,8 @@ use Rattle.marks.proofs.MarkLaws.{far-is, Nearby, nearby, near-is}
 use Rattle.marks.proofs.mark.mark_at.Statement.{statement}
 use Rattle.marks.proofs.mark.mark_at.Tie as tie
 
-close : (c : tie.Else1) → Nearby (c .before .before .before .before .args .round) (c .before .before .before .before .args .reach) (c .before .before .before .before .args .slot)
+close : (c : tie.Else1) →
+    Nearby (c .before .before .before .before .args .round) (c .before .before .before .before .args .reach) (c .before .before .before .before .args .slot)
 close c = nearby _ _ _ _ _ (c .before .before .before .before .pre .0) (c .before .before .before .before .pre .2) (c .before .is-far .ensures) (c .if1 .left)
 
 is-far-requires : tie.Need-is-far-requires
@@ -52,7 +53,9 @@ least-by-requires c κs = search needs
 returns-2 : tie.Need-returns-2
 returns-2 c =
     let s = c .before .before .before .before .before .before .before .before .before .before .before .before .before .before in
-    near-is _ _ _ _ _ _ _ _ _ (s .pre .0) (s .pre .1) (s .pre .2) (s .pre .4) (close (c .before .before .before .before .before .before .before .before .before .before)) (c .before .before .before .before .before .before .before .before .keep-counts .ensures) (c .before .before .before .back-after .ensures) refl
+    near-is _ _ _ _ _ _ _ _ _ (s .pre .0) (s .pre .1) (s .pre .2) (s .pre .4)
+    (close (c .before .before .before .before .before .before .before .before .before .before))
+    (c .before .before .before .before .before .before .before .before .keep-counts .ensures) (c .before .before .before .back-after .ensures) refl
     (c .least-by .ensures)
 
 pub mark-at-spec : {M : Type 1} → statement M

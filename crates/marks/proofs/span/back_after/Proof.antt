@@ -41,7 +41,11 @@ loop-less : tie.Need-loop-less Inv-loop μ-loop
 loop-less c = search needs
 
 loop-again : tie.Need-loop-again Inv-loop μ-loop
-loop-again c = (search needs, go-back _ _ _ _ _ _ (omega arith) (c .before .before .before .before .loop .inv .1) (c .before .wide .ensures .0) (c .before .wide .ensures .1) (c .back-one .ensures))
+loop-again c = (
+  search needs,
+  go-back _ _ _ _ _ _ (omega arith) (c .before .before .before .before .loop .inv .1) (c .before .wide .ensures .0) (c .before .wide .ensures .1)
+      (c .back-one .ensures),
+)
 
 returns : tie.Need-returns Inv-loop μ-loop
 returns c = let e : c .before .loop .s ≡ suc (c .before .before .before .args .mid) = omega arith in rw e at (c .before .loop .inv .1 .back)

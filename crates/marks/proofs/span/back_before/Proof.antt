@@ -48,7 +48,8 @@ loop-less c =
 loop-again : tie.Need-loop-again Inv-loop μ-loop
 loop-again c =
     let s = c .before .before .before .before .before .before .before in
-    seek-back _ _ _ _ _ _ _ (s .pre .4) (c .before .before .before .if1 .taken) (c .before .before .before .before .before .loop .inv) (c .before .wide .ensures .0) (c .before .wide .ensures .1) (c .back-one .ensures)
+    seek-back _ _ _ _ _ _ _ (s .pre .4) (c .before .before .before .if1 .taken) (c .before .before .before .before .before .loop .inv) (c .before .wide .ensures .0)
+    (c .before .wide .ensures .1) (c .back-one .ensures)
 
 returns : tie.Need-returns Inv-loop μ-loop
 returns c = seek-end _ _ _ _ _ (c .if1 .left) (c .before .before .loop .inv)

@@ -36,21 +36,32 @@ cast-t15 : tie.Need-cast-t15
 cast-t15 c = let v = view (c .before .before .before .before .before .before) in omega (arith, c .back-before .ensures .by, v .order, v .small)
 
 add-t16 : tie.Need-add-t16
-add-t16 c = let v = view (c .before .before .before .before .before .before .before) in omega (arith, c .before .back-before .ensures .by, v .order, v .small, v .low)
+add-t16 c =
+    let v = view (c .before .before .before .before .before .before .before) in
+    omega (arith, c .before .back-before .ensures .by, v .order, v .small, v .low)
 
 sub-t17 : tie.Need-sub-t17
 sub-t17 c = search needs
 
 cast-t18 : tie.Need-cast-t18
-cast-t18 c = omega (arith, c .before .before .before .before .back-after .ensures .back .high, view (c .before .before .before .before .before .before .before .before) .small)
+cast-t18 c =
+    omega (
+      arith,
+      c .before .before .before .before .back-after .ensures .back .high,
+      view (c .before .before .before .before .before .before .before .before) .small,
+    )
 
 add-t19 : tie.Need-add-t19
-add-t19 c = let v = view (c .before .before .before .before .before .before .before .before .before) in omega (arith, c .before .before .before .before .before .back-after .ensures .back .high, v .small, v .low)
+add-t19 c =
+    let v = view (c .before .before .before .before .before .before .before .before .before) in
+    omega (arith, c .before .before .before .before .before .back-after .ensures .back .high, v .small, v .low)
 
 returns : tie.Need-returns
 returns c =
     let s = c .before .before .before .before .before .before .before .before .before .before .before .before in
-    viewed-spans _ _ _ _ _ _ _ _ _ _ (s .pre .0) (s .pre .1) (view (c .before .before .before .before .before .before .before .before .before)) (c .before .before .before .before .before .before .before .count-in .ensures) (c .before .before .before .before .before .back-after .ensures) (c .before .before .before .back-before .ensures) refl refl
+    viewed-spans _ _ _ _ _ _ _ _ _ _ (s .pre .0) (s .pre .1) (view (c .before .before .before .before .before .before .before .before .before))
+    (c .before .before .before .before .before .before .before .count-in .ensures) (c .before .before .before .before .before .back-after .ensures)
+    (c .before .before .before .back-before .ensures) refl refl
 
 pub span-of-spec : {M : Type 1} → statement M
 span-of-spec =

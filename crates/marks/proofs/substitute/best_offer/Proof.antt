@@ -30,10 +30,15 @@ weight-at-requires : tie.Need-weight-at-requires Inv-loop μ-loop
 weight-at-requires c κs = (c .before .before .before .before .before .pre .0, search needs)
 
 key-of-requires : tie.Need-key-of-requires Inv-loop μ-loop
-key-of-requires c κs = (c .weight-at .ensures .most, c .before .due-at .ensures .small, omega (arith, row (c .before .before), known _ _ (c .before .before .before .before .before .before .pre .0) .small))
+key-of-requires c κs = (
+  c .weight-at .ensures .most,
+  c .before .due-at .ensures .small,
+  omega (arith, row (c .before .before), known _ _ (c .before .before .before .before .before .before .pre .0) .small),
+)
 
 shared-slice-read-offer-of : tie.Need-shared-slice-read-offer-of Inv-loop μ-loop
-shared-slice-read-offer-of c = omega (arith, row (c .before .before .before .before), c .before .before .before .before .before .before .before .before .pre .1 .long)
+shared-slice-read-offer-of c =
+    omega (arith, row (c .before .before .before .before), c .before .before .before .before .before .before .before .before .pre .1 .long)
 
 offer-of-requires : tie.Need-offer-of-requires Inv-loop μ-loop
 offer-of-requires c κs = key-read-most _ _ _ _ (c .before .before .weight-at .ensures .most) (c .before .key-of .ensures)
@@ -51,7 +56,8 @@ loop-again : tie.Need-loop-again Inv-loop μ-loop
 loop-again c =
     let s = c .before .before .before .before .before .before .before .before .before .before in
     let o =
-    offer-read (round-in (s .args .table .now)) (s .args .flags .now) (s .args .span) _ _ _ _ _ _ (known _ _ (s .pre .0) .slot) (c .before .before .before .before .before .due-at .ensures)
+    offer-read (round-in (s .args .table .now)) (s .args .flags .now) (s .args .span) _ _ _ _ _ _ (known _ _ (s .pre .0) .slot)
+    (c .before .before .before .before .before .due-at .ensures)
     (c .before .before .before .before .weight-at .ensures) (c .before .before .before .key-of .ensures) (c .before .offer-of .ensures) in
     (search needs, offer-step _ _ _ _ _ o (c .better-of .ensures) (c .before .before .before .before .before .before .before .loop .inv .1))
 

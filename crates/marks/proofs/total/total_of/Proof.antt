@@ -46,7 +46,10 @@ loop-again c =
     (search needs, sum-step _ _ _ _ _ _ (c .before .before .before .before .before .before .before .pre .1) (row (c .before .before .before)) (c .before .weight-at .ensures) (c .added .ensures .0) (c .added .ensures .1) (c .before .before .before .before .loop .inv .1))
 
 returns : tie.Need-returns Inv-loop μ-loop
-returns c = let s = c .before .before .before .before in let k = known _ _ (s .pre .0) in sum-end _ (k .fine) _ _ _ (s .pre .1) (omega (arith, k .used)) (c .before .loop .inv .1)
+returns c =
+    let s = c .before .before .before .before in
+    let k = known _ _ (s .pre .0) in
+    sum-end _ (k .fine) _ _ _ (s .pre .1) (omega (arith, k .used)) (c .before .loop .inv .1)
 
 pub total-of-spec : {M : Type 1} → statement M
 total-of-spec =

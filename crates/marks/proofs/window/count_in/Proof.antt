@@ -38,7 +38,13 @@ element-copy-out-counts : tie.Need-element-copy-out-counts Inv-loop μ-loop
 element-copy-out-counts c = search needs
 
 add-counts : tie.Need-add-counts Inv-loop μ-loop
-add-counts c = omega (arith, c .before .before .before .before .before .loop .inv .1 .few (c .before .bucket-in .result), row (c .before .before .before .before), known _ _ (c .before .before .before .before .before .before .before .before .pre .0) .small)
+add-counts c =
+    omega (
+      arith,
+      c .before .before .before .before .before .loop .inv .1 .few (c .before .bucket-in .result),
+      row (c .before .before .before .before),
+      known _ _ (c .before .before .before .before .before .before .before .before .pre .0) .small,
+    )
 
 mul-counts-2 : tie.Need-mul-counts-2 Inv-loop μ-loop
 mul-counts-2 c = search needs

@@ -13,7 +13,15 @@ weight-of-requires : tie.Need-weight-of-requires
 weight-of-requires c κs = search needs
 
 returns : tie.Need-returns
-returns c = let k = c .before .before .before .before .pre .4 (c .before .if1 .taken) in subst (λ (v : ℕ). Least-by (round-in (c .before .before .before .before .args .table .now)) (c .before .before .before .before .args .flags .now) v (c .weight-of .result)) (omega (arith, c .before .if1 .taken)) (subst (λ (v : ℕ). Least-by (round-in (c .before .before .before .before .args .table .now)) (c .before .before .before .before .args .flags .now) (c .before .before .before .before .args .round .slot .0) v) (sym (c .weight-of .ensures)) k)
+returns c =
+    let args = c .before .before .before .before .args in
+    let pre = c .before .before .before .before .pre in
+    let if1 = c .before .if1 in
+    let weight-of = c .weight-of in
+    let t = round-in (args .table .now) in
+    let k = pre .4 (if1 .taken) in
+    subst (λ (v : ℕ). Least-by t (args .flags .now) v (weight-of .result)) (omega (arith, if1 .taken)) (subst
+    (λ (v : ℕ). Least-by t (args .flags .now) (args .round .slot .0) v) (sym (weight-of .ensures)) k)
 
 sub-last : tie.Need-sub-last
 sub-last c = search needs

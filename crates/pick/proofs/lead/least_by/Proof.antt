@@ -24,7 +24,9 @@ due-at-requires : tie.Need-due-at-requires Inv-loop μ-loop
 due-at-requires c κs = (c .before .before .before .before .pre .0, search needs)
 
 shared-slice-read-if2 : tie.Need-shared-slice-read-if2 Inv-loop μ-loop
-shared-slice-read-if2 c = omega (arith, known _ _ (c .before .before .before .before .before .before .before .pre .0) .used, c .before .before .before .before .before .before .before .pre .1 .long)
+shared-slice-read-if2 c =
+    let pre = c .before .before .before .before .before .before .before .pre in
+    omega (arith, known _ _ (pre .0) .used, pre .1 .long)
 
 weight-at-requires : tie.Need-weight-at-requires Inv-loop μ-loop
 weight-at-requires c κs = (c .before .before .before .before .before .before .before .before .pre .0, search needs)
@@ -36,13 +38,33 @@ loop-less : tie.Need-loop-less Inv-loop μ-loop
 loop-less c = search needs
 
 loop-again : tie.Need-loop-again Inv-loop μ-loop
-loop-again c = (search needs, look-takes _ _ _ _ _ _ _ (due-kept _ _ _ _ _ (omega (arith, known _ _ (c .before .before .before .before .before .before .before .before .before .before .pre .0) .used, c .before .before .before .before .before .before .before .before .before .before .pre .1 .long)) (c .before .before .if2 .taken) (c .before .before .before .before .before .due-at .ensures) (c .before .before .before .before .if1 .taken)) (c .before .weight-at .ensures) (c .smaller .ensures) (c .before .before .before .before .before .before .before .loop .inv .1))
+loop-again c =
+    let pre = c .before .before .before .before .before .before .before .before .before .before .pre in
+    let if2 = c .before .before .if2 in
+    let due-at = c .before .before .before .before .before .due-at in
+    let if1 = c .before .before .before .before .if1 in
+    let weight-at = c .before .weight-at in
+    let smaller = c .smaller in
+    let loop = c .before .before .before .before .before .before .before .loop in (
+      search needs,
+      look-takes _ _ _ _ _ _ _
+          (due-kept _ _ _ _ _ (omega (arith, known _ _ (pre .0) .used, pre .1 .long)) (if2 .taken) (due-at .ensures) (if1 .taken)) (weight-at .ensures)
+          (smaller .ensures) (loop .inv .1),
+    )
 
 loop-less-2 : tie.Need-loop-less-2 Inv-loop μ-loop
 loop-less-2 c = search needs
 
 loop-again-2 : tie.Need-loop-again-2 Inv-loop μ-loop
-loop-again-2 c = (search needs, look-skips _ _ _ _ _ (skip-out (round-in (c .before .before .before .before .before .before .before .before .args .table .now)) _ _ _ (omega (arith, known _ _ (c .before .before .before .before .before .before .before .before .pre .0) .used, c .before .before .before .before .before .before .before .before .pre .1 .long)) (c .if2 .left)) (c .before .before .before .before .before .loop .inv .1))
+loop-again-2 c =
+    let args = c .before .before .before .before .before .before .before .before .args in
+    let pre = c .before .before .before .before .before .before .before .before .pre in
+    let if2 = c .if2 in
+    let loop = c .before .before .before .before .before .loop in (
+      search needs,
+      look-skips _ _ _ _ _
+          (skip-out (round-in (args .table .now)) _ _ _ (omega (arith, known _ _ (pre .0) .used, pre .1 .long)) (if2 .left)) (loop .inv .1),
+    )
 
 loop-less-3 : tie.Need-loop-less-3 Inv-loop μ-loop
 loop-less-3 c = search needs

@@ -37,13 +37,21 @@ loop-less : tie.Need-loop-less Inv-loop μ-loop
 loop-less c = search needs
 
 loop-again : tie.Need-loop-again Inv-loop μ-loop
-loop-again c = (search needs, scan-takes (c .before .before .before .before .before .before .args .keys .now) _ _ _ (c .if2 .taken) (c .before .before .before .before .loop .inv .1))
+loop-again c =
+    let args = c .before .before .before .before .before .before .args in
+    let if2 = c .if2 in
+    let loop = c .before .before .before .before .loop in
+    (search needs, scan-takes (args .keys .now) _ _ _ (if2 .taken) (loop .inv .1))
 
 loop-less-2 : tie.Need-loop-less-2 Inv-loop μ-loop
 loop-less-2 c = search needs
 
 loop-again-2 : tie.Need-loop-again-2 Inv-loop μ-loop
-loop-again-2 c = (search needs, scan-keeps (c .before .before .before .before .before .before .args .keys .now) _ _ _ (c .if2 .left) (c .before .before .before .before .loop .inv .1))
+loop-again-2 c =
+    let args = c .before .before .before .before .before .before .args in
+    let if2 = c .if2 in
+    let loop = c .before .before .before .before .loop in
+    (search needs, scan-keeps (args .keys .now) _ _ _ (if2 .left) (loop .inv .1))
 
 mul-result : tie.Need-mul-result Inv-loop μ-loop
 mul-result c = search needs

@@ -25,7 +25,11 @@ wide-requires : tie.Need-wide-requires Inv-loop μ-loop
 wide-requires c κs = search needs
 
 add-under : tie.Need-add-under Inv-loop μ-loop
-add-under c = omega (arith, c .before .before .before .loop .inv .few, c .before .before .before .loop .inv .by, c .before .before .before .before .pre .1, c .wide .ensures .1)
+add-under c =
+    let loop = c .before .before .before .loop in
+    let pre = c .before .before .before .before .pre in
+    let wide = c .wide in
+    omega (arith, loop .inv .few, loop .inv .by, pre .1, wide .ensures .1)
 
 add-s : tie.Need-add-s Inv-loop μ-loop
 add-s c = search needs
@@ -34,19 +38,36 @@ sub-t14 : tie.Need-sub-t14 Inv-loop μ-loop
 sub-t14 c = search needs
 
 returns : tie.Need-returns Inv-loop μ-loop
-returns c = walk-hit _ _ _ _ _ _ _ (c .before .before .before .before .loop-test .taken) (c .before .before .before .before .before .loop .inv) (c .before .before .wide .ensures .0) (c .before .before .wide .ensures .1) (c .before .if1 .taken) (c .if2 .taken)
+returns c =
+    let loop-test = c .before .before .before .before .loop-test in
+    let loop = c .before .before .before .before .before .loop in
+    let wide = c .before .before .wide in
+    let if1 = c .before .if1 in
+    let if2 = c .if2 in
+    walk-hit _ _ _ _ _ _ _ (loop-test .taken) (loop .inv) (wide .ensures .0) (wide .ensures .1) (if1 .taken) (if2 .taken)
 
 loop-less : tie.Need-loop-less Inv-loop μ-loop
 loop-less c = search needs
 
 loop-again : tie.Need-loop-again Inv-loop μ-loop
-loop-again c = walk-whole _ _ _ _ _ _ _ (c .before .before .before .before .loop-test .taken) (c .before .before .before .before .before .loop .inv) (c .before .before .wide .ensures .0) (c .before .before .wide .ensures .1) (c .before .if1 .taken) (c .if2 .left)
+loop-again c =
+    let loop-test = c .before .before .before .before .loop-test in
+    let loop = c .before .before .before .before .before .loop in
+    let wide = c .before .before .wide in
+    let if1 = c .before .if1 in
+    let if2 = c .if2 in
+    walk-whole _ _ _ _ _ _ _ (loop-test .taken) (loop .inv) (wide .ensures .0) (wide .ensures .1) (if1 .taken) (if2 .left)
 
 loop-less-2 : tie.Need-loop-less-2 Inv-loop μ-loop
 loop-less-2 c = search needs
 
 loop-again-2 : tie.Need-loop-again-2 Inv-loop μ-loop
-loop-again-2 c = walk-on _ _ _ _ _ _ _ (c .before .before .before .loop-test .taken) (c .before .before .before .before .loop .inv) (c .before .wide .ensures .0) (c .before .wide .ensures .1) (c .if1 .left)
+loop-again-2 c =
+    let loop-test = c .before .before .before .loop-test in
+    let loop = c .before .before .before .before .loop in
+    let wide = c .before .wide in
+    let if1 = c .if1 in
+    walk-on _ _ _ _ _ _ _ (loop-test .taken) (loop .inv) (wide .ensures .0) (wide .ensures .1) (if1 .left)
 
 returns-2 : tie.Need-returns-2 Inv-loop μ-loop
 returns-2 c = absurd (walk-end _ _ _ _ _ _ (c .loop-test .left) (c .before .before .pre .0) (c .before .before .pre .2) (c .before .loop .inv))

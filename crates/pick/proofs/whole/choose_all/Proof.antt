@@ -12,46 +12,145 @@ gather-requires : tie.Need-gather-requires
 gather-requires c κs = search needs
 
 returns : tie.Need-returns
-returns c = all-far _ _ (whole-scene _ _ _ (c .before .before .before .pre .0) (c .before .before .before .pre .3) (c .before .before .before .pre .4)) _ _ (known _ _ (c .before .before .before .pre .0) .slot) (c .before .if1 .taken) (omega (arith, known _ _ (c .before .before .before .pre .0) .used, c .before .before .before .pre .1)) (c .gather .ensures)
+returns c =
+    let pre = c .before .before .before .pre in
+    let if1 = c .before .if1 in
+    let gather = c .gather in
+    let s = whole-scene _ _ _ (pre .0) (pre .3) (pre .4) in
+    all-far _ _ s _ _ (known _ _ (pre .0) .slot) (if1 .taken) (omega (arith, known _ _ (pre .0) .used, pre .1)) (gather .ensures)
 
 stretch-of-requires : tie.Need-stretch-of-requires
-stretch-of-requires c κs = let n = c .if1 .left in (omega arith, free-few _ _ (whole-scene _ _ _ (c .before .before .pre .0) (c .before .before .pre .3) (c .before .before .pre .4)), counts-edge _ _ (whole-scene _ _ _ (c .before .before .pre .0) (c .before .before .pre .3) (c .before .before .pre .4)) _ (c .before .before .pre .2))
+stretch-of-requires c κs =
+    let pre = c .before .before .pre in
+    let if1 = c .if1 in
+    let s = whole-scene _ _ _ (pre .0) (pre .3) (pre .4) in
+    let n = if1 .left in
+    (omega arith, free-few _ _ s, counts-edge _ _ s _ (pre .2))
 
 add-end : tie.Need-add-end
 add-end c = search needs
 
 cast-gather : tie.Need-cast-gather
-cast-gather c = omega (arith, c .before .stretch-of .ensures .near, free-few _ _ (whole-scene _ _ _ (c .before .before .before .before .pre .0) (c .before .before .before .before .pre .3) (c .before .before .before .before .pre .4)))
+cast-gather c =
+    let pre = c .before .before .before .before .pre in
+    let stretch-of = c .before .stretch-of in
+    let s = whole-scene _ _ _ (pre .0) (pre .3) (pre .4) in
+    omega (arith, stretch-of .ensures .near, free-few _ _ s)
 
 add-gather : tie.Need-add-gather
-add-gather c = let k = known _ _ (c .before .before .before .before .pre .0) in omega (arith, c .before .stretch-of .ensures .near, free-few _ _ (whole-scene _ _ _ (c .before .before .before .before .pre .0) (c .before .before .before .before .pre .3) (c .before .before .before .before .pre .4)), k .slot, k .time, k .cap)
+add-gather c =
+    let pre = c .before .before .before .before .pre in
+    let stretch-of = c .before .stretch-of in
+    let s = whole-scene _ _ _ (pre .0) (pre .3) (pre .4) in
+    let k = known _ _ (pre .0) in
+    omega (arith, stretch-of .ensures .near, free-few _ _ s, k .slot, k .time, k .cap)
 
 gather-requires-2 : tie.Need-gather-requires-2
 gather-requires-2 c κs = search needs
 
 sub-mark : tie.Need-sub-mark
-sub-mark c = omega (arith, light-some _ _ (whole-scene _ _ _ (c .before .before .before .before .before .before .pre .0) (c .before .before .before .before .before .before .pre .3) (c .before .before .before .before .before .before .pre .4)) (c .before .before .before .stretch-of .result .last + 1) (omega arith) (omega (arith, c .before .before .before .stretch-of .ensures .near)) (first-stretch _ _ (whole-scene _ _ _ (c .before .before .before .before .before .before .pre .0) (c .before .before .before .before .before .before .pre .3) (c .before .before .before .before .before .before .pre .4)) _ (c .before .before .before .before .before .before .pre .2) _ (c .before .before .before .stretch-of .ensures)) _ (omega (arith, (known _ _ (c .before .before .before .before .before .before .pre .0) .slot))) _ (c .before .gather2 .ensures) .1)
+sub-mark c =
+    let pre = c .before .before .before .before .before .before .pre in
+    let stretch-of = c .before .before .before .stretch-of in
+    let gather2 = c .before .gather2 in
+    let s = whole-scene _ _ _ (pre .0) (pre .3) (pre .4) in
+    let g = first-stretch _ _ s _ (pre .2) _ (stretch-of .ensures) in
+    let f = (known _ _ (pre .0) .slot) in
+    omega (
+      arith,
+      light-some _ _ s (stretch-of .result .last + 1) (omega arith) (omega (arith, stretch-of .ensures .near)) g _ (omega (arith, f)) _
+          (gather2 .ensures) .1,
+    )
 
 weight-of-requires : tie.Need-weight-of-requires
 weight-of-requires c κs = search needs
 
 score-of-requires : tie.Need-score-of-requires
-score-of-requires c κs = (omega (arith, fair-all _ _ (whole-scene _ _ _ (c .before .before .before .before .before .before .before .pre .0) (c .before .before .before .before .before .before .before .pre .3) (c .before .before .before .before .before .before .before .pre .4)) (c .before .before .before .before .stretch-of .result .last + 1) (omega arith) (omega (arith, c .before .before .before .before .stretch-of .ensures .near)) (first-stretch _ _ (whole-scene _ _ _ (c .before .before .before .before .before .before .before .pre .0) (c .before .before .before .before .before .before .before .pre .3) (c .before .before .before .before .before .before .before .pre .4)) _ (c .before .before .before .before .before .before .before .pre .2) _ (c .before .before .before .before .stretch-of .ensures)) _ (omega (arith, (known _ _ (c .before .before .before .before .before .before .before .pre .0) .slot))) _ (c .before .before .gather2 .ensures) .1, c .weight-of .ensures), omega arith)
+score-of-requires c κs =
+    let pre = c .before .before .before .before .before .before .before .pre in
+    let stretch-of = c .before .before .before .before .stretch-of in
+    let gather2 = c .before .before .gather2 in
+    let weight-of = c .weight-of in
+    let s = whole-scene _ _ _ (pre .0) (pre .3) (pre .4) in
+    let g = first-stretch _ _ s _ (pre .2) _ (stretch-of .ensures) in
+    let f = (known _ _ (pre .0) .slot) in (
+      omega
+          (arith, fair-all _ _ s (stretch-of .result .last + 1) (omega arith) (omega (arith, stretch-of .ensures .near)) g _ (omega (arith, f)) _ (gather2 .ensures) .1, weight-of .ensures),
+      omega arith,
+    )
 
 weight-of-requires-2 : tie.Need-weight-of-requires-2
 weight-of-requires-2 c κs = search needs
 
 score-of-requires-2 : tie.Need-score-of-requires-2
-score-of-requires-2 c κs = (omega (arith, fair-all _ _ (whole-scene _ _ _ (c .before .before .before .before .before .before .before .before .before .pre .0) (c .before .before .before .before .before .before .before .before .before .pre .3) (c .before .before .before .before .before .before .before .before .before .pre .4)) (c .before .before .before .before .before .before .stretch-of .result .last + 1) (omega arith) (omega (arith, c .before .before .before .before .before .before .stretch-of .ensures .near)) (first-stretch _ _ (whole-scene _ _ _ (c .before .before .before .before .before .before .before .before .before .pre .0) (c .before .before .before .before .before .before .before .before .before .pre .3) (c .before .before .before .before .before .before .before .before .before .pre .4)) _ (c .before .before .before .before .before .before .before .before .before .pre .2) _ (c .before .before .before .before .before .before .stretch-of .ensures)) _ (omega (arith, (known _ _ (c .before .before .before .before .before .before .before .before .before .pre .0) .slot))) _ (c .before .before .before .before .gather2 .ensures) .0, c .weight-of2 .ensures), omega (arith, light-some _ _ (whole-scene _ _ _ (c .before .before .before .before .before .before .before .before .before .pre .0) (c .before .before .before .before .before .before .before .before .before .pre .3) (c .before .before .before .before .before .before .before .before .before .pre .4)) (c .before .before .before .before .before .before .stretch-of .result .last + 1) (omega arith) (omega (arith, c .before .before .before .before .before .before .stretch-of .ensures .near)) (first-stretch _ _ (whole-scene _ _ _ (c .before .before .before .before .before .before .before .before .before .pre .0) (c .before .before .before .before .before .before .before .before .before .pre .3) (c .before .before .before .before .before .before .before .before .before .pre .4)) _ (c .before .before .before .before .before .before .before .before .before .pre .2) _ (c .before .before .before .before .before .before .stretch-of .ensures)) _ (omega (arith, (known _ _ (c .before .before .before .before .before .before .before .before .before .pre .0) .slot))) _ (c .before .before .before .before .gather2 .ensures) .0))
+score-of-requires-2 c κs =
+    let pre = c .before .before .before .before .before .before .before .before .before .pre in
+    let stretch-of = c .before .before .before .before .before .before .stretch-of in
+    let gather2 = c .before .before .before .before .gather2 in
+    let weight-of2 = c .weight-of2 in
+    let s = whole-scene _ _ _ (pre .0) (pre .3) (pre .4) in
+    let g = first-stretch _ _ s _ (pre .2) _ (stretch-of .ensures) in
+    let f = (known _ _ (pre .0) .slot) in (
+      omega
+          (arith, fair-all _ _ s (stretch-of .result .last + 1) (omega arith) (omega (arith, stretch-of .ensures .near)) g _ (omega (arith, f)) _ (gather2 .ensures) .0, weight-of2 .ensures),
+      omega
+          (arith, light-some _ _ s (stretch-of .result .last + 1) (omega arith) (omega (arith, stretch-of .ensures .near)) g _ (omega (arith, f)) _ (gather2 .ensures) .0),
+    )
 
 returns-2 : tie.Need-returns-2
-returns-2 c = all-first _ _ (whole-scene _ _ _ (c .before .before .before .before .before .before .before .before .before .before .before .pre .0) (c .before .before .before .before .before .before .before .before .before .before .before .pre .3) (c .before .before .before .before .before .before .before .before .before .before .before .pre .4)) (c .before .before .before .before .before .before .before .before .stretch-of .result .last + 1) (omega arith) (omega (arith, c .before .before .before .before .before .before .before .before .stretch-of .ensures .near)) (first-stretch _ _ (whole-scene _ _ _ (c .before .before .before .before .before .before .before .before .before .before .before .pre .0) (c .before .before .before .before .before .before .before .before .before .before .before .pre .3) (c .before .before .before .before .before .before .before .before .before .before .before .pre .4)) _ (c .before .before .before .before .before .before .before .before .before .before .before .pre .2) _ (c .before .before .before .before .before .before .before .before .stretch-of .ensures)) _ (omega (arith, (known _ _ (c .before .before .before .before .before .before .before .before .before .before .before .pre .0) .slot))) _ (c .before .before .before .before .before .before .gather2 .ensures) (omega (arith, c .if2 .taken, c .before .before .before .score-of .ensures, c .before .score-of2 .ensures, c .before .before .before .before .weight-of .ensures, c .before .before .weight-of2 .ensures))
+returns-2 c =
+    let pre = c .before .before .before .before .before .before .before .before .before .before .before .pre in
+    let stretch-of = c .before .before .before .before .before .before .before .before .stretch-of in
+    let gather2 = c .before .before .before .before .before .before .gather2 in
+    let if2 = c .if2 in
+    let score-of = c .before .before .before .score-of in
+    let score-of2 = c .before .score-of2 in
+    let weight-of = c .before .before .before .before .weight-of in
+    let weight-of2 = c .before .before .weight-of2 in
+    let s = whole-scene _ _ _ (pre .0) (pre .3) (pre .4) in
+    let g = first-stretch _ _ s _ (pre .2) _ (stretch-of .ensures) in
+    let f = (known _ _ (pre .0) .slot) in
+    all-first _ _ s (stretch-of .result .last + 1) (omega arith) (omega (arith, stretch-of .ensures .near)) g _ (omega (arith, f)) _ (gather2
+    .ensures) (omega (arith, if2 .taken, score-of .ensures, score-of2 .ensures, weight-of .ensures, weight-of2 .ensures))
 
 later-leap-requires : tie.Need-later-leap-requires
-later-leap-requires c κs = (goes-from _ _ (whole-scene _ _ _ (c .before .before .before .before .before .before .before .before .before .before .before .pre .0) (c .before .before .before .before .before .before .before .before .before .before .before .pre .3) (c .before .before .before .before .before .before .before .before .before .before .before .pre .4)) (c .before .before .before .before .before .before .before .before .stretch-of .result .last + 1) (omega arith) (omega (arith, c .before .before .before .before .before .before .before .before .stretch-of .ensures .near)) (first-stretch _ _ (whole-scene _ _ _ (c .before .before .before .before .before .before .before .before .before .before .before .pre .0) (c .before .before .before .before .before .before .before .before .before .before .before .pre .3) (c .before .before .before .before .before .before .before .before .before .before .before .pre .4)) _ (c .before .before .before .before .before .before .before .before .before .before .before .pre .2) _ (c .before .before .before .before .before .before .before .before .stretch-of .ensures)) _ (omega (arith, (known _ _ (c .before .before .before .before .before .before .before .before .before .before .before .pre .0) .slot))) _ (c .before .before .before .before .before .before .gather2 .ensures) (omega (arith, c .if2 .left, c .before .before .before .score-of .ensures, c .before .score-of2 .ensures, c .before .before .before .before .weight-of .ensures, c .before .before .weight-of2 .ensures)) _ (known _ _ (c .before .before .before .before .before .before .before .before .before .before .before .pre .0) .slot) .0, free-few _ _ (whole-scene _ _ _ (c .before .before .before .before .before .before .before .before .before .before .before .pre .0) (c .before .before .before .before .before .before .before .before .before .before .before .pre .3) (c .before .before .before .before .before .before .before .before .before .before .before .pre .4)), counts-edge _ _ (whole-scene _ _ _ (c .before .before .before .before .before .before .before .before .before .before .before .pre .0) (c .before .before .before .before .before .before .before .before .before .before .before .pre .3) (c .before .before .before .before .before .before .before .before .before .before .before .pre .4)) _ (c .before .before .before .before .before .before .before .before .before .before .before .pre .2))
+later-leap-requires c κs =
+    let pre = c .before .before .before .before .before .before .before .before .before .before .before .pre in
+    let stretch-of = c .before .before .before .before .before .before .before .before .stretch-of in
+    let gather2 = c .before .before .before .before .before .before .gather2 in
+    let if2 = c .if2 in
+    let score-of = c .before .before .before .score-of in
+    let score-of2 = c .before .score-of2 in
+    let weight-of = c .before .before .before .before .weight-of in
+    let weight-of2 = c .before .before .weight-of2 in
+    let s = whole-scene _ _ _ (pre .0) (pre .3) (pre .4) in
+    let g = first-stretch _ _ s _ (pre .2) _ (stretch-of .ensures) in
+    let f = (known _ _ (pre .0) .slot) in (
+      goes-from _ _ s (stretch-of .result .last + 1) (omega arith) (omega (arith, stretch-of .ensures .near)) g _ (omega (arith, f)) _
+          (gather2 .ensures) (omega (arith, if2 .left, score-of .ensures, score-of2 .ensures, weight-of .ensures, weight-of2 .ensures)) _ f .0,
+      free-few _
+          _ s,
+      counts-edge _ _ s _ (pre .2),
+    )
 
 returns-3 : tie.Need-returns-3
-returns-3 c = leaps-all _ _ (whole-scene _ _ _ (c .before .before .before .before .before .before .before .before .before .before .before .before .pre .0) (c .before .before .before .before .before .before .before .before .before .before .before .before .pre .3) (c .before .before .before .before .before .before .before .before .before .before .before .before .pre .4)) (c .before .before .before .before .before .before .before .before .before .stretch-of .result .last + 1) (omega arith) (omega (arith, c .before .before .before .before .before .before .before .before .before .stretch-of .ensures .near)) (first-stretch _ _ (whole-scene _ _ _ (c .before .before .before .before .before .before .before .before .before .before .before .before .pre .0) (c .before .before .before .before .before .before .before .before .before .before .before .before .pre .3) (c .before .before .before .before .before .before .before .before .before .before .before .before .pre .4)) _ (c .before .before .before .before .before .before .before .before .before .before .before .before .pre .2) _ (c .before .before .before .before .before .before .before .before .before .stretch-of .ensures)) _ (omega (arith, (known _ _ (c .before .before .before .before .before .before .before .before .before .before .before .before .pre .0) .slot))) _ (c .before .before .before .before .before .before .before .gather2 .ensures) (omega (arith, c .before .if2 .left, c .before .before .before .before .score-of .ensures, c .before .before .score-of2 .ensures, c .before .before .before .before .before .weight-of .ensures, c .before .before .before .weight-of2 .ensures)) (c .before .before .before .before .before .before .before .before .before .before .before .before .args .counts .now) (c .before .before .before .before .before .before .before .before .before .stretch-of .result) (c .before .before .before .before .before .before .before .before .before .before .before .before .args .round .slot .0) (c .later-leap .result) (c .before .before .before .before .before .before .before .before .before .before .before .before .pre .2) (c .before .before .before .before .before .before .before .before .before .stretch-of .ensures) refl (known _ _ (c .before .before .before .before .before .before .before .before .before .before .before .before .pre .0) .slot) (c .later-leap .ensures)
+returns-3 c =
+    let pre = c .before .before .before .before .before .before .before .before .before .before .before .before .pre in
+    let stretch-of = c .before .before .before .before .before .before .before .before .before .stretch-of in
+    let gather2 = c .before .before .before .before .before .before .before .gather2 in
+    let if2 = c .before .if2 in
+    let score-of = c .before .before .before .before .score-of in
+    let score-of2 = c .before .before .score-of2 in
+    let weight-of = c .before .before .before .before .before .weight-of in
+    let weight-of2 = c .before .before .before .weight-of2 in
+    let args = c .before .before .before .before .before .before .before .before .before .before .before .before .args in
+    let later-leap = c .later-leap in
+    let s = whole-scene _ _ _ (pre .0) (pre .3) (pre .4) in
+    let g = first-stretch _ _ s _ (pre .2) _ (stretch-of .ensures) in
+    let f = (known _ _ (pre .0) .slot) in
+    leaps-all _ _ s (stretch-of .result .last + 1) (omega arith) (omega (arith, stretch-of .ensures .near)) g _ (omega (arith, f)) _ (gather2
+    .ensures) (omega (arith, if2 .left, score-of .ensures, score-of2 .ensures, weight-of .ensures, weight-of2 .ensures)) (args .counts .now)
+    (stretch-of .result) (args .round .slot .0) (later-leap .result) (pre .2) (stretch-of .ensures) refl f (later-leap .ensures)
 
 pub choose-all-spec : {M : Type 1} → statement M
 choose-all-spec =

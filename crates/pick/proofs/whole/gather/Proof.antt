@@ -25,7 +25,12 @@ weight-at-requires : tie.Need-weight-at-requires Inv-loop μ-loop
 weight-at-requires c κs = (c .before .before .before .before .pre, search needs)
 
 key-of-requires : tie.Need-key-of-requires Inv-loop μ-loop
-key-of-requires c κs = let k = known _ _ (c .before .before .before .before .before .pre) in (c .weight-at .ensures .most, c .before .due-at .ensures .small, omega (arith, k .used, k .small))
+key-of-requires c κs =
+    let pre = c .before .before .before .before .before .pre in
+    let weight-at = c .weight-at in
+    let due-at = c .before .due-at in
+    let k = known _ _ (pre) in
+    (weight-at .ensures .most, due-at .ensures .small, omega (arith, k .used, k .small))
 
 add-i : tie.Need-add-i Inv-loop μ-loop
 add-i c = search needs
@@ -46,7 +51,18 @@ loop-less : tie.Need-loop-less Inv-loop μ-loop
 loop-less c = search needs
 
 loop-again : tie.Need-loop-again Inv-loop μ-loop
-loop-again c = (search needs, gather-early _ _ _ _ _ _ _ _ _ (c .before .before .before .before .before .before .before .loop .inv .1) (c .before .before .before .before .weight-at .ensures) (c .before .before .before .before .before .due-at .ensures) (key-read _ _ _ _ _ (c .before .before .before .before .weight-at .ensures) (c .before .before .before .before .before .due-at .ensures) (c .before .before .before .key-of .ensures)) _ _ (c .before .before .if1 .taken) (c .before .larger .ensures) (c .larger2 .ensures))
+loop-again c =
+    let loop = c .before .before .before .before .before .before .before .loop in
+    let weight-at = c .before .before .before .before .weight-at in
+    let due-at = c .before .before .before .before .before .due-at in
+    let key-of = c .before .before .before .key-of in
+    let if1 = c .before .before .if1 in
+    let larger = c .before .larger in
+    let larger2 = c .larger2 in (
+      search needs,
+      gather-early _ _ _ _ _ _ _ _ _ (loop .inv .1) (weight-at .ensures) (due-at .ensures)
+          (key-read _ _ _ _ _ (weight-at .ensures) (due-at .ensures) (key-of .ensures)) _ _ (if1 .taken) (larger .ensures) (larger2 .ensures),
+    )
 
 larger-requires-3 : tie.Need-larger-requires-3 Inv-loop μ-loop
 larger-requires-3 c κs = search needs
@@ -55,7 +71,17 @@ loop-less-2 : tie.Need-loop-less-2 Inv-loop μ-loop
 loop-less-2 c = search needs
 
 loop-again-2 : tie.Need-loop-again-2 Inv-loop μ-loop
-loop-again-2 c = (search needs, gather-late _ _ _ _ _ _ _ _ _ (c .before .before .before .before .before .before .loop .inv .1) (c .before .before .before .weight-at .ensures) (c .before .before .before .before .due-at .ensures) (key-read _ _ _ _ _ (c .before .before .before .weight-at .ensures) (c .before .before .before .before .due-at .ensures) (c .before .before .key-of .ensures)) _ (c .before .if1 .left) (c .larger3 .ensures))
+loop-again-2 c =
+    let loop = c .before .before .before .before .before .before .loop in
+    let weight-at = c .before .before .before .weight-at in
+    let due-at = c .before .before .before .before .due-at in
+    let key-of = c .before .before .key-of in
+    let if1 = c .before .if1 in
+    let larger3 = c .larger3 in (
+      search needs,
+      gather-late _ _ _ _ _ _ _ _ _ (loop .inv .1) (weight-at .ensures) (due-at .ensures)
+          (key-read _ _ _ _ _ (weight-at .ensures) (due-at .ensures) (key-of .ensures)) _ (if1 .left) (larger3 .ensures),
+    )
 
 returns : tie.Need-returns Inv-loop μ-loop
 returns c = gather-end _ _ _ _ _ _ (omega (arith, known _ _ (c .before .before .before .pre) .used)) (c .before .loop .inv .1)

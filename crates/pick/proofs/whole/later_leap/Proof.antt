@@ -23,7 +23,16 @@ stretch-of-requires : tie.Need-stretch-of-requires
 stretch-of-requires c κs = search needs
 
 returns-2 : tie.Need-returns-2
-returns-2 c = (refl, omega (arith, c .before .if1 .left, c .before .before .due-of .ensures), subst (λ (v : ℕ). Stretches (c .before .before .before .args .counts .now) (c .before .before .before .args .free) (v - c .before .before .before .args .slot) (c .stretch-of .result)) (c .before .before .due-of .ensures) (c .stretch-of .ensures))
+returns-2 c =
+    let if1 = c .before .if1 in
+    let due-of = c .before .before .due-of in
+    let args = c .before .before .before .args in
+    let stretch-of = c .stretch-of in (
+      refl,
+      omega (arith, if1 .left, due-of .ensures),
+      subst
+          (λ (v : ℕ). Stretches (args .counts .now) (args .free) (v - args .slot) (stretch-of .result)) (due-of .ensures) (stretch-of .ensures),
+    )
 
 pub later-leap-spec : {M : Type 1} → statement M
 later-leap-spec =

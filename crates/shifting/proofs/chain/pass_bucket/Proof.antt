@@ -1,53 +1,42 @@
-use Rattle.shifting.proofs.LinkLaws.{passed-on, passed-end}
+-- `shifting::chain::pass_bucket` meets its contract. Assumes nothing.
 use borrow.Author.Needs.{needs}
+use Rattle.shifting.proofs.LinkLaws.{passed-on, passed-end}
 use Rattle.shifting.proofs.chain.pass_bucket.Statement.{statement}
 use Rattle.shifting.proofs.chain.pass_bucket.Tie as tie
 
--- src/chain.rt:105:36
 mul-wide : tie.Need-mul-wide
 mul-wide c = search needs
 
--- src/chain.rt:105:36
 element-copy-out-wide : tie.Need-element-copy-out-wide
 element-copy-out-wide c = search needs
 
--- src/chain.rt:105:31
 wide-requires : tie.Need-wide-requires
 wide-requires c κs = search needs
 
--- src/chain.rt:105:17
 sub-under : tie.Need-sub-under
 sub-under c = search needs
 
--- src/chain.rt:108:34
 mul-larger : tie.Need-mul-larger
 mul-larger c = search needs
 
--- src/chain.rt:108:34
 element-copy-out-larger : tie.Need-element-copy-out-larger
 element-copy-out-larger c = search needs
 
--- src/chain.rt:108:15
 larger-requires : tie.Need-larger-requires
 larger-requires c κs = search needs
 
--- src/chain.rt:113:9
 returns : tie.Need-returns
 returns c = passed-on (c .before .before .before .before .before .before .before .args .slot .0) (c .before .before .before .before .before .before .before .args .counts .now) (c .before .before .before .before .before .before .before .args .kept .now) (c .before .before .before .before .before .before .before .args .marks .now) (c .before .before .before .before .before .before .before .args .links) (c .before .before .before .before .before .before .before .args .bucket) (c .before .before .before .before .before .before .before .args .table .now) (c .before .before .before .before .wide .result) (c .before .larger .result) (c .before .before .before .before .wide .ensures .0) (c .before .larger .ensures) (c .if1 .taken)
 
--- src/chain.rt:115:39
 sub-pass-end : tie.Need-sub-pass-end
 sub-pass-end c = search needs
 
--- src/chain.rt:115:5
 pass-end-requires : tie.Need-pass-end-requires
 pass-end-requires c κs = search needs
 
--- src/chain.rt:101:1
 same-length : tie.Need-same-length
 same-length c = search needs
 
--- src/chain.rt:101:1
 returns-2 : tie.Need-returns-2
 returns-2 c = passed-end (c .before .before .before .before .before .before .before .before .before .before .before .args .slot .0) (c .before .before .before .before .before .before .before .before .before .before .before .args .counts .now) (c .before .before .before .before .before .before .before .before .before .before .before .args .kept .now) (c .before .before .before .before .before .before .before .before .before .before .before .args .marks .now) (c .before .before .before .before .before .before .before .before .before .before .before .args .links) (c .before .before .before .before .before .before .before .before .before .before .before .args .bucket) (c .before .before .before .before .before .before .before .before .before .before .before .args .table .now) (c .before .before .before .before .before .before .before .before .wide .result) (c .before .before .before .before .before .larger .result) (c .before .before .before .before .before .before .before .before .wide .ensures .0) (c .before .before .before .before .before .larger .ensures) _ _ (c .before .before .before .before .if1 .left) (c .before .before .pass-end .ensures .0) (c .before .before .pass-end .ensures .1)
 

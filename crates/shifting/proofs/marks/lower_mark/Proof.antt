@@ -1,60 +1,48 @@
+-- `shifting::marks::lower_mark` meets its contract. Assumes nothing.
 use native.Mathlib.Omega.{arith}
-use Rattle.rules.specs.Table.{round-in}
-use Rattle.tally.proofs.RowLaws.{known}
-use Rattle.shifting.proofs.MarkLaws.{lowered-out, lowered-late, lowered-by}
 use borrow.Author.Needs.{needs}
+use Rattle.rules.specs.Table.{round-in}
+use Rattle.shifting.proofs.MarkLaws.{lowered-out, lowered-late, lowered-by}
 use Rattle.shifting.proofs.marks.lower_mark.Statement.{statement}
 use Rattle.shifting.proofs.marks.lower_mark.Tie as tie
+use Rattle.tally.proofs.RowLaws.{known}
 
--- src/marks.rt:38:8
 shared-slice-read-if1 : tie.Need-shared-slice-read-if1
 shared-slice-read-if1 c = omega (arith, c .before .before .before .pre .1 .long, known (c .before .before .before .args .table .now) (c .before .before .before .args .round) (c .before .before .before .pre .0) .used)
 
--- src/marks.rt:39:9
 returns : tie.Need-returns
 returns c = lowered-out (round-in (c .before .before .before .before .args .table .now)) (c .before .before .before .before .args .flags .now) (c .before .before .before .before .args .last) (c .before .before .before .before .args .row) _ (c .if1 .taken)
 
--- src/marks.rt:41:18
 due-at-requires : tie.Need-due-at-requires
 due-at-requires c κs = search needs
 
--- src/marks.rt:41:18
 sub-ahead : tie.Need-sub-ahead
 sub-ahead c = omega (arith, c .before .due-at .ensures .from, known (c .before .before .before .before .before .before .args .table .now) (c .before .before .before .before .before .before .args .round) (c .before .before .before .before .before .before .pre .0) .slot)
 
--- src/marks.rt:41:17
 cast-ahead : tie.Need-cast-ahead
 cast-ahead c = search needs
 
--- src/marks.rt:43:9
 returns-2 : tie.Need-returns-2
 returns-2 c = lowered-late (round-in (c .before .before .before .before .before .before .before .args .table .now)) (c .before .before .before .before .before .before .before .args .flags .now) (c .before .before .before .before .before .before .before .args .last) (c .before .before .before .before .before .before .before .args .row) _ _ _ (c .before .before .before .if1 .left) (c .before .before .due-at .ensures .is) (known (c .before .before .before .before .before .before .before .args .table .now) (c .before .before .before .before .before .before .before .args .round) (c .before .before .before .before .before .before .before .pre .0) .slot) (c .if2 .taken)
 
--- src/marks.rt:45:28
 mul-smaller : tie.Need-mul-smaller
 mul-smaller c = search needs
 
--- src/marks.rt:45:28
 element-copy-out-smaller : tie.Need-element-copy-out-smaller
 element-copy-out-smaller c = search needs
 
--- src/marks.rt:45:42
 weight-at-requires : tie.Need-weight-at-requires
 weight-at-requires c κs = search needs
 
--- src/marks.rt:45:20
 smaller-requires : tie.Need-smaller-requires
 smaller-requires c κs = search needs
 
--- src/marks.rt:45:5
 mul-marks : tie.Need-mul-marks
 mul-marks c = search needs
 
--- src/marks.rt:45:5
 element-write-marks : tie.Need-element-write-marks
 element-write-marks c = search needs
 
--- src/marks.rt:34:1
 returns-3 : tie.Need-returns-3
 returns-3 c = lowered-by (round-in (c .before .before .before .before .before .before .before .before .before .before .args .table .now)) (c .before .before .before .before .before .before .before .before .before .before .args .flags .now) (c .before .before .before .before .before .before .before .before .before .before .args .last) (c .before .before .before .before .before .before .before .before .before .before .args .row) (c .before .before .before .before .before .before .before .before .before .before .args .marks .now) (c .before .before .before .before .before .due-at .result) (c .before .before .before .before .before .before .before .before .before .before .args .round .slot .0) (c .before .weight-at .result) (c .smaller .result) (c .before .before .before .before .before .before .if1 .left) (c .before .before .before .before .before .due-at .ensures .is) (known (c .before .before .before .before .before .before .before .before .before .before .args .table .now) (c .before .before .before .before .before .before .before .before .before .before .args .round) (c .before .before .before .before .before .before .before .before .before .before .pre .0) .slot) (c .before .before .before .if2 .left) (c .before .weight-at .ensures .is) (c .smaller .ensures)
 

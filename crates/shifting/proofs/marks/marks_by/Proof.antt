@@ -1,24 +1,21 @@
-use Rattle.theory.specs.Sane.{sound}
-use Rattle.rules.specs.Table.{round-in}
-use Rattle.tally.proofs.RowLaws.{known}
-use Rattle.shifting.proofs.MarkLaws.{marks-made, own-end}
+-- `shifting::marks::marks_by` meets its contract. Assumes nothing.
 use borrow.Author.Needs.{needs}
+use Rattle.rules.specs.Table.{round-in}
+use Rattle.theory.specs.Sane.{sound}
+use Rattle.shifting.proofs.MarkLaws.{marks-made, own-end}
 use Rattle.shifting.proofs.marks.marks_by.Statement.{statement}
 use Rattle.shifting.proofs.marks.marks_by.Tie as tie
+use Rattle.tally.proofs.RowLaws.{known}
 
--- src/marks.rt:80:5
 start-marks-requires : tie.Need-start-marks-requires
 start-marks-requires c κs = search needs
 
--- src/marks.rt:81:5
 own-marks-requires : tie.Need-own-marks-requires
 own-marks-requires c κs = search needs
 
--- src/marks.rt:82:5
 spread-marks-requires : tie.Need-spread-marks-requires
 spread-marks-requires c κs = search needs
 
--- src/marks.rt:76:1
 returns : tie.Need-returns
 returns c =
     marks-made (round-in (c .before .before .before .before .before .before .before .before .args .table .now)) (sound (c .before .before .before .before .before .before .before .before .args .table .now) (c .before .before .before .before .before .before .before .before .pre .0 .sound) .sane .fine) (c .before .before .before .before .before .before .before .before .args .flags .now) (c .before .before .before .before .before .before .before .before .pre .1) (c .before .before .before .before .before .before .before .before .args .last) _ _

@@ -1,5 +1,6 @@
-use borrow.Author.Needs.{needs}
+-- `shifting::marks::spread_marks` meets its contract. Assumes nothing.
 use Prim.Native.Nat.{_-_}
+use borrow.Author.Needs.{needs}
 use Rattle.shifting.proofs.MarkLaws.{Spreading, spread-start, spread-step, spread-end}
 use Rattle.shifting.proofs.marks.spread_marks.Statement.{statement}
 use Rattle.shifting.proofs.marks.spread_marks.Tie as tie
@@ -10,51 +11,39 @@ Inv-loop marks₀ last s₀ marks s = Spreading last marks₀ marks s
 abbrev μ-loop : tie.MeasureT-loop
 μ-loop marks₀ last s₀ marks s = last - s
 
--- src/marks.rt:67:5
 loop-holds : tie.Need-loop-holds Inv-loop μ-loop
 loop-holds c = spread-start _ _
 
--- src/marks.rt:68:20
 mul-mark : tie.Need-mul-mark Inv-loop μ-loop
 mul-mark c = search needs
 
--- src/marks.rt:68:20
 element-copy-out-mark : tie.Need-element-copy-out-mark Inv-loop μ-loop
 element-copy-out-mark c = search needs
 
--- src/marks.rt:69:9
 add-s : tie.Need-add-s Inv-loop μ-loop
 add-s c = search needs
 
--- src/marks.rt:70:34
 mul-smaller : tie.Need-mul-smaller Inv-loop μ-loop
 mul-smaller c = search needs
 
--- src/marks.rt:70:34
 element-copy-out-smaller : tie.Need-element-copy-out-smaller Inv-loop μ-loop
 element-copy-out-smaller c = search needs
 
--- src/marks.rt:70:20
 smaller-requires : tie.Need-smaller-requires Inv-loop μ-loop
 smaller-requires c κs = search needs
 
--- src/marks.rt:70:9
 mul-marks : tie.Need-mul-marks Inv-loop μ-loop
 mul-marks c = search needs
 
--- src/marks.rt:70:9
 element-write-marks : tie.Need-element-write-marks Inv-loop μ-loop
 element-write-marks c = search needs
 
--- src/marks.rt:67:5
 loop-less : tie.Need-loop-less Inv-loop μ-loop
 loop-less c = search needs
 
--- src/marks.rt:67:5
 loop-again : tie.Need-loop-again Inv-loop μ-loop
 loop-again c = spread-step _ _ (c .before .before .before .before .loop .marks) (c .before .before .before .before .loop .s) _ (c .before .before .before .before .loop .inv) (search needs) (search needs) (search needs) (c .smaller .ensures)
 
--- src/marks.rt:62:1
 returns : tie.Need-returns Inv-loop μ-loop
 returns c = spread-end _ _ _ _ (c .before .loop .inv) (search needs)
 

@@ -31,73 +31,200 @@ weight-at-requires : tie.Need-weight-at-requires Inv-loop μ-loop
 weight-at-requires c κs = (c .before .before .before .before .before .before .before .pre .0, search needs)
 
 key-of-requires : tie.Need-key-of-requires Inv-loop μ-loop
-key-of-requires c κs = let k = known _ _ (c .before .before .before .before .before .before .before .before .pre .0) in (c .weight-at .ensures .most, c .before .before .due-at .ensures .small, omega (arith, k .used, k .small))
+key-of-requires c κs =
+    let pre = c .before .before .before .before .before .before .before .before .pre in
+    let weight-at = c .weight-at in
+    let due-at = c .before .before .due-at in
+    let k = known _ _ (pre .0) in
+    (weight-at .ensures .most, due-at .ensures .small, omega (arith, k .used, k .small))
 
 shared-slice-read-flag : tie.Need-shared-slice-read-flag Inv-loop μ-loop
-shared-slice-read-flag c = let k = known _ _ (c .before .before .before .before .before .before .before .before .before .before .pre .0) in omega (arith, k .used, c .before .before .before .before .before .before .before .before .before .before .pre .1 .long)
+shared-slice-read-flag c =
+    let pre = c .before .before .before .before .before .before .before .before .before .before .pre in
+    let k = known _ _ (pre .0) in
+    omega (arith, k .used, pre .1 .long)
 
 add-i : tie.Need-add-i Inv-loop μ-loop
 add-i c = search needs
 
 mul-larger : tie.Need-mul-larger Inv-loop μ-loop
-mul-larger c = let b = bucket-read _ _ _ _ _ _ (c .before .before .before .before .before .before .before .before .before .before .before .pre .0) (c .before .before .before .before .before .before .before .before .top-of .ensures) (c .before .before .before .before .before .due-at .ensures) (c .before .before .before .before .bucket-of .ensures) in let s : c .before .before .before .before .bucket-of .result ≤ 1024 = b .small in search needs
+mul-larger c =
+    let pre = c .before .before .before .before .before .before .before .before .before .before .before .pre in
+    let top-of = c .before .before .before .before .before .before .before .before .top-of in
+    let due-at = c .before .before .before .before .before .due-at in
+    let bucket-of = c .before .before .before .before .bucket-of in
+    let b = bucket-read _ _ _ _ _ _ (pre .0) (top-of .ensures) (due-at .ensures) (bucket-of .ensures) in
+    let s : bucket-of .result ≤ 1024 = b .small in
+    search needs
 
 element-copy-out-larger : tie.Need-element-copy-out-larger Inv-loop μ-loop
-element-copy-out-larger c = let b = bucket-read _ _ _ _ _ _ (c .before .before .before .before .before .before .before .before .before .before .before .pre .0) (c .before .before .before .before .before .before .before .before .top-of .ensures) (c .before .before .before .before .before .due-at .ensures) (c .before .before .before .before .bucket-of .ensures) in omega (arith, b .small)
+element-copy-out-larger c =
+    let pre = c .before .before .before .before .before .before .before .before .before .before .before .pre in
+    let top-of = c .before .before .before .before .before .before .before .before .top-of in
+    let due-at = c .before .before .before .before .before .due-at in
+    let bucket-of = c .before .before .before .before .bucket-of in
+    let b = bucket-read _ _ _ _ _ _ (pre .0) (top-of .ensures) (due-at .ensures) (bucket-of .ensures) in
+    omega (arith, b .small)
 
 larger-requires : tie.Need-larger-requires Inv-loop μ-loop
 larger-requires c κs = search needs
 
 mul-kept : tie.Need-mul-kept Inv-loop μ-loop
-mul-kept c = let b = bucket-read _ _ _ _ _ _ (c .before .before .before .before .before .before .before .before .before .before .before .before .before .pre .0) (c .before .before .before .before .before .before .before .before .before .before .top-of .ensures) (c .before .before .before .before .before .before .before .due-at .ensures) (c .before .before .before .before .before .before .bucket-of .ensures) in let s : c .before .before .before .before .before .before .bucket-of .result ≤ 1024 = b .small in search needs
+mul-kept c =
+    let pre = c .before .before .before .before .before .before .before .before .before .before .before .before .before .pre in
+    let top-of = c .before .before .before .before .before .before .before .before .before .before .top-of in
+    let due-at = c .before .before .before .before .before .before .before .due-at in
+    let bucket-of = c .before .before .before .before .before .before .bucket-of in
+    let b = bucket-read _ _ _ _ _ _ (pre .0) (top-of .ensures) (due-at .ensures) (bucket-of .ensures) in
+    let s : bucket-of .result ≤ 1024 = b .small in
+    search needs
 
 element-write-kept : tie.Need-element-write-kept Inv-loop μ-loop
-element-write-kept c = let b = bucket-read _ _ _ _ _ _ (c .before .before .before .before .before .before .before .before .before .before .before .before .before .pre .0) (c .before .before .before .before .before .before .before .before .before .before .top-of .ensures) (c .before .before .before .before .before .before .before .due-at .ensures) (c .before .before .before .before .before .before .bucket-of .ensures) in omega (arith, b .small)
+element-write-kept c =
+    let pre = c .before .before .before .before .before .before .before .before .before .before .before .before .before .pre in
+    let top-of = c .before .before .before .before .before .before .before .before .before .before .top-of in
+    let due-at = c .before .before .before .before .before .before .before .due-at in
+    let bucket-of = c .before .before .before .before .before .before .bucket-of in
+    let b = bucket-read _ _ _ _ _ _ (pre .0) (top-of .ensures) (due-at .ensures) (bucket-of .ensures) in
+    omega (arith, b .small)
 
 loop-less : tie.Need-loop-less Inv-loop μ-loop
 loop-less c = search needs
 
 loop-again : tie.Need-loop-again Inv-loop μ-loop
-loop-again c = (search needs, tally-keeps _ _ _ _ _ _ _ _ (c .before .before .before .before .before .before .before .before .before .before .before .before .before .pre .1) (omega (arith, known _ _ (c .before .before .before .before .before .before .before .before .before .before .before .before .before .pre .0) .used)) (bucket-read _ _ _ _ _ _ (c .before .before .before .before .before .before .before .before .before .before .before .before .before .pre .0) (c .before .before .before .before .before .before .before .before .before .before .top-of .ensures) (c .before .before .before .before .before .before .before .due-at .ensures) (c .before .before .before .before .before .before .bucket-of .ensures)) (key-read _ _ _ _ _ (c .before .before .before .before .before .weight-at .ensures) (c .before .before .before .before .before .before .before .due-at .ensures) (c .before .before .before .before .key-of .ensures)) (c .before .before .before .before .before .before .before .before .before .loop .inv .1) (c .before .before .if1 .taken) _ (c .larger .ensures))
+loop-again c =
+    let pre = c .before .before .before .before .before .before .before .before .before .before .before .before .before .pre in
+    let top-of = c .before .before .before .before .before .before .before .before .before .before .top-of in
+    let due-at = c .before .before .before .before .before .before .before .due-at in
+    let bucket-of = c .before .before .before .before .before .before .bucket-of in
+    let weight-at = c .before .before .before .before .before .weight-at in
+    let key-of = c .before .before .before .before .key-of in
+    let loop = c .before .before .before .before .before .before .before .before .before .loop in
+    let if1 = c .before .before .if1 in
+    let larger = c .larger in (
+      search needs,
+      tally-keeps _ _ _ _ _ _ _ _ (pre .1) (omega (arith, known _ _ (pre .0) .used))
+          (bucket-read _ _ _ _ _ _ (pre .0) (top-of .ensures) (due-at .ensures) (bucket-of .ensures))
+          (key-read _ _ _ _ _ (weight-at .ensures) (due-at .ensures) (key-of .ensures)) (loop .inv .1) (if1 .taken) _ (larger .ensures),
+    )
 
 mul-counts : tie.Need-mul-counts Inv-loop μ-loop
-mul-counts c = let b = bucket-read _ _ _ _ _ _ (c .before .before .before .before .before .before .before .before .before .before .before .pre .0) (c .before .before .before .before .before .before .before .before .top-of .ensures) (c .before .before .before .before .before .due-at .ensures) (c .before .before .before .before .bucket-of .ensures) in let s : c .before .before .before .before .bucket-of .result ≤ 1024 = b .small in search needs
+mul-counts c =
+    let pre = c .before .before .before .before .before .before .before .before .before .before .before .pre in
+    let top-of = c .before .before .before .before .before .before .before .before .top-of in
+    let due-at = c .before .before .before .before .before .due-at in
+    let bucket-of = c .before .before .before .before .bucket-of in
+    let b = bucket-read _ _ _ _ _ _ (pre .0) (top-of .ensures) (due-at .ensures) (bucket-of .ensures) in
+    let s : bucket-of .result ≤ 1024 = b .small in
+    search needs
 
 element-copy-out-counts : tie.Need-element-copy-out-counts Inv-loop μ-loop
-element-copy-out-counts c = let b = bucket-read _ _ _ _ _ _ (c .before .before .before .before .before .before .before .before .before .before .before .pre .0) (c .before .before .before .before .before .before .before .before .top-of .ensures) (c .before .before .before .before .before .due-at .ensures) (c .before .before .before .before .bucket-of .ensures) in omega (arith, b .small)
+element-copy-out-counts c =
+    let pre = c .before .before .before .before .before .before .before .before .before .before .before .pre in
+    let top-of = c .before .before .before .before .before .before .before .before .top-of in
+    let due-at = c .before .before .before .before .before .due-at in
+    let bucket-of = c .before .before .before .before .bucket-of in
+    let b = bucket-read _ _ _ _ _ _ (pre .0) (top-of .ensures) (due-at .ensures) (bucket-of .ensures) in
+    omega (arith, b .small)
 
 sub-counts : tie.Need-sub-counts Inv-loop μ-loop
-sub-counts c = let s = tally-some _ _ _ _ _ _ _ _ (c .before .before .before .before .before .before .before .before .before .before .before .before .pre .1) (omega (arith, known _ _ (c .before .before .before .before .before .before .before .before .before .before .before .before .pre .0) .used)) (bucket-read _ _ _ _ _ _ (c .before .before .before .before .before .before .before .before .before .before .before .before .pre .0) (c .before .before .before .before .before .before .before .before .before .top-of .ensures) (c .before .before .before .before .before .before .due-at .ensures) (c .before .before .before .before .before .bucket-of .ensures)) (key-read _ _ _ _ _ (c .before .before .before .before .weight-at .ensures) (c .before .before .before .before .before .before .due-at .ensures) (c .before .before .before .key-of .ensures)) (c .before .before .before .before .before .before .before .before .loop .inv .1) in omega (arith, s)
+sub-counts c =
+    let pre = c .before .before .before .before .before .before .before .before .before .before .before .before .pre in
+    let top-of = c .before .before .before .before .before .before .before .before .before .top-of in
+    let due-at = c .before .before .before .before .before .before .due-at in
+    let bucket-of = c .before .before .before .before .before .bucket-of in
+    let weight-at = c .before .before .before .before .weight-at in
+    let key-of = c .before .before .before .key-of in
+    let loop = c .before .before .before .before .before .before .before .before .loop in
+    let s = tally-some _ _ _ _ _ _ _ _ (pre .1) (omega (arith, known _ _ (pre .0) .used)) (bucket-read _ _ _ _ _ _ (pre .0) (top-of .ensures)
+    (due-at .ensures) (bucket-of .ensures)) (key-read _ _ _ _ _ (weight-at .ensures) (due-at .ensures) (key-of .ensures)) (loop .inv .1) in
+    omega (arith, s)
 
 mul-counts-2 : tie.Need-mul-counts-2 Inv-loop μ-loop
-mul-counts-2 c = let b = bucket-read _ _ _ _ _ _ (c .before .before .before .before .before .before .before .before .before .before .before .before .pre .0) (c .before .before .before .before .before .before .before .before .before .top-of .ensures) (c .before .before .before .before .before .before .due-at .ensures) (c .before .before .before .before .before .bucket-of .ensures) in let s : c .before .before .before .before .before .bucket-of .result ≤ 1024 = b .small in search needs
+mul-counts-2 c =
+    let pre = c .before .before .before .before .before .before .before .before .before .before .before .before .pre in
+    let top-of = c .before .before .before .before .before .before .before .before .before .top-of in
+    let due-at = c .before .before .before .before .before .before .due-at in
+    let bucket-of = c .before .before .before .before .before .bucket-of in
+    let b = bucket-read _ _ _ _ _ _ (pre .0) (top-of .ensures) (due-at .ensures) (bucket-of .ensures) in
+    let s : bucket-of .result ≤ 1024 = b .small in
+    search needs
 
 element-write-counts : tie.Need-element-write-counts Inv-loop μ-loop
-element-write-counts c = let b = bucket-read _ _ _ _ _ _ (c .before .before .before .before .before .before .before .before .before .before .before .before .pre .0) (c .before .before .before .before .before .before .before .before .before .top-of .ensures) (c .before .before .before .before .before .before .due-at .ensures) (c .before .before .before .before .before .bucket-of .ensures) in omega (arith, b .small)
+element-write-counts c =
+    let pre = c .before .before .before .before .before .before .before .before .before .before .before .before .pre in
+    let top-of = c .before .before .before .before .before .before .before .before .before .top-of in
+    let due-at = c .before .before .before .before .before .before .due-at in
+    let bucket-of = c .before .before .before .before .before .bucket-of in
+    let b = bucket-read _ _ _ _ _ _ (pre .0) (top-of .ensures) (due-at .ensures) (bucket-of .ensures) in
+    omega (arith, b .small)
 
 mul-larger-2 : tie.Need-mul-larger-2 Inv-loop μ-loop
-mul-larger-2 c = let b = bucket-read _ _ _ _ _ _ (c .before .before .before .before .before .before .before .before .before .before .before .before .pre .0) (c .before .before .before .before .before .before .before .before .before .top-of .ensures) (c .before .before .before .before .before .before .due-at .ensures) (c .before .before .before .before .before .bucket-of .ensures) in let s : c .before .before .before .before .before .bucket-of .result ≤ 1024 = b .small in search needs
+mul-larger-2 c =
+    let pre = c .before .before .before .before .before .before .before .before .before .before .before .before .pre in
+    let top-of = c .before .before .before .before .before .before .before .before .before .top-of in
+    let due-at = c .before .before .before .before .before .before .due-at in
+    let bucket-of = c .before .before .before .before .before .bucket-of in
+    let b = bucket-read _ _ _ _ _ _ (pre .0) (top-of .ensures) (due-at .ensures) (bucket-of .ensures) in
+    let s : bucket-of .result ≤ 1024 = b .small in
+    search needs
 
 element-copy-out-larger-2 : tie.Need-element-copy-out-larger-2 Inv-loop μ-loop
-element-copy-out-larger-2 c = let b = bucket-read _ _ _ _ _ _ (c .before .before .before .before .before .before .before .before .before .before .before .before .pre .0) (c .before .before .before .before .before .before .before .before .before .top-of .ensures) (c .before .before .before .before .before .before .due-at .ensures) (c .before .before .before .before .before .bucket-of .ensures) in omega (arith, b .small)
+element-copy-out-larger-2 c =
+    let pre = c .before .before .before .before .before .before .before .before .before .before .before .before .pre in
+    let top-of = c .before .before .before .before .before .before .before .before .before .top-of in
+    let due-at = c .before .before .before .before .before .before .due-at in
+    let bucket-of = c .before .before .before .before .before .bucket-of in
+    let b = bucket-read _ _ _ _ _ _ (pre .0) (top-of .ensures) (due-at .ensures) (bucket-of .ensures) in
+    omega (arith, b .small)
 
 larger-requires-2 : tie.Need-larger-requires-2 Inv-loop μ-loop
 larger-requires-2 c κs = search needs
 
 mul-left : tie.Need-mul-left Inv-loop μ-loop
-mul-left c = let b = bucket-read _ _ _ _ _ _ (c .before .before .before .before .before .before .before .before .before .before .before .before .before .before .pre .0) (c .before .before .before .before .before .before .before .before .before .before .before .top-of .ensures) (c .before .before .before .before .before .before .before .before .due-at .ensures) (c .before .before .before .before .before .before .before .bucket-of .ensures) in let s : c .before .before .before .before .before .before .before .bucket-of .result ≤ 1024 = b .small in search needs
+mul-left c =
+    let pre = c .before .before .before .before .before .before .before .before .before .before .before .before .before .before .pre in
+    let top-of = c .before .before .before .before .before .before .before .before .before .before .before .top-of in
+    let due-at = c .before .before .before .before .before .before .before .before .due-at in
+    let bucket-of = c .before .before .before .before .before .before .before .bucket-of in
+    let b = bucket-read _ _ _ _ _ _ (pre .0) (top-of .ensures) (due-at .ensures) (bucket-of .ensures) in
+    let s : bucket-of .result ≤ 1024 = b .small in
+    search needs
 
 element-write-left : tie.Need-element-write-left Inv-loop μ-loop
-element-write-left c = let b = bucket-read _ _ _ _ _ _ (c .before .before .before .before .before .before .before .before .before .before .before .before .before .before .pre .0) (c .before .before .before .before .before .before .before .before .before .before .before .top-of .ensures) (c .before .before .before .before .before .before .before .before .due-at .ensures) (c .before .before .before .before .before .before .before .bucket-of .ensures) in omega (arith, b .small)
+element-write-left c =
+    let pre = c .before .before .before .before .before .before .before .before .before .before .before .before .before .before .pre in
+    let top-of = c .before .before .before .before .before .before .before .before .before .before .before .top-of in
+    let due-at = c .before .before .before .before .before .before .before .before .due-at in
+    let bucket-of = c .before .before .before .before .before .before .before .bucket-of in
+    let b = bucket-read _ _ _ _ _ _ (pre .0) (top-of .ensures) (due-at .ensures) (bucket-of .ensures) in
+    omega (arith, b .small)
 
 loop-less-2 : tie.Need-loop-less-2 Inv-loop μ-loop
 loop-less-2 c = search needs
 
 loop-again-2 : tie.Need-loop-again-2 Inv-loop μ-loop
-loop-again-2 c = (search needs, tally-leaves _ _ _ _ _ _ _ _ (c .before .before .before .before .before .before .before .before .before .before .before .before .before .before .pre .1) (omega (arith, known _ _ (c .before .before .before .before .before .before .before .before .before .before .before .before .before .before .pre .0) .used)) (bucket-read _ _ _ _ _ _ (c .before .before .before .before .before .before .before .before .before .before .before .before .before .before .pre .0) (c .before .before .before .before .before .before .before .before .before .before .before .top-of .ensures) (c .before .before .before .before .before .before .before .before .due-at .ensures) (c .before .before .before .before .before .before .before .bucket-of .ensures)) (key-read _ _ _ _ _ (c .before .before .before .before .before .before .weight-at .ensures) (c .before .before .before .before .before .before .before .before .due-at .ensures) (c .before .before .before .before .before .key-of .ensures)) (c .before .before .before .before .before .before .before .before .before .before .loop .inv .1) (c .before .before .before .if1 .left) _ (c .larger2 .ensures))
+loop-again-2 c =
+    let pre = c .before .before .before .before .before .before .before .before .before .before .before .before .before .before .pre in
+    let top-of = c .before .before .before .before .before .before .before .before .before .before .before .top-of in
+    let due-at = c .before .before .before .before .before .before .before .before .due-at in
+    let bucket-of = c .before .before .before .before .before .before .before .bucket-of in
+    let weight-at = c .before .before .before .before .before .before .weight-at in
+    let key-of = c .before .before .before .before .before .key-of in
+    let loop = c .before .before .before .before .before .before .before .before .before .before .loop in
+    let if1 = c .before .before .before .if1 in
+    let larger2 = c .larger2 in (
+      search needs,
+      tally-leaves _ _ _ _ _ _ _ _ (pre .1) (omega (arith, known _ _ (pre .0) .used))
+          (bucket-read _ _ _ _ _ _ (pre .0) (top-of .ensures) (due-at .ensures) (bucket-of .ensures))
+          (key-read _ _ _ _ _ (weight-at .ensures) (due-at .ensures) (key-of .ensures)) (loop .inv .1) (if1 .left) _ (larger2 .ensures),
+    )
 
 returns : tie.Need-returns Inv-loop μ-loop
-returns c = tally-end _ _ _ _ _ _ (c .before .before .before .before .before .pre .1) (omega (arith, known _ _ (c .before .before .before .before .before .pre .0) .used)) (c .before .loop .inv .1)
+returns c =
+    let pre = c .before .before .before .before .before .pre in
+    let loop = c .before .loop in
+    tally-end _ _ _ _ _ _ (pre .1) (omega (arith, known _ _ (pre .0) .used)) (loop .inv .1)
 
 pub tally-spec : {M : Type 1} → statement M
 tally-spec =

@@ -27,19 +27,53 @@ bucket-of-requires : tie.Need-bucket-of-requires Inv-loop μ-loop
 bucket-of-requires c κs = let k = known _ _ (c .before .before .before .before .before .pre .0) in omega (arith, c .due-at .ensures .from, k .slot)
 
 mul-counts : tie.Need-mul-counts Inv-loop μ-loop
-mul-counts c = let b = (bucket-read _ _ _ _ _ _ (c .before .before .before .before .before .before .pre .0) (c .before .before .before .before .top-of .ensures) (c .before .due-at .ensures) (c .bucket-of .ensures)) in let s : c .bucket-of .result ≤ 1024 = b .small in search needs
+mul-counts c =
+    let pre = c .before .before .before .before .before .before .pre in
+    let top-of = c .before .before .before .before .top-of in
+    let due-at = c .before .due-at in
+    let bucket-of = c .bucket-of in
+    let b = bucket-read _ _ _ _ _ _ (pre .0) (top-of .ensures) (due-at .ensures) (bucket-of .ensures) in
+    let s : bucket-of .result ≤ 1024 = b .small in
+    search needs
 
 element-copy-out-counts : tie.Need-element-copy-out-counts Inv-loop μ-loop
-element-copy-out-counts c = let b = (bucket-read _ _ _ _ _ _ (c .before .before .before .before .before .before .pre .0) (c .before .before .before .before .top-of .ensures) (c .before .due-at .ensures) (c .bucket-of .ensures)) in omega (arith, b .small)
+element-copy-out-counts c =
+    let pre = c .before .before .before .before .before .before .pre in
+    let top-of = c .before .before .before .before .top-of in
+    let due-at = c .before .due-at in
+    let bucket-of = c .bucket-of in
+    let b = bucket-read _ _ _ _ _ _ (pre .0) (top-of .ensures) (due-at .ensures) (bucket-of .ensures) in
+    omega (arith, b .small)
 
 add-counts : tie.Need-add-counts Inv-loop μ-loop
-add-counts c = let b = (bucket-read _ _ _ _ _ _ (c .before .before .before .before .before .before .before .pre .0) (c .before .before .before .before .before .top-of .ensures) (c .before .before .due-at .ensures) (c .before .bucket-of .ensures)) in let m = count-bound _ _ (c .before .before .before .before .loop .counts) (c .before .bucket-of .result) (c .before .before .before .before .loop .inv .1) (b .by) in omega (arith, m, known _ _ (c .before .before .before .before .before .before .before .pre .0) .small)
+add-counts c =
+    let pre = c .before .before .before .before .before .before .before .pre in
+    let top-of = c .before .before .before .before .before .top-of in
+    let due-at = c .before .before .due-at in
+    let bucket-of = c .before .bucket-of in
+    let loop = c .before .before .before .before .loop in
+    let b = bucket-read _ _ _ _ _ _ (pre .0) (top-of .ensures) (due-at .ensures) (bucket-of .ensures) in
+    let m = count-bound _ _ (loop .counts) (bucket-of .result) (loop .inv .1) (b .by) in
+    omega (arith, m, known _ _ (pre .0) .small)
 
 mul-counts-2 : tie.Need-mul-counts-2 Inv-loop μ-loop
-mul-counts-2 c = let b = (bucket-read _ _ _ _ _ _ (c .before .before .before .before .before .before .before .pre .0) (c .before .before .before .before .before .top-of .ensures) (c .before .before .due-at .ensures) (c .before .bucket-of .ensures)) in let s : c .before .bucket-of .result ≤ 1024 = b .small in search needs
+mul-counts-2 c =
+    let pre = c .before .before .before .before .before .before .before .pre in
+    let top-of = c .before .before .before .before .before .top-of in
+    let due-at = c .before .before .due-at in
+    let bucket-of = c .before .bucket-of in
+    let b = bucket-read _ _ _ _ _ _ (pre .0) (top-of .ensures) (due-at .ensures) (bucket-of .ensures) in
+    let s : bucket-of .result ≤ 1024 = b .small in
+    search needs
 
 element-write-counts : tie.Need-element-write-counts Inv-loop μ-loop
-element-write-counts c = let b = (bucket-read _ _ _ _ _ _ (c .before .before .before .before .before .before .before .pre .0) (c .before .before .before .before .before .top-of .ensures) (c .before .before .due-at .ensures) (c .before .bucket-of .ensures)) in omega (arith, b .small)
+element-write-counts c =
+    let pre = c .before .before .before .before .before .before .before .pre in
+    let top-of = c .before .before .before .before .before .top-of in
+    let due-at = c .before .before .due-at in
+    let bucket-of = c .before .bucket-of in
+    let b = bucket-read _ _ _ _ _ _ (pre .0) (top-of .ensures) (due-at .ensures) (bucket-of .ensures) in
+    omega (arith, b .small)
 
 add-i : tie.Need-add-i Inv-loop μ-loop
 add-i c = search needs
@@ -48,7 +82,16 @@ loop-less : tie.Need-loop-less Inv-loop μ-loop
 loop-less c = search needs
 
 loop-again : tie.Need-loop-again Inv-loop μ-loop
-loop-again c = (search needs, count-step _ _ _ _ (omega (arith, known _ _ (c .before .before .before .before .before .before .before .pre .0) .used)) (bucket-read _ _ _ _ _ _ (c .before .before .before .before .before .before .before .pre .0) (c .before .before .before .before .before .top-of .ensures) (c .before .before .due-at .ensures) (c .before .bucket-of .ensures)) (c .before .before .before .before .loop .inv .1))
+loop-again c =
+    let pre = c .before .before .before .before .before .before .before .pre in
+    let top-of = c .before .before .before .before .before .top-of in
+    let due-at = c .before .before .due-at in
+    let bucket-of = c .before .bucket-of in
+    let loop = c .before .before .before .before .loop in (
+      search needs,
+      count-step _ _ _ _ (omega (arith, known _ _ (pre .0) .used))
+          (bucket-read _ _ _ _ _ _ (pre .0) (top-of .ensures) (due-at .ensures) (bucket-of .ensures)) (loop .inv .1),
+    )
 
 returns : tie.Need-returns Inv-loop μ-loop
 returns c = count-end _ _ _ (omega (arith, known _ _ (c .before .before .before .before .pre .0) .used)) (c .before .loop .inv .1)

@@ -16,7 +16,12 @@ sweep-requires : tie.Need-sweep-requires
 sweep-requires c κs = let n = known _ _ (c .before .before .before .before .before .pre .0) in omega (arith, c .top-of .ensures, n .used, n .small)
 
 returns : tie.Need-returns
-returns c = (reaches _ _ _ _ _ (c .before .before .before .before .before .before .pre .0) (c .before .before .before .count-rows .ensures) (c .before .top-of .ensures) (c .sweep .ensures), c .before .before .before .count-rows .ensures)
+returns c =
+    let pre = c .before .before .before .before .before .before .pre in
+    let count-rows = c .before .before .before .count-rows in
+    let top-of = c .before .top-of in
+    let sweep = c .sweep in
+    (reaches _ _ _ _ _ (pre .0) (count-rows .ensures) (top-of .ensures) (sweep .ensures), count-rows .ensures)
 
 pub reach-of-spec : {M : Type 1} → statement M
 reach-of-spec = tie.close (tie.spec count-rows-requires top-of-requires sweep-requires returns)

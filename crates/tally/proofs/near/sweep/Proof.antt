@@ -43,7 +43,12 @@ loop-less : tie.Need-loop-less Inv-loop μ-loop
 loop-less c = search needs
 
 loop-again : tie.Need-loop-again Inv-loop μ-loop
-loop-again c = sweeping-step _ _ _ _ _ _ _ _ _ (search needs) (c .before .before .before .before .before .loop .inv) (c .before .before .wide .ensures .0) (c .before .before .wide .ensures .1) refl (c .before .freed .ensures) (c .less-one .ensures)
+loop-again c =
+    let loop = c .before .before .before .before .before .loop in
+    let wide = c .before .before .wide in
+    let freed = c .before .freed in
+    let less-one = c .less-one in
+    sweeping-step _ _ _ _ _ _ _ _ _ (search needs) (loop .inv) (wide .ensures .0) (wide .ensures .1) refl (freed .ensures) (less-one .ensures)
 
 returns : tie.Need-returns Inv-loop μ-loop
 returns c = let e : c .before .loop .s ≡ 0 = omega arith in record { sweep = rw e at (c .before .loop .inv .sweep) }

@@ -1,0 +1,20 @@
+use borrow.Author.Needs.{needs}
+use Rattle.lines.proofs.reader.read_send.Statement.{statement}
+use Rattle.lines.proofs.reader.read_send.Tie as tie
+use Rattle.lines.proofs.reader.read_send.Reads as reads
+use Rattle.lines.proofs.reader.read_send.Lts as lts
+
+-- src/reader.rt:75:22
+add-if1 : tie.Need-add-if1
+add-if1 c = search needs
+
+-- src/reader.rt:71:1
+returns : tie.Need-returns
+returns c = ?
+
+-- src/reader.rt:71:1
+returns-2 : tie.Need-returns-2
+returns-2 c = ?
+
+pub read-send-spec : {M : Type 1} → statement M
+read-send-spec = tie.close (tie.spec add-if1 returns returns-2)

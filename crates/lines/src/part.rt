@@ -1,0 +1,34 @@
+// A line's payload: its place, and that part of the caller's line.
+ghost use mathlib.Core.Path.{_≡_};
+ghost use Rattle.lines.specs.Part.{Placed, Part};
+use crate::{Command, PAYLOAD_AT, Place, Reading, read_command};
+
+// From start up to end; 0 and 0 with no payload digits, and of a line that is refused.
+pub fn payload_place(line: &[u8]) -> Place
+    ensures { λ r. ⌜ Placed (now (line .entry)) (r .start) (r .end) ⌝ }
+{
+    let n = line.len();
+    if n <= PAYLOAD_AT + 1 {
+        return Place { start: 0, end: 0 };
+    }
+    let Reading::Is(command) = read_command(line) else {
+        return Place { start: 0, end: 0 };
+    };
+    match command {
+        Command::Take(_, _) => Place {
+            start: PAYLOAD_AT,
+            end: n - 1,
+        },
+        Command::Open(_) => Place { start: 0, end: 0 },
+        Command::Send => Place { start: 0, end: 0 },
+    }
+}
+
+pub fn payload(line: &[u8]) -> &[u8]
+    ensures { λ r. ⌜ Part (line .entry) r ⌝ }
+{
+    let place = payload_place(line);
+    let start = place.start;
+    let end = place.end;
+    &line[start..end]
+}

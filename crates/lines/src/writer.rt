@@ -1,0 +1,94 @@
+// The line of a command and its payload digits, written into a lent buffer.
+ghost use mathlib.Core.Path.{_≡_};
+ghost use mathlib.Core.List.{_++_};
+ghost use Prim.Native.Nat.{_≤_};
+ghost use lib.ListN.{length, drop};
+ghost use Rattle.rules.specs.Lines.{stands};
+ghost use Rattle.theory.specs.Lines.{front, front-size};
+ghost use Rattle.lines.specs.Cases.{command-of};
+ghost use Rattle.lines.specs.Writing.{Writes, payload-stands};
+use crate::digits::{digits_only, put_bytes, put_number};
+use crate::{Command, LINE_END, MOST_PAYLOAD, PAYLOAD_AT, SLOT_AT, WEIGHT_AT, Written};
+
+// Refusal 1 comes before 12, and a refusal changes no byte.
+pub fn write_line(command: Command, payload: &[u8], buffer: &mut [u8]) -> Written
+    ensures { λ r. ⌜ Writes (command-of command) (now (payload .entry)) (now (buffer .entry)) (now (buffer .exit)) r ⌝ }
+{
+    if !can_stand(command, payload) {
+        return Written::Refused(1);
+    }
+    let front = front_size(command);
+    let end = front + payload.len();
+    if buffer.len() <= end {
+        return Written::Refused(12);
+    }
+    put_front(command, buffer);
+    put_bytes(payload, &mut buffer[front..end]);
+    buffer[end] = LINE_END;
+    Written::Length(end + 1)
+}
+
+// The most that four digits hold.
+const SLOT_MOST: u32 = 65535;
+
+fn can_stand(command: Command, payload: &[u8]) -> bool
+    ensures { λ r. ⌜ r ≡ stands (command-of command) (now (payload .entry)) ⌝ }
+{
+    match command {
+        Command::Open(last) => {
+            if SLOT_MOST < last.0 {
+                return false;
+            }
+            payload.len() == 0
+        }
+        Command::Take(due, _) => {
+            if SLOT_MOST < due.0 {
+                return false;
+            }
+            payload_can_stand(payload)
+        }
+        Command::Send => payload.len() == 0,
+    }
+}
+
+fn payload_can_stand(payload: &[u8]) -> bool
+    ensures { λ r. ⌜ r ≡ payload-stands (now (payload .entry)) ⌝ }
+{
+    let n = payload.len();
+    if MOST_PAYLOAD < n {
+        return false;
+    }
+    if n % 2 != 0 {
+        return false;
+    }
+    digits_only(payload)
+}
+
+// How many digits come before the payload.
+fn front_size(command: Command) -> usize
+    ensures { λ r. ⌜ r ≡ front-size (command-of command) ⌝ }
+{
+    match command {
+        Command::Open(_) => WEIGHT_AT,
+        Command::Take(_, _) => PAYLOAD_AT,
+        Command::Send => SLOT_AT,
+    }
+}
+
+fn put_front(command: Command, buffer: &mut [u8])
+    requires { ⌜ front-size (command-of command) ≤ length (now buffer) ⌝ }
+    ensures { λ _. ⌜ now (buffer .exit) ≡ front (command-of command) ++ drop (front-size (command-of command)) (now (buffer .entry)) ⌝ }
+{
+    match command {
+        Command::Open(last) => {
+            put_number(0, &mut buffer[0..SLOT_AT]);
+            put_number(last.0, &mut buffer[SLOT_AT..WEIGHT_AT]);
+        }
+        Command::Take(due, weight) => {
+            put_number(1, &mut buffer[0..SLOT_AT]);
+            put_number(due.0, &mut buffer[SLOT_AT..WEIGHT_AT]);
+            put_number(weight.0, &mut buffer[WEIGHT_AT..PAYLOAD_AT]);
+        }
+        Command::Send => put_number(2, &mut buffer[0..SLOT_AT]),
+    }
+}

@@ -1,3 +1,4 @@
+use Rattle.lines.proofs.Commands.{send-long, send-read}
 use borrow.Author.Needs.{needs}
 use Rattle.lines.proofs.reader.read_send.Statement.{statement}
 use Rattle.lines.proofs.reader.read_send.Tie as tie
@@ -10,11 +11,11 @@ add-if1 c = search needs
 
 -- src/reader.rt:71:1
 returns : tie.Need-returns
-returns c = ?
+returns c = send-read (c .before .args .line .now) (c .before .pre) (c .if1 .taken)
 
 -- src/reader.rt:71:1
 returns-2 : tie.Need-returns-2
-returns-2 c = ?
+returns-2 c = send-long (c .before .args .line .now) (c .before .pre) (c .if1 .left)
 
 pub read-send-spec : {M : Type 1} → statement M
 read-send-spec = tie.close (tie.spec add-if1 returns returns-2)

@@ -1,3 +1,4 @@
 pub mod Spelling
 pub mod Cuts
 pub mod Commands
+pub mod Places

@@ -1,0 +1,52 @@
+-- A buffer filled from its start, part by part. Assumes nothing.
+use mathlib.Core.Path.{_≡_, refl, sym, ap, _∙_}
+use mathlib.Core.List.{List, [], _∷_, _++_, append-assoc}
+use Prim.Native.Nat.{ℕ, suc, _+_, _-_, _≤_, _<_}
+use native.Mathlib.Omega.{arith}
+use native.Mathlib.Numerals.{add-one}
+use lib.ListN.{length, getD, set, take, drop, length-append, length-drop}
+use lib.Seq.{length-take-le, take-at, drop-at, drop-cons, drop-drop, set-at, append-snoc}
+use Rattle.rules.specs.Lines.{digits}
+use Rattle.theory.specs.Digits.{length-digits}
+
+-- xs stand at the buffer's start, and the bytes past them are those of zs
+pub record Filled (xs zs buffer : List ℕ) : Type 0 where
+  pub room : length xs ≤ length zs
+  pub stand : buffer ≡ xs ++ drop (length xs) zs
+
+pub filled-none : (zs : List ℕ) → Filled [] zs zs
+filled-none zs = record { room = omega arith; stand = refl }
+
+pub filled-length : {xs zs b : List ℕ} → Filled xs zs b → length b ≡ length zs
+filled-length {xs} {zs} {b} f =
+    ap length (f .stand) ∙ omega (arith, length-append xs (drop (length xs) zs), length-drop (length xs) zs, f .room)
+
+-- a part more
+pub filled-part : (a k : ℕ) (ys : List ℕ) {xs zs b : List ℕ} → Filled xs zs b → length xs ≡ a → length ys ≡ k → a + k ≤ length zs →
+    Filled (xs ++ ys) zs (take a b ++ (ys ++ drop k (drop a b)))
+filled-part a k ys {xs} {zs} {b} f l m h =
+    let rest = drop (length xs) zs in
+    let n : length (xs ++ ys) ≡ length xs + length ys = length-append xs ys in
+    let t : take a b ≡ xs = rw (f .stand) (take-at xs rest a l) in
+    let d : drop a b ≡ rest = rw (f .stand) (drop-at xs rest a l) in
+    let e : drop k rest ≡ drop (length (xs ++ ys)) zs = rw (drop-drop, n, m) in
+    record { room = omega arith; stand = rw (t, d, e) (sym (append-assoc xs ys (drop (length (xs ++ ys)) zs))) }
+
+-- a number in k digits more, as a part of k bytes takes it
+pub filled-digits : (a k v : ℕ) {xs zs b ys : List ℕ} → Filled xs zs b → length xs ≡ a → a + k ≤ length zs →
+    ys ≡ digits (length (take k (drop a b))) v → Filled (xs ++ digits k v) zs (take a b ++ (ys ++ drop k (drop a b)))
+filled-digits a k v {xs} {zs} {b} {ys} f l h e =
+    let n : length (take k (drop a b)) ≡ k = length-take-le k (drop a b) (omega (arith, length-drop a b, filled-length f)) in
+    let q : ys ≡ digits k v = e ∙ ap (λ (i : ℕ). digits i v) n in
+    rw q (filled-part a k (digits k v) f l (length-digits k v) h)
+
+-- a byte more
+pub filled-byte : (a x : ℕ) {xs zs b : List ℕ} → Filled xs zs b → length xs ≡ a → a < length zs → Filled (xs ++ (x ∷ [])) zs (set b a x)
+filled-byte a x {xs} {zs} {b} f l h =
+    let n : length (xs ++ (x ∷ [])) ≡ suc (length xs) = length-append xs (x ∷ []) ∙ add-one (length xs) in
+    record {
+      room = omega arith;
+      stand =
+          rw (f .stand, drop-cons zs (length xs) 0 (omega arith), set-at xs (getD zs (length xs) 0) (drop (suc (length xs)) zs) x a l, n)
+          (sym (append-snoc xs x (drop (suc (length xs)) zs)));
+    }

@@ -3,10 +3,10 @@ use mathlib.Core.Path.{_≡_, refl, sym, ap, _∙_}
 use mathlib.Core.Bool.{Bool, true, false, _&&_}
 use mathlib.Core.Logic.{inl, inr}
 use mathlib.Core.List.{List, [], _∷_, _++_}
-use Prim.Native.Nat.{ℕ, _+_, _%_, _^_, _≤_, _<_}
+use Prim.Native.Nat.{ℕ, _+_, _-_, _%_, _^_, _≤_, _<_}
 use native.Mathlib.Omega.{arith}
 use lib.Dec.{ltb, leb, eqb}
-use lib.ListN.{length, drop}
+use lib.ListN.{length, set, take, drop, length-append}
 use borrow.Author.Tests.{lt-ltb, le-ltb, le-leb, lt-leb, eq-eqb, ne-eqb}
 use Rattle.round.specs.declared.Slot.{Slot}
 use Rattle.round.specs.declared.Weight.{Weight}
@@ -82,8 +82,42 @@ module _ (c : Command) where
   unfolding front-size
   send-size e = rw e
 
-pub front-filled : (c : rules.Command) (xs zs b : List ℕ) → front c ≡ xs → Filled xs zs b → b ≡ front c ++ drop (front-size c) zs
-front-filled c xs zs b e f = rw (← length-front c, e) (f .stand)
+pub front-filled : (c : rules.Command) {xs zs b : List ℕ} → front c ≡ xs → Filled xs zs b → b ≡ front c ++ drop (front-size c) zs
+front-filled c e f = rw (← length-front c, e) (f .stand)
+
+pub front-small : (c : rules.Command) → front-size c ≤ 14
+unfolding front-size
+front-small (rules.open-line l) = omega arith
+front-small (rules.take-line d w) = omega arith
+front-small rules.send-line = omega arith
+
+-- THE ANSWERS
+module _ (c : rules.Command) (ps z : List ℕ) where
+  pub write-unfit : stands c ps ≡ false → Writes c ps z z (Refused 1)
+  write-unfit e = let w = write-refused c ps z 0 (unfit c ps (length z) e) in record { reply = sym (w .0); left = sym (w .1) }
+
+  pub write-full : stands c ps ≡ true → length z ≤ front-size c + length ps → Writes c ps z z (Refused 12)
+  write-full e h =
+      let w = write-refused c ps z 11 (no-room c ps (length z) e (omega (arith, length-text c ps))) in
+      record { reply = sym (w .0); left = sym (w .1) }
+
+  -- the front stands in b; then the payload and the 0A are put
+  pub write-on : (b ys : List ℕ) (f : ℕ) → stands c ps ≡ true → f ≡ front-size c → f + length ps < length z →
+      b ≡ front c ++ drop (front-size c) z → ys ≡ ps →
+      Writes c ps z (set (take f b ++ (ys ++ drop (f + length ps - f) (drop f b))) (f + length ps) line-end) (Length (f + length ps + 1))
+  write-on b ys f e g h q p =
+      let l : length (front c) ≡ f = length-front c ∙ sym g in
+      let k : f + length ps - f ≡ length ps = omega arith in
+      let one : Filled (front c) z b = record { room = omega arith; stand = rw (length-front c) q } in
+      let two = filled-part f (length ps) ps one l refl (omega arith) in
+      let n : length (front c ++ ps) ≡ f + length ps = length-append (front c) ps ∙ rw l in
+      let all = filled-byte (f + length ps) line-end two n h in
+      let t = text-front c ps in
+      let w = write-done c ps z (room c ps (length z) e (rw t (all .room))) in
+      rw (p, k) record {
+        reply = rw (length-text c ps, ← g) at (sym (w .0));
+        left = rw (← t) at (all .stand) ∙ sym (w .1);
+      }
 
 -- REPLY LINES
 pub replied : {xs zs b : List ℕ} (r : ℕ) → Filled xs zs b → r ≡ length xs → Replies xs zs b r

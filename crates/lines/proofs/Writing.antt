@@ -10,9 +10,9 @@ use lib.ListN.{length, set, take, drop, length-append}
 use borrow.Author.Tests.{lt-ltb, le-ltb, le-leb, lt-leb, eq-eqb, ne-eqb}
 use Rattle.round.specs.declared.Slot.{Slot}
 use Rattle.round.specs.declared.Weight.{Weight}
-use Rattle.rules.specs.Calls.{refused, amount}
+use Rattle.rules.specs.Calls.{Out, silence, frame, kept-blank, ordinary, leap, step}
 use Rattle.rules.specs.Limits.{slot-digits, wide-digits, most-payload}
-use Rattle.rules.specs.Lines.{digits, all-digits, line-end, stands, text, write-answer, write-left}
+use Rattle.rules.specs.Lines.{digits, all-digits, line-end, stands, text, reply-text, reply-digits, out-digits}
 use Rattle.rules.specs.Lines as rules
 use Rattle.theory.specs.Tests.{either}
 use Rattle.theory.specs.Lines.{front, front-size, length-front, text-front, length-text, unfit, no-room, room, write-refused, write-done}
@@ -20,7 +20,8 @@ use Rattle.lines.specs.declared.Command.{Command}
 use Rattle.lines.specs.declared.Command.the-variants.{Open, Take, Send}
 use Rattle.lines.specs.declared.Written.the-variants.{Length, Refused}
 use Rattle.lines.specs.Cases.{command-of}
-use Rattle.lines.specs.Writing.{Writes, payload-stands, Replies}
+use Rattle.lines.specs.Writing.{Writes, payload-stands, Replies, step-text}
+use Rattle.lines.specs.Cases.{out-number, out-ticket}
 use Rattle.lines.proofs.Filling.{Filled, filled-part, filled-byte}
 
 -- WHAT CAN STAND
@@ -122,3 +123,16 @@ module _ (c : rules.Command) (ps z : List ℕ) where
 -- REPLY LINES
 pub replied : {xs zs b : List ℕ} (r : ℕ) → Filled xs zs b → r ≡ length xs → Replies xs zs b r
 replied r f e = record { long = e; left = f .stand }
+
+-- a step's line by its numbers
+pub ordinary-said : (o : Out) → step-text (out-number o) 0 (out-ticket o) ≡ reply-text (step (ordinary o))
+unfolding reply-text reply-digits out-digits step-text digits
+ordinary-said silence = refl
+ordinary-said (frame k) = refl
+ordinary-said (kept-blank k) = refl
+
+pub leap-said : (o : Out) → step-text (out-number o) 1 (out-ticket o) ≡ reply-text (step (leap o))
+unfolding reply-text reply-digits out-digits step-text digits
+leap-said silence = refl
+leap-said (frame k) = refl
+leap-said (kept-blank k) = refl

@@ -69,11 +69,7 @@ fn digit(v: u32) -> u8
     requires { ⌜ v < 16 ⌝ }
     ensures { λ r. ⌜ r ≡ digit v ⌝ }
 {
-    if v < 10 {
-        48 + v as u8
-    } else {
-        55 + v as u8
-    }
+    if v < 10 { 48 + v as u8 } else { 55 + v as u8 }
 }
 
 // A number in as many digits as the part has room for.

@@ -1,6 +1,7 @@
 // Where the next line of an input ends.
 ghost use Rattle.lines.specs.Ends.{Ends};
-use crate::{LINE_END, LineEnd};
+use crate::LINE_END;
+use crate::LineEnd;
 
 // The first 0A at or after a place.
 pub fn line_end(input: &[u8], from: usize) -> LineEnd

@@ -1,5 +1,6 @@
 // Text lines: the command reader, the payload's part of a line, the line writer, where a line ends, and reply lines.
-use round::{Slot, Weight};
+use round::Slot;
+use round::Weight;
 
 pub mod digits; // digits.rt: digits, and numbers in digits
 pub mod reader; // reader.rt: a line's command
@@ -20,9 +21,13 @@ pub use writer::write_line;
 
 // Where a line's numbers and its payload begin, the most payload digits, and the byte that ends a line.
 pub const SLOT_AT: usize = 2;
+
 pub const WEIGHT_AT: usize = 6;
+
 pub const PAYLOAD_AT: usize = 14;
+
 pub const MOST_PAYLOAD: usize = 48;
+
 pub const LINE_END: u8 = 10;
 
 // A command, one for each line number.

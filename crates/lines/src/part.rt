@@ -1,7 +1,11 @@
 // A line's payload: its place, and that part of the caller's line.
 ghost use mathlib.Core.Path.{_≡_};
 ghost use Rattle.lines.specs.Part.{Placed, Part};
-use crate::{Command, PAYLOAD_AT, Place, Reading, read_command};
+use crate::Command;
+use crate::PAYLOAD_AT;
+use crate::Place;
+use crate::Reading;
+use crate::read_command;
 
 // From start up to end; 0 and 0 with no payload digits, and of a line that is refused.
 pub fn payload_place(line: &[u8]) -> Place

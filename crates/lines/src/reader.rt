@@ -3,9 +3,18 @@ ghost use mathlib.Core.Path.{_≡_};
 ghost use Rattle.rules.specs.Lines.{read};
 ghost use Rattle.lines.specs.Cases.{reading-of};
 ghost use Rattle.lines.specs.Spelling.{Begun};
-use crate::digits::{Spelt, digits_only, number};
-use crate::{Command, LINE_END, MOST_PAYLOAD, PAYLOAD_AT, Reading, SLOT_AT, WEIGHT_AT};
-use round::{Slot, Weight};
+use crate::Command;
+use crate::LINE_END;
+use crate::MOST_PAYLOAD;
+use crate::PAYLOAD_AT;
+use crate::Reading;
+use crate::SLOT_AT;
+use crate::WEIGHT_AT;
+use crate::digits::Spelt;
+use crate::digits::digits_only;
+use crate::digits::number;
+use round::Slot;
+use round::Weight;
 
 pub fn read_command(line: &[u8]) -> Reading
     ensures { λ r. ⌜ reading-of r ≡ read (now (line .entry)) ⌝ }

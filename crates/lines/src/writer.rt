@@ -7,8 +7,16 @@ ghost use Rattle.rules.specs.Lines.{stands};
 ghost use Rattle.theory.specs.Lines.{front, front-size};
 ghost use Rattle.lines.specs.Cases.{command-of};
 ghost use Rattle.lines.specs.Writing.{Writes, payload-stands};
-use crate::digits::{digits_only, put_bytes, put_number};
-use crate::{Command, LINE_END, MOST_PAYLOAD, PAYLOAD_AT, SLOT_AT, WEIGHT_AT, Written};
+use crate::Command;
+use crate::LINE_END;
+use crate::MOST_PAYLOAD;
+use crate::PAYLOAD_AT;
+use crate::SLOT_AT;
+use crate::WEIGHT_AT;
+use crate::Written;
+use crate::digits::digits_only;
+use crate::digits::put_bytes;
+use crate::digits::put_number;
 
 // Refusal 1 comes before 12, and a refusal changes no byte.
 pub fn write_line(command: Command, payload: &[u8], buffer: &mut [u8]) -> Written

@@ -1,15 +1,12 @@
-use Rattle.lines.proofs.Spelling.{value-small}
-use borrow.Author.Needs.{needs}
-use Rattle.lines.proofs.Spelling.{Read, read-none, read-more, read-foul, read-whole, sum-fits}
-use lib.ListN.{length}
-use Prim.Native.Nat.{_+_, _*_, _-_, _^_, _<_}
+-- `lines::number` meets its contract: the digits before i are in the sum; what is left of the length falls. Assumes nothing.
 use mathlib.Core.Path.{sym}
+use Prim.Native.Nat.{_+_, _*_, _-_, _^_, _<_}
 use native.Mathlib.Omega.{arith}
+use lib.ListN.{length}
+use borrow.Author.Needs.{needs}
+use Rattle.lines.proofs.Spelling.{value-small, Read, read-none, read-more, read-foul, read-whole, sum-fits}
 use Rattle.lines.proofs.digits.number.Statement.{statement}
 use Rattle.lines.proofs.digits.number.Tie as tie
-use Rattle.lines.proofs.digits.number.Reads as reads
-use Rattle.lines.proofs.digits.number.Lts as lts
-use Rattle.lines.proofs.digits.value.Reads as value-reads
 
 abbrev Inv-loop : tie.InvT-loop
 Inv-loop digits sum₀ i₀ sum i = Read digits sum i
@@ -17,19 +14,15 @@ Inv-loop digits sum₀ i₀ sum i = Read digits sum i
 abbrev μ-loop : tie.MeasureT-loop
 μ-loop digits sum₀ i₀ sum i = length digits - i
 
--- src/digits.rt:42:5
 loop-holds : tie.Need-loop-holds Inv-loop μ-loop
 loop-holds c = read-none (c .before .args .digits .now)
 
--- src/digits.rt:43:23
 shared-slice-read-value : tie.Need-shared-slice-read-value Inv-loop μ-loop
 shared-slice-read-value c = search needs
 
--- src/digits.rt:43:13
 value-requires : tie.Need-value-requires Inv-loop μ-loop
 value-requires c κs = search needs
 
--- src/digits.rt:45:13
 returns : tie.Need-returns Inv-loop μ-loop
 returns c = sym (read-foul (c .before .before .before .before .before .before .args .digits .now) (c .before .before .before .before .loop .sum) (c .before .before .before .before .loop .i) (c .before .value .result) (c .before .before .before .before .loop .inv) (search needs) (c .before .value .ensures) (c .if1 .taken))
 
@@ -39,27 +32,21 @@ fits c = sum-fits (c .before .before .before .before .before .before .args .digi
 small : (c : tie.Else1 Inv-loop μ-loop) → c .before .value .result < 16
 small c = value-small (c .before .before .before .before .before .before .args .digits .now) (c .before .before .before .before .loop .sum) (c .before .before .before .before .loop .i) (c .before .value .result) (c .before .before .before .before .loop .inv) (search needs) (c .before .value .ensures) (c .if1 .left)
 
--- src/digits.rt:47:15
 mul-sum : tie.Need-mul-sum Inv-loop μ-loop
 mul-sum c = omega (arith, fits c)
 
--- src/digits.rt:47:15
 add-sum : tie.Need-add-sum Inv-loop μ-loop
 add-sum c = omega (arith, fits c, small c)
 
--- src/digits.rt:48:9
 add-i : tie.Need-add-i Inv-loop μ-loop
 add-i c = search needs
 
--- src/digits.rt:42:5
 loop-less : tie.Need-loop-less Inv-loop μ-loop
 loop-less c = search needs
 
--- src/digits.rt:42:5
 loop-again : tie.Need-loop-again Inv-loop μ-loop
 loop-again c = read-more (c .before .before .before .before .before .before .args .digits .now) (c .before .before .before .before .loop .sum) (c .before .before .before .before .loop .i) (c .before .value .result) (c .before .before .before .before .loop .inv) (search needs) (c .before .value .ensures) (c .if1 .left)
 
--- src/digits.rt:36:1
 returns-2 : tie.Need-returns-2 Inv-loop μ-loop
 returns-2 c = sym (read-whole (c .before .before .before .args .digits .now) (c .before .loop .sum) (c .before .loop .i) (c .before .loop .inv) (search needs))
 

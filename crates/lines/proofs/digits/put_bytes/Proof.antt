@@ -1,13 +1,11 @@
+-- `lines::put_bytes` meets its contract: the bytes before i are copied; what is left of the length falls. Assumes nothing.
+use mathlib.Core.Path.{_≡_, refl}
+use Prim.Native.Nat.{_-_}
+use lib.ListN.{length, take, length-set}
 use borrow.Author.Needs.{needs}
 use Rattle.lines.proofs.Spelling.{copy-more, copy-whole}
-use lib.ListN.{length, take, length-set}
-use Prim.Native.Nat.{_-_}
-use mathlib.Core.Path.{_≡_, refl, sym, _∙_}
-use native.Mathlib.Omega.{arith}
 use Rattle.lines.proofs.digits.put_bytes.Statement.{statement}
 use Rattle.lines.proofs.digits.put_bytes.Tie as tie
-use Rattle.lines.proofs.digits.put_bytes.Reads as reads
-use Rattle.lines.proofs.digits.put_bytes.Lts as lts
 
 abbrev Inv-loop : tie.InvT-loop
 Inv-loop bytes part₀ i₀ part i = (length part ≡ length bytes) × (take i part ≡ take i bytes)
@@ -15,35 +13,27 @@ Inv-loop bytes part₀ i₀ part i = (length part ≡ length bytes) × (take i p
 abbrev μ-loop : tie.MeasureT-loop
 μ-loop bytes part₀ i₀ part i = length bytes - i
 
--- src/digits.rt:98:5
 loop-holds : tie.Need-loop-holds Inv-loop μ-loop
 loop-holds c = (search needs, refl)
 
--- src/digits.rt:99:19
 shared-slice-read-part : tie.Need-shared-slice-read-part Inv-loop μ-loop
 shared-slice-read-part c = search needs
 
--- src/digits.rt:99:9
 slice-write-part : tie.Need-slice-write-part Inv-loop μ-loop
 slice-write-part c = search needs
 
--- src/digits.rt:100:9
 add-i : tie.Need-add-i Inv-loop μ-loop
 add-i c = search needs
 
--- src/digits.rt:98:5
 loop-less : tie.Need-loop-less Inv-loop μ-loop
 loop-less c = search needs
 
--- src/digits.rt:98:5
 loop-again : tie.Need-loop-again Inv-loop μ-loop
 loop-again c = (simp length-set (search needs), copy-more (c .before .before .before .args .bytes .now) (c .before .before .loop .part) (c .before .before .loop .i) (search needs) (search needs) (c .before .before .loop .inv .1))
 
--- src/digits.rt:93:1
 same-length : tie.Need-same-length Inv-loop μ-loop
 same-length c = search needs
 
--- src/digits.rt:93:1
 returns : tie.Need-returns Inv-loop μ-loop
 returns c = copy-whole (c .before .before .args .bytes .now) (c .before .loop .part) (c .before .loop .i) (search needs) (search needs) (c .before .loop .inv .1)
 

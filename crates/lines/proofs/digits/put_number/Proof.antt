@@ -1,13 +1,10 @@
+-- `lines::put_number` meets its contract: the digits from i on stand, and the rest is for those before; i falls. Assumes nothing.
+use mathlib.Core.Path.{_≡_, refl}
+use lib.ListN.{length, length-set}
 use borrow.Author.Needs.{needs}
 use Rattle.lines.proofs.Spelling.{Put, put-none, put-more, put-whole}
-use lib.ListN.{length, length-set}
-use mathlib.Core.Path.{_≡_, refl, sym, _∙_}
-use native.Mathlib.Omega.{arith}
 use Rattle.lines.proofs.digits.put_number.Statement.{statement}
 use Rattle.lines.proofs.digits.put_number.Tie as tie
-use Rattle.lines.proofs.digits.put_number.Reads as reads
-use Rattle.lines.proofs.digits.put_number.Lts as lts
-use Rattle.lines.proofs.digits.digit.Reads as digit-reads
 
 abbrev Inv-loop : tie.InvT-loop
 Inv-loop value part₀ rest₀ i₀ part rest i = Put value part rest i × (length part ≡ length part₀)
@@ -15,35 +12,27 @@ Inv-loop value part₀ rest₀ i₀ part rest i = Put value part rest i × (leng
 abbrev μ-loop : tie.MeasureT-loop
 μ-loop value part₀ rest₀ i₀ part rest i = i
 
--- src/digits.rt:85:5
 loop-holds : tie.Need-loop-holds Inv-loop μ-loop
 loop-holds c = (put-none (c .before .args .value) (c .before .args .part .now), refl)
 
--- src/digits.rt:86:9
 sub-i : tie.Need-sub-i Inv-loop μ-loop
 sub-i c = search needs
 
--- src/digits.rt:87:19
 digit-requires : tie.Need-digit-requires Inv-loop μ-loop
 digit-requires c κs = search needs
 
--- src/digits.rt:87:9
 slice-write-part : tie.Need-slice-write-part Inv-loop μ-loop
 slice-write-part c = search needs
 
--- src/digits.rt:85:5
 loop-less : tie.Need-loop-less Inv-loop μ-loop
 loop-less c = search needs
 
--- src/digits.rt:85:5
 loop-again : tie.Need-loop-again Inv-loop μ-loop
 loop-again c = (put-more (c .before .before .before .before .args .value) (c .before .before .loop .part) (c .before .before .loop .rest) (c .before .before .loop .i) (c .digit .result) (c .before .before .loop .inv .0) (search needs) (c .digit .ensures), simp length-set (search needs))
 
--- src/digits.rt:80:1
 same-length : tie.Need-same-length Inv-loop μ-loop
 same-length c = search needs
 
--- src/digits.rt:80:1
 returns : tie.Need-returns Inv-loop μ-loop
 returns c = rw (← c .before .loop .inv .1) (put-whole (c .before .before .before .args .value) (c .before .loop .part) (c .before .loop .rest) (c .before .loop .i) (c .before .loop .inv .0) (search needs))
 

@@ -1,60 +1,45 @@
-use Rattle.lines.proofs.Places.{placed-short, placed-broken, placed-open, placed-send, placed-take}
+-- `lines::payload_place` meets its contract: the place, by what the line is read as. Assumes nothing.
 use borrow.Author.Needs.{needs}
+use Rattle.lines.proofs.Places.{placed-short, placed-broken, placed-open, placed-send, placed-take}
 use Rattle.lines.proofs.part.payload_place.Statement.{statement}
 use Rattle.lines.proofs.part.payload_place.Tie as tie
-use Rattle.lines.proofs.part.payload_place.Reads as reads
-use Rattle.lines.proofs.part.payload_place.Lts as lts
-use Rattle.lines.proofs.reader.read_command.Reads as read-command-reads
 
--- src/part.rt:11:13
 add-if1 : tie.Need-add-if1
 add-if1 c = search needs
 
--- src/part.rt:12:9
 returns : tie.Need-returns
 returns c = placed-short (c .before .before .args .line .now) (c .if1 .taken)
 
--- src/part.rt:14:32
 read-command-requires : tie.Need-read-command-requires
 read-command-requires c κs = search needs
 
--- src/part.rt:14:21
 enum-known-command : tie.Need-enum-known-command
 enum-known-command c = search needs
 
--- src/part.rt:15:9
 enum-told : tie.Need-enum-told
 enum-told c = search needs
 
--- src/part.rt:15:9
 returns-2 : tie.Need-returns-2
 returns-2 c = placed-broken (c .before .before .before .before .before .args .line .now) (c .before .before .read-command .ensures) (c .enum-told .given .1)
 
--- src/part.rt:20:18
 enum-told-2 : tie.Need-enum-told-2
 enum-told-2 c = search needs
 
--- src/part.rt:20:18
 sub-t8 : tie.Need-sub-t8
 sub-t8 c = search needs
 
--- src/part.rt:22:29
 enum-told-3 : tie.Need-enum-told-3
 enum-told-3 c = search needs
 
--- src/part.rt:23:26
 enum-told-4 : tie.Need-enum-told-4
 enum-told-4 c = search needs
 
--- src/part.rt:7:1
 returns-3 : tie.Need-returns-3
 returns-3 c = placed-take (c .before .before .before .before .before .before .before .before .args .line .now) (c .before .before .before .before .before .read-command .ensures) (c .enum-told2 .given .0 .0) (c .enum-told2 .given .0 .1 .0) (c .before .before .before .command .given .1) (c .enum-told2 .given .1) (search needs)
 
--- src/part.rt:7:1
 returns-4 : tie.Need-returns-4
 returns-4 c = placed-open (c .before .before .before .before .before .before .before .before .args .line .now) (c .before .before .before .before .before .read-command .ensures) (c .enum-told3 .given .0 .0) (c .before .before .before .command .given .1) (c .enum-told3 .given .1)
 
--- src/part.rt:7:1
 returns-5 : tie.Need-returns-5
 returns-5 c = placed-send (c .before .before .before .before .before .before .before .before .args .line .now) (c .before .before .before .before .before .read-command .ensures) (c .before .before .before .command .given .1) (c .enum-told4 .given .1)
 

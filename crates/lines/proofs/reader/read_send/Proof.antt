@@ -1,19 +1,15 @@
-use Rattle.lines.proofs.Commands.{send-long, send-read}
+-- `lines::read_send` meets its contract: a line begun by 02. Assumes nothing.
 use borrow.Author.Needs.{needs}
+use Rattle.lines.proofs.Commands.{send-long, send-read}
 use Rattle.lines.proofs.reader.read_send.Statement.{statement}
 use Rattle.lines.proofs.reader.read_send.Tie as tie
-use Rattle.lines.proofs.reader.read_send.Reads as reads
-use Rattle.lines.proofs.reader.read_send.Lts as lts
 
--- src/reader.rt:75:22
 add-if1 : tie.Need-add-if1
 add-if1 c = search needs
 
--- src/reader.rt:71:1
 returns : tie.Need-returns
 returns c = send-read (c .before .args .line .now) (c .before .pre) (c .if1 .taken)
 
--- src/reader.rt:71:1
 returns-2 : tie.Need-returns-2
 returns-2 c = send-long (c .before .args .line .now) (c .before .pre) (c .if1 .left)
 

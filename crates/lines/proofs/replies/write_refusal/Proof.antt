@@ -1,56 +1,43 @@
-use Rattle.lines.proofs.Writing.{replied}
-use Rattle.lines.proofs.Filling.{filled-none, filled-digits, filled-byte}
-use Rattle.rules.specs.Lines.{digits, reply-digits, reply-text}
-use lib.ListN.{length-set}
+-- `lines::write_refusal` meets its contract: the buffer is filled part by part. Assumes nothing.
 use mathlib.Core.Path.{refl}
+use lib.ListN.{length-set}
 use borrow.Author.Needs.{needs}
+use Rattle.rules.specs.Lines.{digits, reply-digits, reply-text}
+use Rattle.lines.proofs.Filling.{filled-none, filled-digits, filled-byte}
+use Rattle.lines.proofs.Writing.{replied}
 use Rattle.lines.proofs.replies.write_refusal.Statement.{statement}
 use Rattle.lines.proofs.replies.write_refusal.Tie as tie
-use Rattle.lines.proofs.replies.write_refusal.Reads as reads
-use Rattle.lines.proofs.replies.write_refusal.Lts as lts
-use Rattle.lines.proofs.digits.put_number.Reads as put-number-reads
 
--- src/replies.rt:53:21
 sub-put-number : tie.Need-sub-put-number
 sub-put-number c = search needs
 
--- src/replies.rt:53:21
 part-put-number-start : tie.Need-part-put-number-start
 part-put-number-start c = search needs
 
--- src/replies.rt:53:21
 part-put-number-end : tie.Need-part-put-number-end
 part-put-number-end c = search needs
 
--- src/replies.rt:53:5
 put-number-requires : tie.Need-put-number-requires
 put-number-requires c κs = search needs
 
--- src/replies.rt:54:24
 sub-put-number-2 : tie.Need-sub-put-number-2
 sub-put-number-2 c = search needs
 
--- src/replies.rt:54:24
 part-put-number-start-2 : tie.Need-part-put-number-start-2
 part-put-number-start-2 c = search needs
 
--- src/replies.rt:54:24
 part-put-number-end-2 : tie.Need-part-put-number-end-2
 part-put-number-end-2 c = search needs
 
--- src/replies.rt:54:5
 put-number-requires-2 : tie.Need-put-number-requires-2
 put-number-requires-2 c κs = search needs
 
--- src/replies.rt:55:5
 slice-write-buffer : tie.Need-slice-write-buffer
 slice-write-buffer c = search needs
 
--- src/replies.rt:49:1
 same-length : tie.Need-same-length
 same-length c = simp length-set (search needs)
 
--- src/replies.rt:49:1
 returns : tie.Need-returns
 unfolding digits reply-digits reply-text
 returns c =

@@ -1,96 +1,75 @@
-use Rattle.lines.proofs.Writing.{replied}
-use Rattle.lines.proofs.Filling.{filled-none, filled-digits, filled-byte}
-use Rattle.lines.specs.Writing.{step-text}
-use Rattle.rules.specs.Lines.{digits}
-use lib.ListN.{length-set}
+-- `lines::write_step` meets its contract: the buffer is filled part by part. Assumes nothing.
 use mathlib.Core.Path.{refl}
+use lib.ListN.{length-set}
 use borrow.Author.Needs.{needs}
+use Rattle.rules.specs.Lines.{digits}
+use Rattle.lines.specs.Writing.{step-text}
+use Rattle.lines.proofs.Filling.{filled-none, filled-digits, filled-byte}
+use Rattle.lines.proofs.Writing.{replied}
 use Rattle.lines.proofs.replies.write_step.Statement.{statement}
 use Rattle.lines.proofs.replies.write_step.Tie as tie
-use Rattle.lines.proofs.replies.write_step.Reads as reads
-use Rattle.lines.proofs.replies.write_step.Lts as lts
-use Rattle.lines.proofs.digits.put_number.Reads as put-number-reads
 
--- src/replies.rt:40:19
 sub-put-number : tie.Need-sub-put-number
 sub-put-number c = search needs
 
--- src/replies.rt:40:19
 part-put-number-start : tie.Need-part-put-number-start
 part-put-number-start c = search needs
 
--- src/replies.rt:40:19
 part-put-number-end : tie.Need-part-put-number-end
 part-put-number-end c = search needs
 
--- src/replies.rt:40:5
 put-number-requires : tie.Need-put-number-requires
 put-number-requires c κs = search needs
 
--- src/replies.rt:41:21
 sub-put-number-2 : tie.Need-sub-put-number-2
 sub-put-number-2 c = search needs
 
--- src/replies.rt:41:21
 part-put-number-start-2 : tie.Need-part-put-number-start-2
 part-put-number-start-2 c = search needs
 
--- src/replies.rt:41:21
 part-put-number-end-2 : tie.Need-part-put-number-end-2
 part-put-number-end-2 c = search needs
 
--- src/replies.rt:41:5
 put-number-requires-2 : tie.Need-put-number-requires-2
 put-number-requires-2 c κs = search needs
 
--- src/replies.rt:42:22
 sub-put-number-3 : tie.Need-sub-put-number-3
 sub-put-number-3 c = search needs
 
--- src/replies.rt:42:22
 part-put-number-start-3 : tie.Need-part-put-number-start-3
 part-put-number-start-3 c = search needs
 
--- src/replies.rt:42:22
 part-put-number-end-3 : tie.Need-part-put-number-end-3
 part-put-number-end-3 c = search needs
 
--- src/replies.rt:42:5
 put-number-requires-3 : tie.Need-put-number-requires-3
 put-number-requires-3 c κs = search needs
 
--- src/replies.rt:43:24
 sub-put-number-4 : tie.Need-sub-put-number-4
 sub-put-number-4 c = search needs
 
--- src/replies.rt:43:24
 part-put-number-start-4 : tie.Need-part-put-number-start-4
 part-put-number-start-4 c = search needs
 
--- src/replies.rt:43:24
 part-put-number-end-4 : tie.Need-part-put-number-end-4
 part-put-number-end-4 c = search needs
 
--- src/replies.rt:43:5
 put-number-requires-4 : tie.Need-put-number-requires-4
 put-number-requires-4 c κs = search needs
 
--- src/replies.rt:44:5
 slice-write-buffer : tie.Need-slice-write-buffer
 slice-write-buffer c = search needs
 
--- src/replies.rt:36:1
 same-length : tie.Need-same-length
 same-length c = simp length-set (search needs)
 
--- src/replies.rt:36:1
 returns : tie.Need-returns
 unfolding digits step-text
 returns c =
     let one = filled-digits 0 2 2 (filled-none (c .before .before .before .before .before .before .before .before .before .before .before .before .before .before .before .before .before .args .buffer .now)) refl (search needs) (c .before .before .before .before .before .before .before .before .before .before .before .before .before .before .put-number .ensures) in
     let two = filled-digits 2 2 (c .before .before .before .before .before .before .before .before .before .before .before .before .before .before .before .before .before .args .out) one refl (search needs) (c .before .before .before .before .before .before .before .before .before .before .put-number2 .ensures) in
     let three = filled-digits 4 2 (c .before .before .before .before .before .before .before .before .before .before .before .before .before .before .before .before .before .args .leap) two refl (search needs) (c .before .before .before .before .before .before .put-number3 .ensures) in
-    let four = filled-digits 6 8 (c .before .before .before .before .before .before .before .before .before .before .before .before .before .before .before .before .before .args .number) three refl (search needs) (c .before .before .put-number4 .ensures) in
+    let four = filled-digits 6 8 (c .before .before .before .before .before .before .before .before .before .before .before .before .before .before .before .before .before .args .gone .0) three refl (search needs) (c .before .before .put-number4 .ensures) in
     replied 15 (filled-byte 14 10 four refl (search needs)) refl
 
 pub write-step-spec : {M : Type 1} → statement M

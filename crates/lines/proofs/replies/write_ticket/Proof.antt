@@ -1,61 +1,48 @@
-use Rattle.lines.proofs.Writing.{replied}
-use Rattle.lines.proofs.Filling.{filled-none, filled-digits, filled-byte}
-use Rattle.rules.specs.Lines.{digits, reply-digits, reply-text}
-use lib.ListN.{length-set}
+-- `lines::write_ticket` meets its contract: the buffer is filled part by part. Assumes nothing.
 use mathlib.Core.Path.{refl}
+use lib.ListN.{length-set}
 use borrow.Author.Needs.{needs}
+use Rattle.rules.specs.Lines.{digits, reply-digits, reply-text}
+use Rattle.lines.proofs.Filling.{filled-none, filled-digits, filled-byte}
+use Rattle.lines.proofs.Writing.{replied}
 use Rattle.lines.proofs.replies.write_ticket.Statement.{statement}
 use Rattle.lines.proofs.replies.write_ticket.Tie as tie
-use Rattle.lines.proofs.replies.write_ticket.Reads as reads
-use Rattle.lines.proofs.replies.write_ticket.Lts as lts
-use Rattle.lines.proofs.digits.put_number.Reads as put-number-reads
 
--- src/replies.rt:29:19
 sub-put-number : tie.Need-sub-put-number
 sub-put-number c = search needs
 
--- src/replies.rt:29:19
 part-put-number-start : tie.Need-part-put-number-start
 part-put-number-start c = search needs
 
--- src/replies.rt:29:19
 part-put-number-end : tie.Need-part-put-number-end
 part-put-number-end c = search needs
 
--- src/replies.rt:29:5
 put-number-requires : tie.Need-put-number-requires
 put-number-requires c κs = search needs
 
--- src/replies.rt:30:24
 sub-put-number-2 : tie.Need-sub-put-number-2
 sub-put-number-2 c = search needs
 
--- src/replies.rt:30:24
 part-put-number-start-2 : tie.Need-part-put-number-start-2
 part-put-number-start-2 c = search needs
 
--- src/replies.rt:30:24
 part-put-number-end-2 : tie.Need-part-put-number-end-2
 part-put-number-end-2 c = search needs
 
--- src/replies.rt:30:5
 put-number-requires-2 : tie.Need-put-number-requires-2
 put-number-requires-2 c κs = search needs
 
--- src/replies.rt:31:5
 slice-write-buffer : tie.Need-slice-write-buffer
 slice-write-buffer c = search needs
 
--- src/replies.rt:25:1
 same-length : tie.Need-same-length
 same-length c = simp length-set (search needs)
 
--- src/replies.rt:25:1
 returns : tie.Need-returns
 unfolding digits reply-digits reply-text
 returns c =
     let one = filled-digits 0 2 1 (filled-none (c .before .before .before .before .before .before .before .before .before .args .buffer .now)) refl (search needs) (c .before .before .before .before .before .before .put-number .ensures) in
-    let two = filled-digits 2 8 (c .before .before .before .before .before .before .before .before .before .args .number) one refl (search needs) (c .before .before .put-number2 .ensures) in
+    let two = filled-digits 2 8 (c .before .before .before .before .before .before .before .before .before .args .given .0) one refl (search needs) (c .before .before .put-number2 .ensures) in
     replied 11 (filled-byte 10 10 two refl (search needs)) refl
 
 pub write-ticket-spec : {M : Type 1} → statement M

@@ -1,45 +1,34 @@
-use Rattle.lines.proofs.Writing.{open-high, open-stands, take-high, take-stands, send-stands}
+-- `lines::can_stand` meets its contract: by the command. Assumes nothing.
 use mathlib.Core.Path.{_∙_}
 use borrow.Author.Needs.{needs}
+use Rattle.lines.proofs.Writing.{open-high, open-stands, take-high, take-stands, send-stands}
 use Rattle.lines.proofs.writer.can_stand.Statement.{statement}
 use Rattle.lines.proofs.writer.can_stand.Tie as tie
-use Rattle.lines.proofs.writer.can_stand.Reads as reads
-use Rattle.lines.proofs.writer.can_stand.Lts as lts
-use Rattle.lines.proofs.writer.payload_can_stand.Reads as payload-can-stand-reads
 
--- src/writer.rt:38:23
 enum-known-command : tie.Need-enum-known-command
 enum-known-command c = search needs
 
--- src/writer.rt:40:17
 returns : tie.Need-returns
 returns c = open-high (c .before .before .before .before .before .before .args .command) (c .before .before .before .before .before .before .args .payload .now) (c .before .before .before .command .given .0 .0) (c .before .before .before .command .given .1) (c .if1 .taken)
 
--- src/writer.rt:44:23
 enum-known-command-2 : tie.Need-enum-known-command-2
 enum-known-command-2 c = search needs
 
--- src/writer.rt:46:17
 returns-2 : tie.Need-returns-2
 returns-2 c = take-high (c .before .before .before .before .before .before .args .command) (c .before .before .before .before .before .before .args .payload .now) (c .before .before .before .command2 .given .0 .0) (c .before .before .before .command2 .given .0 .1 .0) (c .before .before .before .command2 .given .1) (c .if2 .taken)
 
--- src/writer.rt:48:13
 payload-can-stand-requires : tie.Need-payload-can-stand-requires
 payload-can-stand-requires c κs = search needs
 
--- src/writer.rt:50:26
 enum-told : tie.Need-enum-told
 enum-told c = search needs
 
--- src/writer.rt:34:1
 returns-3 : tie.Need-returns-3
 returns-3 c = open-stands (c .before .before .before .before .before .before .args .command) (c .before .before .before .before .before .before .args .payload .now) (c .before .before .before .command .given .0 .0) (c .before .before .before .command .given .1) (c .if1 .left)
 
--- src/writer.rt:34:1
 returns-4 : tie.Need-returns-4
 returns-4 c = c .payload-can-stand .ensures ∙ take-stands (c .before .before .before .before .before .before .before .args .command) (c .before .before .before .before .before .before .before .args .payload .now) (c .before .before .before .before .command2 .given .0 .0) (c .before .before .before .before .command2 .given .0 .1 .0) (c .before .before .before .before .command2 .given .1) (search needs) (search needs)
 
--- src/writer.rt:34:1
 returns-5 : tie.Need-returns-5
 returns-5 c = send-stands (c .before .before .before .args .command) (c .before .before .before .args .payload .now) (c .enum-told .given .1)
 

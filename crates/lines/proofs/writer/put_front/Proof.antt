@@ -1,18 +1,16 @@
-use Rattle.lines.proofs.Writing.{open-size, take-size, send-size, front-filled}
-use Rattle.lines.proofs.Filling.{filled-none, filled-digits}
-use Rattle.lines.specs.Cases.{command-of}
-use Rattle.theory.specs.Lines.{front}
-use Rattle.rules.specs.Lines.{digits}
-use lib.ListN.{length, length-set}
-use Prim.Native.Nat.{_≤_}
+-- `lines::put_front` meets its contract: by the command, the buffer is filled part by part. Assumes nothing.
 use mathlib.Core.Path.{refl}
+use Prim.Native.Nat.{_≤_}
 use native.Mathlib.Omega.{arith}
+use lib.ListN.{length}
 use borrow.Author.Needs.{needs}
+use Rattle.rules.specs.Lines.{digits}
+use Rattle.theory.specs.Lines.{front}
+use Rattle.lines.specs.Cases.{command-of}
+use Rattle.lines.proofs.Filling.{filled-none, filled-digits}
+use Rattle.lines.proofs.Writing.{open-size, take-size, send-size, front-filled}
 use Rattle.lines.proofs.writer.put_front.Statement.{statement}
 use Rattle.lines.proofs.writer.put_front.Tie as tie
-use Rattle.lines.proofs.writer.put_front.Reads as reads
-use Rattle.lines.proofs.writer.put_front.Lts as lts
-use Rattle.lines.proofs.digits.put_number.Reads as put-number-reads
 
 open-room : (c : tie.After-command) → 6 ≤ length (c .before .before .before .args .buffer .now)
 open-room c = omega (arith, c .before .before .before .pre, open-size (c .before .before .before .args .command) (c .command .given .0 .0) (c .command .given .1))
@@ -23,119 +21,90 @@ take-room c = omega (arith, c .before .before .before .pre, take-size (c .before
 send-room : (c : tie.After-enum-told) → 2 ≤ length (c .before .before .before .args .buffer .now)
 send-room c = omega (arith, c .before .before .before .pre, send-size (c .before .before .before .args .command) (c .enum-told .given .1))
 
--- src/writer.rt:83:23
 enum-known-command : tie.Need-enum-known-command
 enum-known-command c = search needs
 
--- src/writer.rt:84:27
 sub-put-number : tie.Need-sub-put-number
 sub-put-number c = search needs
 
--- src/writer.rt:84:27
 part-put-number-start : tie.Need-part-put-number-start
 part-put-number-start c = search needs
 
--- src/writer.rt:84:27
 part-put-number-end : tie.Need-part-put-number-end
 part-put-number-end c = omega (arith, open-room (c .before))
 
--- src/writer.rt:84:13
 put-number-requires : tie.Need-put-number-requires
 put-number-requires c κs = search needs
 
--- src/writer.rt:85:32
 sub-put-number-2 : tie.Need-sub-put-number-2
 sub-put-number-2 c = search needs
 
--- src/writer.rt:85:32
 part-put-number-start-2 : tie.Need-part-put-number-start-2
 part-put-number-start-2 c = search needs
 
--- src/writer.rt:85:32
 part-put-number-end-2 : tie.Need-part-put-number-end-2
 part-put-number-end-2 c = omega (arith, open-room (c .before .before .before .before .before))
 
--- src/writer.rt:85:13
 put-number-requires-2 : tie.Need-put-number-requires-2
 put-number-requires-2 c κs = search needs
 
--- src/writer.rt:87:23
 enum-known-command-2 : tie.Need-enum-known-command-2
 enum-known-command-2 c = search needs
 
--- src/writer.rt:88:27
 sub-put-number-3 : tie.Need-sub-put-number-3
 sub-put-number-3 c = search needs
 
--- src/writer.rt:88:27
 part-put-number-start-3 : tie.Need-part-put-number-start-3
 part-put-number-start-3 c = search needs
 
--- src/writer.rt:88:27
 part-put-number-end-3 : tie.Need-part-put-number-end-3
 part-put-number-end-3 c = omega (arith, take-room (c .before))
 
--- src/writer.rt:88:13
 put-number-requires-3 : tie.Need-put-number-requires-3
 put-number-requires-3 c κs = search needs
 
--- src/writer.rt:89:31
 sub-put-number-4 : tie.Need-sub-put-number-4
 sub-put-number-4 c = search needs
 
--- src/writer.rt:89:31
 part-put-number-start-4 : tie.Need-part-put-number-start-4
 part-put-number-start-4 c = search needs
 
--- src/writer.rt:89:31
 part-put-number-end-4 : tie.Need-part-put-number-end-4
 part-put-number-end-4 c = omega (arith, take-room (c .before .before .before .before .before))
 
--- src/writer.rt:89:13
 put-number-requires-4 : tie.Need-put-number-requires-4
 put-number-requires-4 c κs = search needs
 
--- src/writer.rt:90:34
 sub-put-number-5 : tie.Need-sub-put-number-5
 sub-put-number-5 c = search needs
 
--- src/writer.rt:90:34
 part-put-number-start-5 : tie.Need-part-put-number-start-5
 part-put-number-start-5 c = search needs
 
--- src/writer.rt:90:34
 part-put-number-end-5 : tie.Need-part-put-number-end-5
 part-put-number-end-5 c = omega (arith, take-room (c .before .before .before .before .before .before .before .before .before))
 
--- src/writer.rt:90:13
 put-number-requires-5 : tie.Need-put-number-requires-5
 put-number-requires-5 c κs = search needs
 
--- src/writer.rt:92:40
 enum-told : tie.Need-enum-told
 enum-told c = search needs
 
--- src/writer.rt:92:40
 sub-put-number-6 : tie.Need-sub-put-number-6
 sub-put-number-6 c = search needs
 
--- src/writer.rt:92:40
 part-put-number-start-6 : tie.Need-part-put-number-start-6
 part-put-number-start-6 c = search needs
 
--- src/writer.rt:92:40
 part-put-number-end-6 : tie.Need-part-put-number-end-6
 part-put-number-end-6 c = omega (arith, send-room (c))
 
--- src/writer.rt:92:26
 put-number-requires-6 : tie.Need-put-number-requires-6
 put-number-requires-6 c κs = search needs
 
--- src/writer.rt:78:1
 same-length : tie.Need-same-length
 same-length c = search needs
 
--- src/writer.rt:78:1
 returns : tie.Need-returns
 unfolding digits front
 returns c =
@@ -144,11 +113,9 @@ returns c =
     let two = filled-digits 2 4 (c .before .before .before .before .before .before .before .before .before .command .given .0 .0 .0) one refl (omega arith) (c .before .before .put-number2 .ensures) in
     front-filled (command-of (c .before .before .before .before .before .before .before .before .before .before .before .before .args .command)) (rw (c .before .before .before .before .before .before .before .before .before .command .given .1)) two
 
--- src/writer.rt:78:1
 same-length-2 : tie.Need-same-length-2
 same-length-2 c = search needs
 
--- src/writer.rt:78:1
 returns-2 : tie.Need-returns-2
 unfolding digits front
 returns-2 c =
@@ -158,11 +125,9 @@ returns-2 c =
     let three = filled-digits 6 8 (c .before .before .before .before .before .before .before .before .before .before .before .before .before .command2 .given .0 .1 .0 .0) two refl (omega arith) (c .before .before .put-number5 .ensures) in
     front-filled (command-of (c .before .before .before .before .before .before .before .before .before .before .before .before .before .before .before .before .args .command)) (rw (c .before .before .before .before .before .before .before .before .before .before .before .before .before .command2 .given .1)) three
 
--- src/writer.rt:78:1
 same-length-3 : tie.Need-same-length-3
 same-length-3 c = search needs
 
--- src/writer.rt:78:1
 returns-3 : tie.Need-returns-3
 unfolding digits front
 returns-3 c =

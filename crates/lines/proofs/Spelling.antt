@@ -69,10 +69,10 @@ pub read-none : (ds : List ℕ) → Read ds 0 0
 read-none ds = record { within = omega arith; clean = refl; number = refl; small = omega arith }
 
 -- one digit more fits a u32
-pub sum-fits : (ds : List ℕ) (sum i : ℕ) → Read ds sum i → i < 8 → 16 * sum + 15 < 2 ^ 32
-sum-fits ds sum i r h = omega (arith, pow-suc 16 i, r .small, pow-le-pow-right {n = 16} (omega arith) h)
+pub sum-fits : {ds : List ℕ} {sum i : ℕ} → Read ds sum i → i < 8 → 16 * sum + 15 < 2 ^ 32
+sum-fits {i = i} r h = omega (arith, pow-suc 16 i, r .small, pow-le-pow-right {n = 16} (omega arith) h)
 
-module _ (ds : List ℕ) (sum i v : ℕ) (r : Read ds sum i) (within : i < length ds) (valued : v ≡ value-or 16 (getD ds i 0)) where
+module _ {ds : List ℕ} {sum i v : ℕ} (r : Read ds sum i) (within : i < length ds) (valued : v ≡ value-or 16 (getD ds i 0)) where
   pub value-small : (v ≡ 16 → ⊥) → v < 16
   value-small f = let d = some v (getD ds i 0) valued f in omega (arith, d .1, digit-valued (getD ds i 0) (d .0) .below)
 
@@ -91,9 +91,9 @@ module _ (ds : List ℕ) (sum i v : ℕ) (r : Read ds sum i) (within : i < lengt
   unfolding spelt
   read-foul e = rw (r .clean, all-stop ds i v within valued e)
 
-pub read-whole : (ds : List ℕ) (sum i : ℕ) → Read ds sum i → length ds ≤ i → spelt ds ≡ Number sum
+pub read-whole : {ds : List ℕ} {sum i : ℕ} → Read ds sum i → length ds ≤ i → spelt ds ≡ Number sum
 unfolding spelt number-from
-read-whole ds sum i r h = rw (r .clean, all-end ds i h, r .number, drop-of-length-le ds {i = i} h)
+read-whole {ds} {i = i} r h = rw (r .clean, all-end ds i h, r .number, drop-of-length-le ds {i = i} h)
 
 -- A NUMBER WRITTEN from its last digit on: what stands from i on, and what is left for the digits before
 pub record Put (value : ℕ) (part : List ℕ) (rest i : ℕ) : Type 0 where
@@ -107,9 +107,9 @@ drop-set : (l : List ℕ) (i a : ℕ) → i < length l → drop i (set l i a) �
 drop-set l i a h =
     drop-cons (set l i a) i 0 (omega (arith, length-set l i a)) ∙ rw (getD-set-same l i a 0 h, drop-set-lt (suc i) l i a (omega arith))
 
-pub put-more : (value : ℕ) (part : List ℕ) (rest i a : ℕ) → Put value part rest i → 0 < i → a ≡ digit (rest % 16) →
+pub put-more : {value : ℕ} {part : List ℕ} {rest i a : ℕ} → Put value part rest i → 0 < i → a ≡ digit (rest % 16) →
     Put value (set part (i - 1) a) (rest / 16) (i - 1)
-put-more v part rest i a p h e =
+put-more {part = part} {rest = rest} {i = i} {a = a} p h e =
     let j = i - 1 in
     let s : suc j ≡ i = omega arith in
     record {
@@ -117,9 +117,9 @@ put-more v part rest i a p h e =
       stands = rw (length-set, drop-set part j a (omega arith), e) (sym (digits-step j rest (drop (suc j) part)) ∙ rw s (p .stands));
     }
 
-pub put-whole : (value : ℕ) (part : List ℕ) (rest i : ℕ) → Put value part rest i → i ≤ 0 → part ≡ digits (length part) value
+pub put-whole : {value : ℕ} {part : List ℕ} {rest i : ℕ} → Put value part rest i → i ≤ 0 → part ≡ digits (length part) value
 unfolding digits
-put-whole v part rest i p h = let z : i ≡ 0 = omega arith in rw z at (p .stands)
+put-whole {i = i} p h = let z : i ≡ 0 = omega arith in rw z at (p .stands)
 
 -- BYTES COPIED up to i
 pub copy-more : (bytes part : List ℕ) (i : ℕ) → length part ≡ length bytes → i < length bytes → take i part ≡ take i bytes →

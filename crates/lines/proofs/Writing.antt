@@ -103,10 +103,10 @@ module _ (c : rules.Command) (ps z : List ℕ) where
       record { reply = sym (w .0); left = sym (w .1) }
 
   -- the front stands in b; then the payload and the 0A are put
-  pub write-on : (b ys : List ℕ) (f : ℕ) → stands c ps ≡ true → f ≡ front-size c → f + length ps < length z →
+  pub write-on : {b ys : List ℕ} {f : ℕ} → stands c ps ≡ true → f ≡ front-size c → f + length ps < length z →
       b ≡ front c ++ drop (front-size c) z → ys ≡ ps →
       Writes c ps z (set (take f b ++ (ys ++ drop (f + length ps - f) (drop f b))) (f + length ps) line-end) (Length (f + length ps + 1))
-  write-on b ys f e g h q p =
+  write-on {b} {f = f} e g h q p =
       let l : length (front c) ≡ f = length-front c ∙ sym g in
       let k : f + length ps - f ≡ length ps = omega arith in
       let one : Filled (front c) z b = record { room = omega arith; stand = rw (length-front c) q } in

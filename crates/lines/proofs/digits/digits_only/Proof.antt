@@ -24,7 +24,10 @@ value-requires : tie.Need-value-requires Inv-loop μ-loop
 value-requires c κs = search needs
 
 returns : tie.Need-returns Inv-loop μ-loop
-returns c = sym (c .before .before .before .before .loop .inv ∙ all-stop (c .before .before .before .before .before .before .args .bytes .now) (c .before .before .before .before .loop .i) (c .before .value .result) (search needs) (c .before .value .ensures) (c .if1 .taken))
+returns c =
+    let l = c .before .before .before .before .loop in
+    let bytes = c .before .before .before .before .before .before .args .bytes .now in
+    sym (l .inv ∙ all-stop bytes (l .i) (c .before .value .result) (search needs) (c .before .value .ensures) (c .if1 .taken))
 
 add-i : tie.Need-add-i Inv-loop μ-loop
 add-i c = search needs
@@ -33,7 +36,10 @@ loop-less : tie.Need-loop-less Inv-loop μ-loop
 loop-less c = search needs
 
 loop-again : tie.Need-loop-again Inv-loop μ-loop
-loop-again c = c .before .before .before .before .loop .inv ∙ all-go (c .before .before .before .before .before .before .args .bytes .now) (c .before .before .before .before .loop .i) (c .before .value .result) (search needs) (c .before .value .ensures) (c .if1 .left)
+loop-again c =
+    let l = c .before .before .before .before .loop in
+    let bytes = c .before .before .before .before .before .before .args .bytes .now in
+    l .inv ∙ all-go bytes (l .i) (c .before .value .result) (search needs) (c .before .value .ensures) (c .if1 .left)
 
 returns-2 : tie.Need-returns-2 Inv-loop μ-loop
 returns-2 c = sym (c .before .loop .inv ∙ all-end (c .before .before .before .args .bytes .now) (c .before .loop .i) (search needs))

@@ -24,13 +24,13 @@ value-requires : tie.Need-value-requires Inv-loop μ-loop
 value-requires c κs = search needs
 
 returns : tie.Need-returns Inv-loop μ-loop
-returns c = sym (read-foul (c .before .before .before .before .before .before .args .digits .now) (c .before .before .before .before .loop .sum) (c .before .before .before .before .loop .i) (c .before .value .result) (c .before .before .before .before .loop .inv) (search needs) (c .before .value .ensures) (c .if1 .taken))
+returns c = sym (read-foul (c .before .before .before .before .loop .inv) (search needs) (c .before .value .ensures) (c .if1 .taken))
 
 fits : (c : tie.Else1 Inv-loop μ-loop) → 16 * (c .before .before .before .before .loop .sum) + 15 < 2 ^ 32
-fits c = sum-fits (c .before .before .before .before .before .before .args .digits .now) (c .before .before .before .before .loop .sum) (c .before .before .before .before .loop .i) (c .before .before .before .before .loop .inv) (search needs)
+fits c = sum-fits (c .before .before .before .before .loop .inv) (search needs)
 
 small : (c : tie.Else1 Inv-loop μ-loop) → c .before .value .result < 16
-small c = value-small (c .before .before .before .before .before .before .args .digits .now) (c .before .before .before .before .loop .sum) (c .before .before .before .before .loop .i) (c .before .value .result) (c .before .before .before .before .loop .inv) (search needs) (c .before .value .ensures) (c .if1 .left)
+small c = value-small (c .before .before .before .before .loop .inv) (search needs) (c .before .value .ensures) (c .if1 .left)
 
 mul-sum : tie.Need-mul-sum Inv-loop μ-loop
 mul-sum c = omega (arith, fits c)
@@ -45,10 +45,10 @@ loop-less : tie.Need-loop-less Inv-loop μ-loop
 loop-less c = search needs
 
 loop-again : tie.Need-loop-again Inv-loop μ-loop
-loop-again c = read-more (c .before .before .before .before .before .before .args .digits .now) (c .before .before .before .before .loop .sum) (c .before .before .before .before .loop .i) (c .before .value .result) (c .before .before .before .before .loop .inv) (search needs) (c .before .value .ensures) (c .if1 .left)
+loop-again c = read-more (c .before .before .before .before .loop .inv) (search needs) (c .before .value .ensures) (c .if1 .left)
 
 returns-2 : tie.Need-returns-2 Inv-loop μ-loop
-returns-2 c = sym (read-whole (c .before .before .before .args .digits .now) (c .before .loop .sum) (c .before .loop .i) (c .before .loop .inv) (search needs))
+returns-2 c = sym (read-whole (c .before .loop .inv) (search needs))
 
 pub number-spec : {M : Type 1} → statement M
 number-spec =

@@ -29,13 +29,17 @@ loop-less : tie.Need-loop-less Inv-loop μ-loop
 loop-less c = search needs
 
 loop-again : tie.Need-loop-again Inv-loop μ-loop
-loop-again c = (simp length-set (search needs), copy-more (c .before .before .before .args .bytes .now) (c .before .before .loop .part) (c .before .before .loop .i) (search needs) (search needs) (c .before .before .loop .inv .1))
+loop-again c =
+    let l = c .before .before .loop in
+    (simp length-set (search needs), copy-more (c .before .before .before .args .bytes .now) (l .part) (l .i) (search needs) (search needs) (l .inv .1))
 
 same-length : tie.Need-same-length Inv-loop μ-loop
 same-length c = search needs
 
 returns : tie.Need-returns Inv-loop μ-loop
-returns c = copy-whole (c .before .before .args .bytes .now) (c .before .loop .part) (c .before .loop .i) (search needs) (search needs) (c .before .loop .inv .1)
+returns c =
+    let l = c .before .loop in
+    copy-whole (c .before .before .args .bytes .now) (l .part) (l .i) (search needs) (search needs) (l .inv .1)
 
 pub put-bytes-spec : {M : Type 1} → statement M
 put-bytes-spec =

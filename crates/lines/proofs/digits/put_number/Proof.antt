@@ -28,13 +28,13 @@ loop-less : tie.Need-loop-less Inv-loop μ-loop
 loop-less c = search needs
 
 loop-again : tie.Need-loop-again Inv-loop μ-loop
-loop-again c = (put-more (c .before .before .before .before .args .value) (c .before .before .loop .part) (c .before .before .loop .rest) (c .before .before .loop .i) (c .digit .result) (c .before .before .loop .inv .0) (search needs) (c .digit .ensures), simp length-set (search needs))
+loop-again c = (put-more (c .before .before .loop .inv .0) (search needs) (c .digit .ensures), simp length-set (search needs))
 
 same-length : tie.Need-same-length Inv-loop μ-loop
 same-length c = search needs
 
 returns : tie.Need-returns Inv-loop μ-loop
-returns c = rw (← c .before .loop .inv .1) (put-whole (c .before .before .before .args .value) (c .before .loop .part) (c .before .loop .rest) (c .before .loop .i) (c .before .loop .inv .0) (search needs))
+returns c = rw (← c .before .loop .inv .1) (put-whole (c .before .loop .inv .0) (search needs))
 
 pub put-number-spec : {M : Type 1} → statement M
 put-number-spec =

@@ -7,10 +7,12 @@ use Rattle.lines.proofs.Places.{place-within, placed-part}
 use Rattle.lines.proofs.part.payload.Statement.{statement}
 use Rattle.lines.proofs.part.payload.Tie as tie
 
-within : (c : tie.After-payload-place) → (c .payload-place .result .start ≤ c .payload-place .result .end) × (c .payload-place .result .end ≤ length (c .before .before .args .line .now))
+within : (c : tie.After-payload-place) →
+    (c .payload-place .result .start ≤ c .payload-place .result .end) × (c .payload-place .result .end ≤ length (c .before .before .args .line .now))
 within c =
     let h = place-within (c .before .before .args .line .now) in
-    (omega (arith, h .0, c .payload-place .ensures .starts, c .payload-place .ensures .ends), omega (arith, h .1, c .payload-place .ensures .ends))
+    let p = c .payload-place .ensures in
+    (omega (arith, h .0, p .starts, p .ends), omega (arith, h .1, p .ends))
 
 payload-place-requires : tie.Need-payload-place-requires
 payload-place-requires c κs = search needs
@@ -25,7 +27,9 @@ part-result-end : tie.Need-part-result-end
 part-result-end c = within c .1
 
 returns : tie.Need-returns
-returns c = placed-part (c .before .before .before .args .line) (c .before .payload-place .result .start) (c .before .payload-place .result .end) (c .before .payload-place .ensures) (c .result .given .0)
+returns c =
+    let place = c .before .payload-place in
+    placed-part (c .before .before .before .args .line) (place .result .start) (place .result .end) (place .ensures) (c .result .given .0)
 
 pub payload-spec : {M : Type 1} → statement M
 payload-spec =

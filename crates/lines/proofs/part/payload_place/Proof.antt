@@ -35,13 +35,24 @@ enum-told-4 : tie.Need-enum-told-4
 enum-told-4 c = search needs
 
 returns-3 : tie.Need-returns-3
-returns-3 c = placed-take (c .before .before .before .before .before .before .before .before .args .line .now) (c .before .before .before .before .before .read-command .ensures) (c .enum-told2 .given .0 .0) (c .enum-told2 .given .0 .1 .0) (c .before .before .before .command .given .1) (c .enum-told2 .given .1) (search needs)
+returns-3 c =
+    let line = c .before .before .before .before .before .before .before .before .args .line .now in
+    let fields = c .enum-told2 .given in
+    let command = c .before .before .before .command .given .1 in
+    placed-take line (c .before .before .before .before .before .read-command .ensures) (fields .0 .0) (fields .0 .1 .0) command (fields .1) (search needs)
 
 returns-4 : tie.Need-returns-4
-returns-4 c = placed-open (c .before .before .before .before .before .before .before .before .args .line .now) (c .before .before .before .before .before .read-command .ensures) (c .enum-told3 .given .0 .0) (c .before .before .before .command .given .1) (c .enum-told3 .given .1)
+returns-4 c =
+    let line = c .before .before .before .before .before .before .before .before .args .line .now in
+    let field = c .enum-told3 .given in
+    let command = c .before .before .before .command .given .1 in
+    placed-open line (c .before .before .before .before .before .read-command .ensures) (field .0 .0) command (field .1)
 
 returns-5 : tie.Need-returns-5
-returns-5 c = placed-send (c .before .before .before .before .before .before .before .before .args .line .now) (c .before .before .before .before .before .read-command .ensures) (c .before .before .before .command .given .1) (c .enum-told4 .given .1)
+returns-5 c =
+    let line = c .before .before .before .before .before .before .before .before .args .line .now in
+    let command = c .before .before .before .command .given .1 in
+    placed-send line (c .before .before .before .before .before .read-command .ensures) command (c .enum-told4 .given .1)
 
 pub payload-place-spec : {M : Type 1} → statement M
 payload-place-spec =

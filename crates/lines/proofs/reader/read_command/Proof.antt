@@ -37,12 +37,15 @@ enum-told : tie.Need-enum-told
 enum-told c = search needs
 
 returns-3 : tie.Need-returns-3
-returns-3 c = foul 0 2 (c .before .before .before .before .before .before .before .before .args .line .now) (search needs) (spelt-nothing (take 2 (c .before .before .before .before .before .before .before .before .args .line .now)) (c .enum-told .given .1) (c .before .before .number .ensures))
+returns-3 c =
+    let line = c .before .before .before .before .before .before .before .before .args .line .now in
+    foul 0 2 line (search needs) (spelt-nothing (take 2 line) (c .enum-told .given .1) (c .before .before .number .ensures))
 
 begun-here : (c : tie.After-known-told) → Begun (c .before .kind .given .0 .0) (c .before .before .before .before .before .before .before .before .before .args .line .now)
 begun-here c =
-    begun (c .before .kind .given .0 .0) (c .before .before .before .before .before .before .before .before .before .args .line .now) (search needs) (c .before .before .before .before .before .if2 .left)
-    (spelt-number (take 2 (c .before .before .before .before .before .before .before .before .before .args .line .now)) (c .before .kind .given .1) (c .before .before .before .number .ensures))
+    let line = c .before .before .before .before .before .before .before .before .before .args .line .now in
+    let kind = c .before .kind .given in
+    begun (kind .0 .0) line (search needs) (c .before .before .before .before .before .if2 .left) (spelt-number (take 2 line) (kind .1) (c .before .before .before .number .ensures))
 
 read-open-requires : tie.Need-read-open-requires
 read-open-requires c κs = rw (c .match2 .keys1) at (begun-here (c .before))
@@ -63,7 +66,10 @@ returns-6 : tie.Need-returns-6
 returns-6 c = search needs
 
 returns-7 : tie.Need-returns-7
-returns-7 c = unknown (c .before .before .kind .given .0 .0) (c .before .before .before .before .before .before .before .before .before .before .args .line .now) (begun-here (c .before)) (c .match2 .rest .0 .0 .1) (c .match2 .rest .0 .1) (c .match2 .rest .1)
+returns-7 c =
+    let known = c .before in
+    let not = c .match2 .rest in
+    unknown (known .before .kind .given .0 .0) (c .before .before .before .before .before .before .before .before .before .before .args .line .now) (begun-here known) (not .0 .0 .1) (not .0 .1) (not .1)
 
 pub read-command-spec : {M : Type 1} → statement M
 read-command-spec =

@@ -30,10 +30,17 @@ enum-told : tie.Need-enum-told
 enum-told c = search needs
 
 returns-2 : tie.Need-returns-2
-returns-2 c = foul 2 4 (c .before .before .before .before .before .before .args .line .now) (search needs) (spelt-nothing (take 4 (drop 2 (c .before .before .before .before .before .before .args .line .now))) (c .enum-told .given .1) (c .before .before .number .ensures))
+returns-2 c =
+    let line = c .before .before .before .before .before .before .args .line .now in
+    foul 2 4 line (search needs) (spelt-nothing (take 4 (drop 2 line)) (c .enum-told .given .1) (c .before .before .number .ensures))
 
 returns-3 : tie.Need-returns-3
-returns-3 c = open-read (c .before .before .before .before .before .before .before .args .line .now) (c .before .last .given .0 .0) (c .before .before .before .before .before .before .before .pre) (search needs) (spelt-number (take 4 (drop 2 (c .before .before .before .before .before .before .before .args .line .now))) (c .before .last .given .1) (c .before .before .before .number .ensures))
+returns-3 c =
+    let start = c .before .before .before .before .before .before .before in
+    let line = start .args .line .now in
+    let last = c .before .last .given in
+    let slot = spelt-number (take 4 (drop 2 line)) (last .1) (c .before .before .before .number .ensures) in
+    open-read line (last .0 .0) (start .pre) (search needs) slot
 
 pub read-open-spec : {M : Type 1} → statement M
 read-open-spec =

@@ -43,7 +43,9 @@ enum-told : tie.Need-enum-told
 enum-told c = search needs
 
 returns-4 : tie.Need-returns-4
-returns-4 c = foul 2 4 (c .before .before .before .before .before .before .before .before .args .line .now) (search needs) (spelt-nothing (take 4 (drop 2 (c .before .before .before .before .before .before .before .before .args .line .now))) (c .enum-told .given .1) (c .before .before .number .ensures))
+returns-4 c =
+    let line = c .before .before .before .before .before .before .before .before .args .line .now in
+    foul 2 4 line (search needs) (spelt-nothing (take 4 (drop 2 line)) (c .enum-told .given .1) (c .before .before .number .ensures))
 
 sub-number-2 : tie.Need-sub-number-2
 sub-number-2 c = search needs
@@ -64,7 +66,9 @@ enum-told-2 : tie.Need-enum-told-2
 enum-told-2 c = search needs
 
 returns-5 : tie.Need-returns-5
-returns-5 c = foul 6 8 (c .before .before .before .before .before .before .before .before .before .before .before .before .before .args .line .now) (search needs) (spelt-nothing (take 8 (drop 6 (c .before .before .before .before .before .before .before .before .before .before .before .before .before .args .line .now))) (c .enum-told2 .given .1) (c .before .before .number2 .ensures))
+returns-5 c =
+    let line = c .before .before .before .before .before .before .before .before .before .before .before .before .before .args .line .now in
+    foul 6 8 line (search needs) (spelt-nothing (take 8 (drop 6 line)) (c .enum-told2 .given .1) (c .before .before .number2 .ensures))
 
 part-digits-only-start : tie.Need-part-digits-only-start
 part-digits-only-start c = search needs
@@ -76,17 +80,23 @@ digits-only-requires : tie.Need-digits-only-requires
 digits-only-requires c κs = search needs
 
 returns-6 : tie.Need-returns-6
-returns-6 c = foul 14 (length (c .before .before .before .before .before .before .before .before .before .before .before .before .before .before .before .before .before .args .line .now) - 1 - 14) (c .before .before .before .before .before .before .before .before .before .before .before .before .before .before .before .before .before .args .line .now) (search needs) (sym (c .before .digits-only .ensures) ∙ not-true (c .before .digits-only .result) (c .if4 .taken))
+returns-6 c =
+    let line = c .before .before .before .before .before .before .before .before .before .before .before .before .before .before .before .before .before .args .line .now in
+    let payload = c .before .digits-only in
+    foul 14 (length line - 1 - 14) line (search needs) (sym (payload .ensures) ∙ not-true (payload .result) (c .if4 .taken))
 
 returns-7 : tie.Need-returns-7
 returns-7 c =
-    take-read (c .before .before .before .before .before .before .before .before .before .before .before .before .before .before .before .before .before .args .line .now) (c .before .before .before .before .before .before .before .before .before .due .given .0 .0) (c .before .before .before .before .weight .given .0 .0) (c .before .before .before .before .before .before .before .before .before .before .before .before .before .before .before .before .before .pre)
-    (search needs)
-    (search needs)
-    (c .before .before .before .before .before .before .before .before .before .before .before .before .before .if3 .left)
-    (spelt-number (take 4 (drop 2 (c .before .before .before .before .before .before .before .before .before .before .before .before .before .before .before .before .before .args .line .now))) (c .before .before .before .before .before .before .before .before .before .due .given .1) (c .before .before .before .before .before .before .before .before .before .before .before .number .ensures))
-    (spelt-number (take 8 (drop 6 (c .before .before .before .before .before .before .before .before .before .before .before .before .before .before .before .before .before .args .line .now))) (c .before .before .before .before .weight .given .1) (c .before .before .before .before .before .before .number2 .ensures))
-    (sym (c .before .digits-only .ensures) ∙ not-false (c .before .digits-only .result) (c .if4 .left))
+    let start = c .before .before .before .before .before .before .before .before .before .before .before .before .before .before .before .before .before in
+    let line = start .args .line .now in
+    let due = c .before .before .before .before .before .before .before .before .before in
+    let weight = c .before .before .before .before in
+    let payload = c .before .digits-only in
+    take-read line (due .due .given .0 .0) (weight .weight .given .0 .0) (start .pre) (search needs) (search needs)
+    (due .before .before .before .before .if3 .left)
+    (spelt-number (take 4 (drop 2 line)) (due .due .given .1) (due .before .before .number .ensures))
+    (spelt-number (take 8 (drop 6 line)) (weight .weight .given .1) (weight .before .before .number2 .ensures))
+    (sym (payload .ensures) ∙ not-false (payload .result) (c .if4 .left))
 
 pub read-take-spec : {M : Type 1} → statement M
 read-take-spec =

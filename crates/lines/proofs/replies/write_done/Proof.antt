@@ -27,7 +27,10 @@ same-length c = search needs
 
 returns : tie.Need-returns
 unfolding digits reply-digits reply-text
-returns c = replied 3 (filled-byte 2 10 (filled-digits 0 2 0 (filled-none (c .before .before .before .before .before .args .buffer .now)) refl (search needs) (c .before .before .put-number .ensures)) refl (search needs)) refl
+returns c =
+    let z = c .before .before .before .before .before .args .buffer .now in
+    let one = filled-digits 0 2 0 (filled-none z) refl (search needs) (c .before .before .put-number .ensures) in
+    replied 3 (filled-byte 2 10 one refl (search needs)) refl
 
 pub write-done-spec : {M : Type 1} → statement M
 write-done-spec =

@@ -41,8 +41,9 @@ same-length c = simp length-set (search needs)
 returns : tie.Need-returns
 unfolding digits reply-digits reply-text
 returns c =
-    let one = filled-digits 0 2 255 (filled-none (c .before .before .before .before .before .before .before .before .before .args .buffer .now)) refl (search needs) (c .before .before .before .before .before .before .put-number .ensures) in
-    let two = filled-digits 2 2 (c .before .before .before .before .before .before .before .before .before .args .number) one refl (search needs) (c .before .before .put-number2 .ensures) in
+    let s = c .before .before .before .before .before .before .before .before .before .args in
+    let one = filled-digits 0 2 255 (filled-none (s .buffer .now)) refl (search needs) (c .before .before .before .before .before .before .put-number .ensures) in
+    let two = filled-digits 2 2 (s .number) one refl (search needs) (c .before .before .put-number2 .ensures) in
     replied 5 (filled-byte 4 10 two refl (search needs)) refl
 
 pub write-refusal-spec : {M : Type 1} → statement M

@@ -66,10 +66,12 @@ same-length c = simp length-set (search needs)
 returns : tie.Need-returns
 unfolding digits step-text
 returns c =
-    let one = filled-digits 0 2 2 (filled-none (c .before .before .before .before .before .before .before .before .before .before .before .before .before .before .before .before .before .args .buffer .now)) refl (search needs) (c .before .before .before .before .before .before .before .before .before .before .before .before .before .before .put-number .ensures) in
-    let two = filled-digits 2 2 (c .before .before .before .before .before .before .before .before .before .before .before .before .before .before .before .before .before .args .out) one refl (search needs) (c .before .before .before .before .before .before .before .before .before .before .put-number2 .ensures) in
-    let three = filled-digits 4 2 (c .before .before .before .before .before .before .before .before .before .before .before .before .before .before .before .before .before .args .leap) two refl (search needs) (c .before .before .before .before .before .before .put-number3 .ensures) in
-    let four = filled-digits 6 8 (c .before .before .before .before .before .before .before .before .before .before .before .before .before .before .before .before .before .args .gone .0) three refl (search needs) (c .before .before .put-number4 .ensures) in
+    let s = c .before .before .before .before .before .before .before .before .before .before .before .before .before .before .before .before .before .args in
+    let after = c .before .before .before .before .before .before .before .before .before .before in
+    let one = filled-digits 0 2 2 (filled-none (s .buffer .now)) refl (search needs) (after .before .before .before .before .put-number .ensures) in
+    let two = filled-digits 2 2 (s .out) one refl (search needs) (after .put-number2 .ensures) in
+    let three = filled-digits 4 2 (s .leap) two refl (search needs) (c .before .before .before .before .before .before .put-number3 .ensures) in
+    let four = filled-digits 6 8 (s .gone .0) three refl (search needs) (c .before .before .put-number4 .ensures) in
     replied 15 (filled-byte 14 10 four refl (search needs)) refl
 
 pub write-step-spec : {M : Type 1} → statement M

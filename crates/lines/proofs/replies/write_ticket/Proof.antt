@@ -41,8 +41,9 @@ same-length c = simp length-set (search needs)
 returns : tie.Need-returns
 unfolding digits reply-digits reply-text
 returns c =
-    let one = filled-digits 0 2 1 (filled-none (c .before .before .before .before .before .before .before .before .before .args .buffer .now)) refl (search needs) (c .before .before .before .before .before .before .put-number .ensures) in
-    let two = filled-digits 2 8 (c .before .before .before .before .before .before .before .before .before .args .given .0) one refl (search needs) (c .before .before .put-number2 .ensures) in
+    let s = c .before .before .before .before .before .before .before .before .before .args in
+    let one = filled-digits 0 2 1 (filled-none (s .buffer .now)) refl (search needs) (c .before .before .before .before .before .before .put-number .ensures) in
+    let two = filled-digits 2 8 (s .given .0) one refl (search needs) (c .before .before .put-number2 .ensures) in
     replied 11 (filled-byte 10 10 two refl (search needs)) refl
 
 pub write-ticket-spec : {M : Type 1} → statement M

@@ -9,13 +9,19 @@ enum-known-command : tie.Need-enum-known-command
 enum-known-command c = search needs
 
 returns : tie.Need-returns
-returns c = open-high (c .before .before .before .before .before .before .args .command) (c .before .before .before .before .before .before .args .payload .now) (c .before .before .before .command .given .0 .0) (c .before .before .before .command .given .1) (c .if1 .taken)
+returns c =
+    let s = c .before .before .before .before .before .before .args in
+    let last = c .before .before .before .command .given in
+    open-high (s .command) (s .payload .now) (last .0 .0) (last .1) (c .if1 .taken)
 
 enum-known-command-2 : tie.Need-enum-known-command-2
 enum-known-command-2 c = search needs
 
 returns-2 : tie.Need-returns-2
-returns-2 c = take-high (c .before .before .before .before .before .before .args .command) (c .before .before .before .before .before .before .args .payload .now) (c .before .before .before .command2 .given .0 .0) (c .before .before .before .command2 .given .0 .1 .0) (c .before .before .before .command2 .given .1) (c .if2 .taken)
+returns-2 c =
+    let s = c .before .before .before .before .before .before .args in
+    let both = c .before .before .before .command2 .given in
+    take-high (s .command) (s .payload .now) (both .0 .0) (both .0 .1 .0) (both .1) (c .if2 .taken)
 
 payload-can-stand-requires : tie.Need-payload-can-stand-requires
 payload-can-stand-requires c κs = search needs
@@ -24,10 +30,17 @@ enum-told : tie.Need-enum-told
 enum-told c = search needs
 
 returns-3 : tie.Need-returns-3
-returns-3 c = open-stands (c .before .before .before .before .before .before .args .command) (c .before .before .before .before .before .before .args .payload .now) (c .before .before .before .command .given .0 .0) (c .before .before .before .command .given .1) (c .if1 .left)
+returns-3 c =
+    let s = c .before .before .before .before .before .before .args in
+    let last = c .before .before .before .command .given in
+    open-stands (s .command) (s .payload .now) (last .0 .0) (last .1) (c .if1 .left)
 
 returns-4 : tie.Need-returns-4
-returns-4 c = c .payload-can-stand .ensures ∙ take-stands (c .before .before .before .before .before .before .before .args .command) (c .before .before .before .before .before .before .before .args .payload .now) (c .before .before .before .before .command2 .given .0 .0) (c .before .before .before .before .command2 .given .0 .1 .0) (c .before .before .before .before .command2 .given .1) (search needs) (search needs)
+returns-4 c =
+    let s = c .before .before .before .before .before .before .before .args in
+    let both = c .before .before .before .before .command2 .given in
+    c .payload-can-stand .ensures
+    ∙ take-stands (s .command) (s .payload .now) (both .0 .0) (both .0 .1 .0) (both .1) (search needs) (search needs)
 
 returns-5 : tie.Need-returns-5
 returns-5 c = send-stands (c .before .before .before .args .command) (c .before .before .before .args .payload .now) (c .enum-told .given .1)

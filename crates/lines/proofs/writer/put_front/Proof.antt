@@ -13,13 +13,20 @@ use Rattle.lines.proofs.writer.put_front.Statement.{statement}
 use Rattle.lines.proofs.writer.put_front.Tie as tie
 
 open-room : (c : tie.After-command) → 6 ≤ length (c .before .before .before .args .buffer .now)
-open-room c = omega (arith, c .before .before .before .pre, open-size (c .before .before .before .args .command) (c .command .given .0 .0) (c .command .given .1))
+open-room c =
+    let s = c .before .before .before in
+    omega (arith, s .pre, open-size (s .args .command) (c .command .given .0 .0) (c .command .given .1))
 
 take-room : (c : tie.After-command2) → 14 ≤ length (c .before .before .before .args .buffer .now)
-take-room c = omega (arith, c .before .before .before .pre, take-size (c .before .before .before .args .command) (c .command2 .given .0 .0) (c .command2 .given .0 .1 .0) (c .command2 .given .1))
+take-room c =
+    let s = c .before .before .before in
+    let both = c .command2 .given in
+    omega (arith, s .pre, take-size (s .args .command) (both .0 .0) (both .0 .1 .0) (both .1))
 
 send-room : (c : tie.After-enum-told) → 2 ≤ length (c .before .before .before .args .buffer .now)
-send-room c = omega (arith, c .before .before .before .pre, send-size (c .before .before .before .args .command) (c .enum-told .given .1))
+send-room c =
+    let s = c .before .before .before in
+    omega (arith, s .pre, send-size (s .args .command) (c .enum-told .given .1))
 
 enum-known-command : tie.Need-enum-known-command
 enum-known-command c = search needs
@@ -97,7 +104,7 @@ part-put-number-start-6 : tie.Need-part-put-number-start-6
 part-put-number-start-6 c = search needs
 
 part-put-number-end-6 : tie.Need-part-put-number-end-6
-part-put-number-end-6 c = omega (arith, send-room (c))
+part-put-number-end-6 c = omega (arith, send-room c)
 
 put-number-requires-6 : tie.Need-put-number-requires-6
 put-number-requires-6 c κs = search needs
@@ -108,10 +115,12 @@ same-length c = search needs
 returns : tie.Need-returns
 unfolding digits front
 returns c =
-    let r = open-room (c .before .before .before .before .before .before .before .before .before) in
-    let one = filled-digits 0 2 0 (filled-none (c .before .before .before .before .before .before .before .before .before .before .before .before .args .buffer .now)) refl (omega arith) (c .before .before .before .before .before .before .put-number .ensures) in
-    let two = filled-digits 2 4 (c .before .before .before .before .before .before .before .before .before .command .given .0 .0 .0) one refl (omega arith) (c .before .before .put-number2 .ensures) in
-    front-filled (command-of (c .before .before .before .before .before .before .before .before .before .before .before .before .args .command)) (rw (c .before .before .before .before .before .before .before .before .before .command .given .1)) two
+    let command = c .before .before .before .before .before .before .before .before .before in
+    let r = open-room command in
+    let s = c .before .before .before .before .before .before .before .before .before .before .before .before .args in
+    let one = filled-digits 0 2 0 (filled-none (s .buffer .now)) refl (omega arith) (c .before .before .before .before .before .before .put-number .ensures) in
+    let two = filled-digits 2 4 (command .command .given .0 .0 .0) one refl (omega arith) (c .before .before .put-number2 .ensures) in
+    front-filled (command-of (s .command)) (rw (command .command .given .1)) two
 
 same-length-2 : tie.Need-same-length-2
 same-length-2 c = search needs
@@ -119,11 +128,13 @@ same-length-2 c = search needs
 returns-2 : tie.Need-returns-2
 unfolding digits front
 returns-2 c =
-    let r = take-room (c .before .before .before .before .before .before .before .before .before .before .before .before .before) in
-    let one = filled-digits 0 2 1 (filled-none (c .before .before .before .before .before .before .before .before .before .before .before .before .before .before .before .before .args .buffer .now)) refl (omega arith) (c .before .before .before .before .before .before .before .before .before .before .put-number3 .ensures) in
-    let two = filled-digits 2 4 (c .before .before .before .before .before .before .before .before .before .before .before .before .before .command2 .given .0 .0 .0) one refl (omega arith) (c .before .before .before .before .before .before .put-number4 .ensures) in
-    let three = filled-digits 6 8 (c .before .before .before .before .before .before .before .before .before .before .before .before .before .command2 .given .0 .1 .0 .0) two refl (omega arith) (c .before .before .put-number5 .ensures) in
-    front-filled (command-of (c .before .before .before .before .before .before .before .before .before .before .before .before .before .before .before .before .args .command)) (rw (c .before .before .before .before .before .before .before .before .before .before .before .before .before .command2 .given .1)) three
+    let command = c .before .before .before .before .before .before .before .before .before .before .before .before .before in
+    let r = take-room command in
+    let s = c .before .before .before .before .before .before .before .before .before .before .before .before .before .before .before .before .args in
+    let one = filled-digits 0 2 1 (filled-none (s .buffer .now)) refl (omega arith) (c .before .before .before .before .before .before .before .before .before .before .put-number3 .ensures) in
+    let two = filled-digits 2 4 (command .command2 .given .0 .0 .0) one refl (omega arith) (c .before .before .before .before .before .before .put-number4 .ensures) in
+    let three = filled-digits 6 8 (command .command2 .given .0 .1 .0 .0) two refl (omega arith) (c .before .before .put-number5 .ensures) in
+    front-filled (command-of (s .command)) (rw (command .command2 .given .1)) three
 
 same-length-3 : tie.Need-same-length-3
 same-length-3 c = search needs
@@ -131,9 +142,11 @@ same-length-3 c = search needs
 returns-3 : tie.Need-returns-3
 unfolding digits front
 returns-3 c =
-    let r = send-room (c .before .before .before .before) in
-    let one = filled-digits 0 2 2 (filled-none (c .before .before .before .before .before .before .before .args .buffer .now)) refl (omega arith) (c .before .before .put-number6 .ensures) in
-    front-filled (command-of (c .before .before .before .before .before .before .before .args .command)) (rw (c .before .before .before .before .enum-told .given .1)) one
+    let command = c .before .before .before .before in
+    let r = send-room command in
+    let s = c .before .before .before .before .before .before .before .args in
+    let one = filled-digits 0 2 2 (filled-none (s .buffer .now)) refl (omega arith) (c .before .before .put-number6 .ensures) in
+    front-filled (command-of (s .command)) (rw (command .enum-told .given .1)) one
 
 pub put-front-spec : {M : Type 1} → statement M
 put-front-spec =

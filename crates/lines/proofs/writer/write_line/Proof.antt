@@ -1,19 +1,27 @@
 -- `lines::write_line` meets its contract: the refusals in their order; then front, payload and 0A. Assumes nothing.
-use mathlib.Core.Path.{sym, _∙_}
+use mathlib.Core.Bool.{true}
+use mathlib.Core.Path.{_≡_, sym, _∙_}
 use native.Mathlib.Omega.{arith}
 use lib.ListN.{length-set}
 use borrow.Author.Needs.{needs}
 use borrow.Author.Tests.{not-true, not-false}
+use Rattle.rules.specs.Lines.{stands}
 use Rattle.lines.specs.Cases.{command-of}
 use Rattle.lines.proofs.Writing.{front-small, write-unfit, write-full, write-on}
 use Rattle.lines.proofs.writer.write_line.Statement.{statement}
 use Rattle.lines.proofs.writer.write_line.Tie as tie
 
+stands-here : (c : tie.Else1) → stands (command-of (c .before .before .before .before .args .command)) (c .before .before .before .before .args .payload .now) ≡ true
+stands-here c = sym (c .before .can-stand .ensures) ∙ not-false (c .before .can-stand .result) (c .if1 .left)
+
 can-stand-requires : tie.Need-can-stand-requires
 can-stand-requires c κs = search needs
 
 returns : tie.Need-returns
-returns c = write-unfit (command-of (c .before .before .before .before .args .command)) (c .before .before .before .before .args .payload .now) (c .before .before .before .before .args .buffer .now) (sym (c .before .can-stand .ensures) ∙ not-true (c .before .can-stand .result) (c .if1 .taken))
+returns c =
+    let s = c .before .before .before .before .args in
+    let can = c .before .can-stand in
+    write-unfit (command-of (s .command)) (s .payload .now) (s .buffer .now) (sym (can .ensures) ∙ not-true (can .result) (c .if1 .taken))
 
 front-size-requires : tie.Need-front-size-requires
 front-size-requires c κs = search needs
@@ -22,7 +30,9 @@ add-end : tie.Need-add-end
 add-end c = omega (arith, c .front-size .ensures, front-small (command-of (c .before .before .before .before .before .args .command)))
 
 returns-2 : tie.Need-returns-2
-returns-2 c = write-full (command-of (c .before .before .before .before .before .before .args .command)) (c .before .before .before .before .before .before .args .payload .now) (c .before .before .before .before .before .before .args .buffer .now) (sym (c .before .before .before .can-stand .ensures) ∙ not-false (c .before .before .before .can-stand .result) (c .before .before .if1 .left)) (omega (arith, c .before .front-size .ensures))
+returns-2 c =
+    let s = c .before .before .before .before .before .before .args in
+    write-full (command-of (s .command)) (s .payload .now) (s .buffer .now) (stands-here (c .before .before)) (omega (arith, c .before .front-size .ensures))
 
 put-front-requires : tie.Need-put-front-requires
 put-front-requires c κs = omega (arith, c .before .before .front-size .ensures)
@@ -49,7 +59,15 @@ same-length : tie.Need-same-length
 same-length c = simp length-set (search needs)
 
 returns-3 : tie.Need-returns-3
-returns-3 c = write-on (command-of (c .before .before .before .before .before .before .before .before .before .before .before .before .before .before .args .command)) (c .before .before .before .before .before .before .before .before .before .before .before .before .before .before .args .payload .now) (c .before .before .before .before .before .before .before .before .before .before .before .before .before .before .args .buffer .now) (c .before .before .before .before .before .before .put-front .last .1 .0) (c .before .before .put-bytes .last .1 .0) (c .before .before .before .before .before .before .before .before .before .front-size .result) (sym (c .before .before .before .before .before .before .before .before .before .before .before .can-stand .ensures) ∙ not-false (c .before .before .before .before .before .before .before .before .before .before .before .can-stand .result) (c .before .before .before .before .before .before .before .before .before .before .if1 .left)) (c .before .before .before .before .before .before .before .before .before .front-size .ensures) (c .before .before .before .before .before .before .before .before .if2 .left) (c .before .before .before .before .before .before .put-front .ensures) (c .before .before .put-bytes .ensures)
+returns-3 c =
+    let put = c .before .before .before .before .before .before in
+    let room = put .before .before in
+    let start = c .before .before .before .before .before .before .before .before .before .before .before .before .before .before .args in
+    write-on (command-of (start .command)) (start .payload .now) (start .buffer .now) (stands-here (room .before .before))
+    (room .before .front-size .ensures)
+    (room .if2 .left)
+    (put .put-front .ensures)
+    (c .before .before .put-bytes .ensures)
 
 pub write-line-spec : {M : Type 1} → statement M
 write-line-spec =

@@ -33,9 +33,9 @@ filled-part a k ys {xs} {zs} {b} f l m h =
     record { room = omega arith; stand = rw (t, d, e) (sym (append-assoc xs ys (drop (length (xs ++ ys)) zs))) }
 
 -- a number in k digits more, as a part of k bytes takes it
-pub filled-digits : (a k v : ℕ) {xs zs b ys : List ℕ} → Filled xs zs b → length xs ≡ a → a + k ≤ length zs →
+pub filled-digits : (a k v : ℕ) (ys : List ℕ) {xs zs b : List ℕ} → Filled xs zs b → length xs ≡ a → a + k ≤ length zs →
     ys ≡ digits (length (take k (drop a b))) v → Filled (xs ++ digits k v) zs (take a b ++ (ys ++ drop k (drop a b)))
-filled-digits a k v {xs} {zs} {b} {ys} f l h e =
+filled-digits a k v ys {xs} {zs} {b} f l h e =
     let n : length (take k (drop a b)) ≡ k = length-take-le k (drop a b) (omega (arith, length-drop a b, filled-length f)) in
     let q : ys ≡ digits k v = e ∙ ap (λ (i : ℕ). digits i v) n in
     rw q (filled-part a k (digits k v) f l (length-digits k v) h)

@@ -21,42 +21,38 @@ use Rattle.lines.specs.Cases.{reading-of}
 use Rattle.lines.specs.Part.{Placed, Part}
 
 -- THE PLACE, by what the line is read as
-pub placed-short : (line : List ℕ) → length line ≤ suc payload-at → Placed line 0 0
-unfolding payload-place place-of
-placed-short line h = told (read line) refl
-  where
-    told : (r : rules.Reading) → read line ≡ r → Placed line 0 0
-    told (command (open-line l)) e = record { starts = rw e; ends = rw e }
-    told (command (take-line d w)) e =
-        let n = le-ltb (suc payload-at) (length line) h in
-        record { starts = rw (e, n); ends = rw (e, n) }
-    told (command send-line) e = record { starts = rw e; ends = rw e }
-    told broken e = record { starts = rw e; ends = rw e }
-
-module _ (line : List ℕ) {r : Reading} (reads : reading-of r ≡ read line) where
-  pub placed-broken : r ≡ Broken → Placed line 0 0
+module _ (line : List ℕ) {r : Reading} (reads : reading-of r ≡ read line) {start end : ℕ} where
+  pub placed-broken : r ≡ Broken → start ≡ 0 → end ≡ 0 → Placed line start end
   unfolding payload-place place-of
-  placed-broken e = let h : read line ≡ broken = sym reads ∙ ap reading-of e in record { starts = rw h; ends = rw h }
+  placed-broken e p q = let h : read line ≡ broken = sym reads ∙ ap reading-of e in record { starts = rw (p, h); ends = rw (q, h) }
 
-  pub placed-open : {c : Command} (l : Slot) → r ≡ Is c → c ≡ Open l → Placed line 0 0
-  unfolding payload-place place-of
-  placed-open l e f =
-      let h : read line ≡ command (open-line (l .0)) = sym reads ∙ ap reading-of (e ∙ ap Is f) in
-      record { starts = rw h; ends = rw h }
+  module _ {c : Command} (is : r ≡ Is c) where
+    pub placed-open : (l : Slot) → c ≡ Open l → start ≡ 0 → end ≡ 0 → Placed line start end
+    unfolding payload-place place-of
+    placed-open l e p q =
+        let h : read line ≡ command (open-line (l .0)) = sym reads ∙ ap reading-of (is ∙ ap Is e) in
+        record { starts = rw (p, h); ends = rw (q, h) }
 
-  pub placed-send : {c : Command} → r ≡ Is c → c ≡ Send → Placed line 0 0
-  unfolding payload-place place-of
-  placed-send e f =
-      let h : read line ≡ command send-line = sym reads ∙ ap reading-of (e ∙ ap Is f) in
-      record { starts = rw h; ends = rw h }
+    pub placed-send : c ≡ Send → start ≡ 0 → end ≡ 0 → Placed line start end
+    unfolding payload-place place-of
+    placed-send e p q =
+        let h : read line ≡ command send-line = sym reads ∙ ap reading-of (is ∙ ap Is e) in
+        record { starts = rw (p, h); ends = rw (q, h) }
 
-  pub placed-take : {c : Command} (d : Slot) (w : Weight) → r ≡ Is c → c ≡ Take d w → suc payload-at < length line →
-      Placed line payload-at (length line - 1)
-  unfolding payload-place place-of
-  placed-take d w e f l =
-      let h : read line ≡ command (take-line (d .0) (w .0)) = sym reads ∙ ap reading-of (e ∙ ap Is f) in
-      let n = lt-ltb (suc payload-at) (length line) l in
-      record { starts = rw (h, n); ends = rw (h, n) }
+    pub placed-take : (d : Slot) (w : Weight) → c ≡ Take d w → suc payload-at < length line → start ≡ payload-at → end ≡ length line - 1 →
+        Placed line start end
+    unfolding payload-place place-of
+    placed-take d w e l p q =
+        let h : read line ≡ command (take-line (d .0) (w .0)) = sym reads ∙ ap reading-of (is ∙ ap Is e) in
+        let n = lt-ltb (suc payload-at) (length line) l in
+        record { starts = rw (p, h, n); ends = rw (q, h, n) }
+
+    pub placed-bare : (d : Slot) (w : Weight) → c ≡ Take d w → length line ≤ suc payload-at → start ≡ 0 → end ≡ 0 → Placed line start end
+    unfolding payload-place place-of
+    placed-bare d w e l p q =
+        let h : read line ≡ command (take-line (d .0) (w .0)) = sym reads ∙ ap reading-of (is ∙ ap Is e) in
+        let n = le-ltb (suc payload-at) (length line) l in
+        record { starts = rw (p, h, n); ends = rw (q, h, n) }
 
 -- it lies within the line
 pub place-within : (line : List ℕ) → (payload-place line .start ≤ payload-place line .end) × (payload-place line .end ≤ length line)
@@ -71,17 +67,17 @@ place-within line = told (read line) (length line)
     told broken n = (omega arith, omega arith)
 
 -- the part from start to end is the payload, in the line's memory
-pub placed-part : (line : RefT (List ℕ)) (start end : ℕ) → Placed (line .now) start end → (name : ℕ) →
+pub placed-part : (line : RefT (List ℕ)) (start end name : ℕ) → start ≡ payload-place (line .now) .start → end ≡ payload-place (line .now) .end →
     Part line (record { ptr = (line .ptr .0, start + line .ptr .1); name = name; now = take (end - start) (drop start (line .now)) })
 unfolding payload
-placed-part line start end p name =
-    let q = payload-place (line .now) in
+placed-part line start end name p q =
+    let place = payload-place (line .now) in
     let h = place-within (line .now) in
-    let b : take (end - start) (drop start (line .now)) ≡ payload (line .now) = rw (p .starts, p .ends) in
-    let n : length (drop (q .start) (line .now)) ≡ length (line .now) - q .start = length-drop (q .start) (line .now) in
+    let b : take (end - start) (drop start (line .now)) ≡ payload (line .now) = rw (p, q) in
+    let n : length (drop (place .start) (line .now)) ≡ length (line .now) - place .start = length-drop (place .start) (line .now) in
     record {
       bytes = b;
-      long = ap length b ∙ length-take-le (q .end - q .start) (drop (q .start) (line .now)) (omega (arith, n, h .0, h .1));
+      long = ap length b ∙ length-take-le (place .end - place .start) (drop (place .start) (line .now)) (omega (arith, n, h .0, h .1));
       block = refl;
-      starts = omega (arith, p .starts);
+      starts = omega (arith, p);
     }

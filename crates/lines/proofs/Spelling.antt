@@ -107,14 +107,14 @@ drop-set : (l : List ℕ) (i a : ℕ) → i < length l → drop i (set l i a) �
 drop-set l i a h =
     drop-cons (set l i a) i 0 (omega (arith, length-set l i a)) ∙ rw (getD-set-same l i a 0 h, drop-set-lt (suc i) l i a (omega arith))
 
-pub put-more : {value : ℕ} {part : List ℕ} {rest i a : ℕ} → Put value part rest i → 0 < i → a ≡ digit (rest % 16) →
-    Put value (set part (i - 1) a) (rest / 16) (i - 1)
-put-more {part = part} {rest = rest} {i = i} {a = a} p h e =
+pub put-more : {value : ℕ} {part : List ℕ} {rest i a next : ℕ} → Put value part rest i → 0 < i → a ≡ digit (rest % 16) → next ≡ rest / 16 →
+    Put value (set part (i - 1) a) next (i - 1)
+put-more {part = part} {rest = rest} {i = i} {a = a} p h e q =
     let j = i - 1 in
     let s : suc j ≡ i = omega arith in
     record {
       within = omega (arith, length-set part j a, p .within);
-      stands = rw (length-set, drop-set part j a (omega arith), e) (sym (digits-step j rest (drop (suc j) part)) ∙ rw s (p .stands));
+      stands = rw (length-set, drop-set part j a (omega arith), e, q) (sym (digits-step j rest (drop (suc j) part)) ∙ rw s (p .stands));
     }
 
 pub put-whole : {value : ℕ} {part : List ℕ} {rest i : ℕ} → Put value part rest i → i ≤ 0 → part ≡ digits (length part) value

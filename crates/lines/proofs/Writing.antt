@@ -94,19 +94,19 @@ front-small rules.send-line = omega arith
 
 -- THE ANSWERS
 module _ (c : rules.Command) (ps z : List ℕ) where
-  pub write-unfit : stands c ps ≡ false → Writes c ps z z (Refused 1)
-  write-unfit e = let w = write-refused c ps z 0 (unfit c ps (length z) e) in record { reply = sym (w .0); left = sym (w .1) }
+  pub write-unfit : {n : ℕ} → stands c ps ≡ false → n ≡ 1 → Writes c ps z z (Refused n)
+  write-unfit e q = let w = write-refused c ps z 0 (unfit c ps (length z) e) in record { reply = rw q (sym (w .0)); left = sym (w .1) }
 
-  pub write-full : stands c ps ≡ true → length z ≤ front-size c + length ps → Writes c ps z z (Refused 12)
-  write-full e h =
+  pub write-full : {n : ℕ} → stands c ps ≡ true → length z ≤ front-size c + length ps → n ≡ 12 → Writes c ps z z (Refused n)
+  write-full e h q =
       let w = write-refused c ps z 11 (no-room c ps (length z) e (omega (arith, length-text c ps))) in
-      record { reply = sym (w .0); left = sym (w .1) }
+      record { reply = rw q (sym (w .0)); left = sym (w .1) }
 
   -- the front stands in b; then the payload and the 0A are put
-  pub write-on : {b ys : List ℕ} {f : ℕ} → stands c ps ≡ true → f ≡ front-size c → f + length ps < length z →
-      b ≡ front c ++ drop (front-size c) z → ys ≡ ps →
-      Writes c ps z (set (take f b ++ (ys ++ drop (f + length ps - f) (drop f b))) (f + length ps) line-end) (Length (f + length ps + 1))
-  write-on {b} {f = f} e g h q p =
+  pub write-on : {b ys : List ℕ} {f n : ℕ} → stands c ps ≡ true → f ≡ front-size c → f + length ps < length z →
+      b ≡ front c ++ drop (front-size c) z → ys ≡ ps → n ≡ f + length ps + 1 →
+      Writes c ps z (set (take f b ++ (ys ++ drop (f + length ps - f) (drop f b))) (f + length ps) line-end) (Length n)
+  write-on {b} {f = f} e g h q p o =
       let l : length (front c) ≡ f = length-front c ∙ sym g in
       let k : f + length ps - f ≡ length ps = omega arith in
       let one : Filled (front c) z b = record { room = omega arith; stand = rw (length-front c) q } in
@@ -115,14 +115,14 @@ module _ (c : rules.Command) (ps z : List ℕ) where
       let all = filled-byte (f + length ps) line-end two n h in
       let t = text-front c ps in
       let w = write-done c ps z (room c ps (length z) e (rw t (all .room))) in
-      rw (p, k) record {
+      rw (p, k, o) record {
         reply = rw (length-text c ps, ← g) at (sym (w .0));
         left = rw (← t) at (all .stand) ∙ sym (w .1);
       }
 
 -- REPLY LINES
-pub replied : {xs zs b : List ℕ} (r : ℕ) → Filled xs zs b → r ≡ length xs → Replies xs zs b r
-replied r f e = record { long = e; left = f .stand }
+pub replied : {xs zs b : List ℕ} {r : ℕ} → Filled xs zs b → r ≡ length xs → Replies xs zs b r
+replied f e = record { long = e; left = f .stand }
 
 -- a step's line by its numbers
 pub ordinary-said : (o : Out) → step-text (out-number o) 0 (out-ticket o) ≡ reply-text (step (ordinary o))

@@ -1,6 +1,5 @@
 // A line's payload: its place, and that part of the caller's line.
-ghost use mathlib.Core.Path.{_≡_};
-ghost use Rattle.lines.specs.Part.{Placed, Part};
+ghost use Rattle.lines.specs.Part.{Part, Placed};
 use crate::Command;
 use crate::PAYLOAD_AT;
 use crate::Place;
@@ -11,23 +10,28 @@ use crate::read_command;
 pub fn payload_place(line: &[u8]) -> Place
     ensures { λ r. ⌜ Placed (now (line .entry)) (r .start) (r .end) ⌝ }
 {
-    let n = line.len();
-    if n <= PAYLOAD_AT + 1 {
-        return Place { start: 0, end: 0 };
-    }
+    let none = Place { start: 0, end: 0 };
     let Reading::Is(command) = read_command(line) else {
-        return Place { start: 0, end: 0 };
+        return none;
     };
     match command {
-        Command::Take(_, _) => Place {
-            start: PAYLOAD_AT,
-            end: n - 1,
-        },
-        Command::Open(_) => Place { start: 0, end: 0 },
-        Command::Send => Place { start: 0, end: 0 },
+        Command::Take(_, _) => {
+            let n = line.len();
+            if PAYLOAD_AT + 1 < n {
+                Place {
+                    start: PAYLOAD_AT,
+                    end: n - 1,
+                }
+            } else {
+                none
+            }
+        }
+        Command::Open(_) => none,
+        Command::Send => none,
     }
 }
 
+// The payload digits, where they stand in the line.
 pub fn payload(line: &[u8]) -> &[u8]
     ensures { λ r. ⌜ Part (line .entry) r ⌝ }
 {

@@ -28,7 +28,7 @@ loop-less : tie.Need-loop-less Inv-loop μ-loop
 loop-less c = search needs
 
 loop-again : tie.Need-loop-again Inv-loop μ-loop
-loop-again c = (put-more (c .before .before .loop .inv .0) (search needs) (c .digit .ensures), simp length-set (search needs))
+loop-again c = (put-more (c .before .before .loop .inv .0) (search needs) (c .digit .ensures) (search needs), simp length-set (search needs))
 
 same-length : tie.Need-same-length Inv-loop μ-loop
 same-length c = search needs

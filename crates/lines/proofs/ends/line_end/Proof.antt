@@ -21,7 +21,7 @@ shared-slice-read-if1 : tie.Need-shared-slice-read-if1 Inv-loop μ-loop
 shared-slice-read-if1 c = search needs
 
 returns : tie.Need-returns Inv-loop μ-loop
-returns c = record { after = search needs; within = search needs; ends = c .if1 .taken; first = c .before .before .before .loop .inv .1 }
+returns c = record { after = search needs; within = search needs; ends = search needs; first = c .before .before .before .loop .inv .1 }
 
 add-i : tie.Need-add-i Inv-loop μ-loop
 add-i c = search needs
@@ -33,7 +33,7 @@ loop-again : tie.Need-loop-again Inv-loop μ-loop
 loop-again c =
     let l = c .before .before .before .loop in
     let s = c .before .before .before .before .args in
-    (search needs, none-more (s .input .now) (s .from) (l .i) (l .inv .1) (c .if1 .left))
+    (search needs, none-more (s .input .now) (s .from) (l .i) (l .inv .1) (λ e. omega (arith, c .if1 .left)))
 
 returns-2 : tie.Need-returns-2 Inv-loop μ-loop
 returns-2 c = λ k h g e. c .before .loop .inv .1 k h (omega arith) e

@@ -18,18 +18,18 @@ payload-place-requires : tie.Need-payload-place-requires
 payload-place-requires c κs = search needs
 
 sub-result : tie.Need-sub-result
-sub-result c = within c .0
+sub-result c = omega (arith, within c .0)
 
 part-result-start : tie.Need-part-result-start
-part-result-start c = within c .0
+part-result-start c = omega (arith, within c .0)
 
 part-result-end : tie.Need-part-result-end
-part-result-end c = within c .1
+part-result-end c = omega (arith, within c .1)
 
 returns : tie.Need-returns
 returns c =
-    let place = c .before .payload-place in
-    placed-part (c .before .before .before .args .line) (place .result .start) (place .result .end) (place .ensures) (c .result .given .0)
+    let place = c .before .payload-place .result in
+    placed-part (c .before .before .before .args .line) (place .start) (place .end) (c .result .given .0) (search needs) (search needs)
 
 pub payload-spec : {M : Type 1} → statement M
 payload-spec =

@@ -1,4 +1,5 @@
 -- `lines::read_command` meets its contract: each way out is a way in which a line is broken, or a line begun. Assumes nothing.
+use native.Mathlib.Omega.{arith}
 use lib.ListN.{take}
 use borrow.Author.Needs.{needs}
 use Rattle.lines.specs.Spelling.{Begun}
@@ -16,7 +17,7 @@ shared-slice-read-if2 : tie.Need-shared-slice-read-if2
 shared-slice-read-if2 c = search needs
 
 returns-2 : tie.Need-returns-2
-returns-2 c = unended (c .before .before .before .before .args .line .now) (c .if2 .taken)
+returns-2 c = unended (c .before .before .before .before .args .line .now) (λ e. omega (arith, c .if2 .taken))
 
 sub-number : tie.Need-sub-number
 sub-number c = search needs
@@ -45,7 +46,7 @@ begun-here : (c : tie.After-known-told) → Begun (c .before .kind .given .0 .0)
 begun-here c =
     let line = c .before .before .before .before .before .before .before .before .before .args .line .now in
     let kind = c .before .kind .given in
-    begun (kind .0 .0) line (search needs) (c .before .before .before .before .before .if2 .left) (spelt-number (take 2 line) (kind .1) (c .before .before .before .number .ensures))
+    begun (kind .0 .0) line (search needs) (search needs) (spelt-number (take 2 line) (kind .1) (c .before .before .before .number .ensures))
 
 read-open-requires : tie.Need-read-open-requires
 read-open-requires c κs = rw (c .match2 .keys1) at (begun-here (c .before))

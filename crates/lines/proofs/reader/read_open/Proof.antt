@@ -1,4 +1,5 @@
 -- `lines::read_open` meets its contract: a line begun by 00. Assumes nothing.
+use native.Mathlib.Omega.{arith}
 use lib.ListN.{take, drop}
 use borrow.Author.Needs.{needs}
 use Rattle.lines.proofs.Commands.{spelt-number, spelt-nothing, foul, open-long, open-read}
@@ -9,7 +10,7 @@ add-if1 : tie.Need-add-if1
 add-if1 c = search needs
 
 returns : tie.Need-returns
-returns c = open-long (c .before .before .args .line .now) (c .before .before .pre) (c .if1 .taken)
+returns c = open-long (c .before .before .args .line .now) (c .before .before .pre) (λ e. omega (arith, c .if1 .taken))
 
 sub-number : tie.Need-sub-number
 sub-number c = search needs

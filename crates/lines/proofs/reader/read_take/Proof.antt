@@ -22,7 +22,7 @@ returns-2 : tie.Need-returns-2
 returns-2 c = take-long (c .before .before .before .args .line .now) (c .before .before .before .pre) (λ g h e. omega arith)
 
 returns-3 : tie.Need-returns-3
-returns-3 c = take-long (c .before .before .before .before .args .line .now) (c .before .before .before .before .pre) (λ g h e. c .if3 .taken e)
+returns-3 c = take-long (c .before .before .before .before .args .line .now) (c .before .before .before .before .pre) (λ g h e. omega (arith, c .if3 .taken))
 
 sub-number : tie.Need-sub-number
 sub-number c = search needs
@@ -93,7 +93,7 @@ returns-7 c =
     let weight = c .before .before .before .before in
     let payload = c .before .digits-only in
     take-read line (due .due .given .0 .0) (weight .weight .given .0 .0) (start .pre) (search needs) (search needs)
-    (due .before .before .before .before .if3 .left)
+    (search needs)
     (spelt-number (take 4 (drop 2 line)) (due .due .given .1) (due .before .before .number .ensures))
     (spelt-number (take 8 (drop 6 line)) (weight .weight .given .1) (weight .before .before .number2 .ensures))
     (sym (payload .ensures) ∙ not-false (payload .result) (c .if4 .left))

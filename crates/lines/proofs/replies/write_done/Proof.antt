@@ -29,8 +29,8 @@ returns : tie.Need-returns
 unfolding digits reply-digits reply-text
 returns c =
     let z = c .before .before .before .before .before .args .buffer .now in
-    let one = filled-digits 0 2 0 (filled-none z) refl (search needs) (c .before .before .put-number .ensures) in
-    replied 3 (filled-byte 2 10 one refl (search needs)) refl
+    let one = filled-digits 0 2 0 (c .before .before .put-number .last .1 .0) (filled-none z) refl (search needs) cc in
+    replied (filled-byte 2 10 one refl (search needs)) (search needs)
 
 pub write-done-spec : {M : Type 1} → statement M
 write-done-spec =

@@ -42,9 +42,9 @@ returns : tie.Need-returns
 unfolding digits reply-digits reply-text
 returns c =
     let s = c .before .before .before .before .before .before .before .before .before .args in
-    let one = filled-digits 0 2 255 (filled-none (s .buffer .now)) refl (search needs) (c .before .before .before .before .before .before .put-number .ensures) in
-    let two = filled-digits 2 2 (s .number) one refl (search needs) (c .before .before .put-number2 .ensures) in
-    replied 5 (filled-byte 4 10 two refl (search needs)) refl
+    let one = filled-digits 0 2 255 (c .before .before .before .before .before .before .put-number .last .1 .0) (filled-none (s .buffer .now)) refl (search needs) cc in
+    let two = filled-digits 2 2 (s .number) (c .before .before .put-number2 .last .1 .0) one refl (search needs) cc in
+    replied (filled-byte 4 10 two refl (search needs)) (search needs)
 
 pub write-refusal-spec : {M : Type 1} → statement M
 write-refusal-spec =

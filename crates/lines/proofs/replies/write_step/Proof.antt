@@ -68,11 +68,11 @@ unfolding digits step-text
 returns c =
     let s = c .before .before .before .before .before .before .before .before .before .before .before .before .before .before .before .before .before .args in
     let after = c .before .before .before .before .before .before .before .before .before .before in
-    let one = filled-digits 0 2 2 (filled-none (s .buffer .now)) refl (search needs) (after .before .before .before .before .put-number .ensures) in
-    let two = filled-digits 2 2 (s .out) one refl (search needs) (after .put-number2 .ensures) in
-    let three = filled-digits 4 2 (s .leap) two refl (search needs) (c .before .before .before .before .before .before .put-number3 .ensures) in
-    let four = filled-digits 6 8 (s .gone .0) three refl (search needs) (c .before .before .put-number4 .ensures) in
-    replied 15 (filled-byte 14 10 four refl (search needs)) refl
+    let one = filled-digits 0 2 2 (after .before .before .before .before .put-number .last .1 .0) (filled-none (s .buffer .now)) refl (search needs) cc in
+    let two = filled-digits 2 2 (s .out) (after .put-number2 .last .1 .0) one refl (search needs) cc in
+    let three = filled-digits 4 2 (s .leap) (c .before .before .before .before .before .before .put-number3 .last .1 .0) two refl (search needs) cc in
+    let four = filled-digits 6 8 (s .gone .0) (c .before .before .put-number4 .last .1 .0) three refl (search needs) cc in
+    replied (filled-byte 14 10 four refl (search needs)) (search needs)
 
 pub write-step-spec : {M : Type 1} → statement M
 write-step-spec =

@@ -12,7 +12,7 @@ returns : tie.Need-returns
 returns c =
     let s = c .before .before .before .before .before .before .args in
     let last = c .before .before .before .command .given in
-    open-high (s .command) (s .payload .now) (last .0 .0) (last .1) (c .if1 .taken)
+    open-high (s .command) (s .payload .now) (last .0 .0) (last .1) (search needs)
 
 enum-known-command-2 : tie.Need-enum-known-command-2
 enum-known-command-2 c = search needs
@@ -21,7 +21,7 @@ returns-2 : tie.Need-returns-2
 returns-2 c =
     let s = c .before .before .before .before .before .before .args in
     let both = c .before .before .before .command2 .given in
-    take-high (s .command) (s .payload .now) (both .0 .0) (both .0 .1 .0) (both .1) (c .if2 .taken)
+    take-high (s .command) (s .payload .now) (both .0 .0) (both .0 .1 .0) (both .1) (search needs)
 
 payload-can-stand-requires : tie.Need-payload-can-stand-requires
 payload-can-stand-requires c κs = search needs
@@ -33,7 +33,7 @@ returns-3 : tie.Need-returns-3
 returns-3 c =
     let s = c .before .before .before .before .before .before .args in
     let last = c .before .before .before .command .given in
-    open-stands (s .command) (s .payload .now) (last .0 .0) (last .1) (c .if1 .left)
+    open-stands (s .command) (s .payload .now) (last .0 .0) (last .1) (search needs)
 
 returns-4 : tie.Need-returns-4
 returns-4 c =

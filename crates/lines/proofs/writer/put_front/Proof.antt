@@ -118,8 +118,8 @@ returns c =
     let command = c .before .before .before .before .before .before .before .before .before in
     let r = open-room command in
     let s = c .before .before .before .before .before .before .before .before .before .before .before .before .args in
-    let one = filled-digits 0 2 0 (filled-none (s .buffer .now)) refl (omega arith) (c .before .before .before .before .before .before .put-number .ensures) in
-    let two = filled-digits 2 4 (command .command .given .0 .0 .0) one refl (omega arith) (c .before .before .put-number2 .ensures) in
+    let one = filled-digits 0 2 0 (c .before .before .before .before .before .before .put-number .last .1 .0) (filled-none (s .buffer .now)) refl (omega arith) cc in
+    let two = filled-digits 2 4 (command .command .given .0 .0 .0) (c .before .before .put-number2 .last .1 .0) one refl (omega arith) cc in
     front-filled (command-of (s .command)) (rw (command .command .given .1)) two
 
 same-length-2 : tie.Need-same-length-2
@@ -131,9 +131,10 @@ returns-2 c =
     let command = c .before .before .before .before .before .before .before .before .before .before .before .before .before in
     let r = take-room command in
     let s = c .before .before .before .before .before .before .before .before .before .before .before .before .before .before .before .before .args in
-    let one = filled-digits 0 2 1 (filled-none (s .buffer .now)) refl (omega arith) (c .before .before .before .before .before .before .before .before .before .before .put-number3 .ensures) in
-    let two = filled-digits 2 4 (command .command2 .given .0 .0 .0) one refl (omega arith) (c .before .before .before .before .before .before .put-number4 .ensures) in
-    let three = filled-digits 6 8 (command .command2 .given .0 .1 .0 .0) two refl (omega arith) (c .before .before .put-number5 .ensures) in
+    let put = c .before .before .before .before .before .before in
+    let one = filled-digits 0 2 1 (put .before .before .before .before .put-number3 .last .1 .0) (filled-none (s .buffer .now)) refl (omega arith) cc in
+    let two = filled-digits 2 4 (command .command2 .given .0 .0 .0) (put .put-number4 .last .1 .0) one refl (omega arith) cc in
+    let three = filled-digits 6 8 (command .command2 .given .0 .1 .0 .0) (c .before .before .put-number5 .last .1 .0) two refl (omega arith) cc in
     front-filled (command-of (s .command)) (rw (command .command2 .given .1)) three
 
 same-length-3 : tie.Need-same-length-3
@@ -145,7 +146,7 @@ returns-3 c =
     let command = c .before .before .before .before in
     let r = send-room command in
     let s = c .before .before .before .before .before .before .before .args in
-    let one = filled-digits 0 2 2 (filled-none (s .buffer .now)) refl (omega arith) (c .before .before .put-number6 .ensures) in
+    let one = filled-digits 0 2 2 (c .before .before .put-number6 .last .1 .0) (filled-none (s .buffer .now)) refl (omega arith) cc in
     front-filled (command-of (s .command)) (rw (command .enum-told .given .1)) one
 
 pub put-front-spec : {M : Type 1} → statement M

@@ -21,7 +21,7 @@ returns : tie.Need-returns
 returns c =
     let s = c .before .before .before .before .args in
     let can = c .before .can-stand in
-    write-unfit (command-of (s .command)) (s .payload .now) (s .buffer .now) (sym (can .ensures) ∙ not-true (can .result) (c .if1 .taken))
+    write-unfit (command-of (s .command)) (s .payload .now) (s .buffer .now) (sym (can .ensures) ∙ not-true (can .result) (c .if1 .taken)) (search needs)
 
 front-size-requires : tie.Need-front-size-requires
 front-size-requires c κs = search needs
@@ -32,7 +32,7 @@ add-end c = omega (arith, c .front-size .ensures, front-small (command-of (c .be
 returns-2 : tie.Need-returns-2
 returns-2 c =
     let s = c .before .before .before .before .before .before .args in
-    write-full (command-of (s .command)) (s .payload .now) (s .buffer .now) (stands-here (c .before .before)) (omega (arith, c .before .front-size .ensures))
+    write-full (command-of (s .command)) (s .payload .now) (s .buffer .now) (stands-here (c .before .before)) (omega (arith, c .before .front-size .ensures)) (search needs)
 
 put-front-requires : tie.Need-put-front-requires
 put-front-requires c κs = omega (arith, c .before .before .front-size .ensures)
@@ -68,6 +68,7 @@ returns-3 c =
     (room .if2 .left)
     (put .put-front .ensures)
     (c .before .before .put-bytes .ensures)
+    (search needs)
 
 pub write-line-spec : {M : Type 1} → statement M
 write-line-spec =

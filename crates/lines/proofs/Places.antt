@@ -66,18 +66,18 @@ place-within line = told (read line) (length line)
     told (command send-line) n = (omega arith, omega arith)
     told broken n = (omega arith, omega arith)
 
--- the part from start to end is the payload, in the line's memory
-pub placed-part : (line : RefT (List ℕ)) (start end name : ℕ) → start ≡ payload-place (line .now) .start → end ≡ payload-place (line .now) .end →
-    Part line (record { ptr = (line .ptr .0, start + line .ptr .1); name = name; now = take (end - start) (drop start (line .now)) })
+-- the bytes of that place are the payload, in the line's memory
+pub placed-part : {line part : RefT (List ℕ)} → part .ptr .0 ≡ line .ptr .0 → part .ptr .1 ≡ line .ptr .1 + payload-place (line .now) .start →
+    part .now ≡ take (payload-place (line .now) .end - payload-place (line .now) .start) (drop (payload-place (line .now) .start) (line .now)) →
+    Part line part
 unfolding payload
-placed-part line start end name p q =
+placed-part {line} b p e =
     let place = payload-place (line .now) in
     let h = place-within (line .now) in
-    let b : take (end - start) (drop start (line .now)) ≡ payload (line .now) = rw (p, q) in
     let n : length (drop (place .start) (line .now)) ≡ length (line .now) - place .start = length-drop (place .start) (line .now) in
     record {
-      bytes = b;
-      long = ap length b ∙ length-take-le (place .end - place .start) (drop (place .start) (line .now)) (omega (arith, n, h .0, h .1));
-      block = refl;
-      starts = omega (arith, p);
+      bytes = e;
+      long = ap length e ∙ length-take-le (place .end - place .start) (drop (place .start) (line .now)) (omega (arith, n, h .0, h .1));
+      block = b;
+      starts = p;
     }

@@ -18,6 +18,7 @@ use Rattle.theory.specs.Tests.{either}
 use Rattle.theory.specs.Lines.{front, front-size, length-front, text-front, length-text, unfit, no-room, room, write-refused, write-done}
 use Rattle.lines.specs.declared.Command.{Command}
 use Rattle.lines.specs.declared.Command.the-variants.{Open, Take, Send}
+use Rattle.lines.specs.declared.Written.{Written}
 use Rattle.lines.specs.declared.Written.the-variants.{Length, Refused}
 use Rattle.lines.specs.Cases.{command-of}
 use Rattle.lines.specs.Writing.{Writes, payload-stands, Replies, step-text}
@@ -103,9 +104,9 @@ module _ (c : rules.Command) (ps z : List ℕ) where
       record { reply = rw q (sym (w .0)); left = sym (w .1) }
 
   -- the front stands in b; then the payload and the 0A are put
-  pub write-on : {b ys : List ℕ} {f n : ℕ} → stands c ps ≡ true → f ≡ front-size c → f + length ps < length z →
-      b ≡ front c ++ drop (front-size c) z → ys ≡ ps → n ≡ f + length ps + 1 →
-      Writes c ps z (set (take f b ++ (ys ++ drop (f + length ps - f) (drop f b))) (f + length ps) line-end) (Length n)
+  pub write-on : {b ys : List ℕ} {f : ℕ} {r : Written} → stands c ps ≡ true → f ≡ front-size c → f + length ps < length z →
+      b ≡ front c ++ drop (front-size c) z → ys ≡ ps → r ≡ Length (f + length ps + 1) →
+      Writes c ps z (set (take f b ++ (ys ++ drop (f + length ps - f) (drop f b))) (f + length ps) line-end) r
   write-on {b} {f = f} e g h q p o =
       let l : length (front c) ≡ f = length-front c ∙ sym g in
       let k : f + length ps - f ≡ length ps = omega arith in

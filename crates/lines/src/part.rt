@@ -18,9 +18,10 @@ pub fn payload_place(line: &[u8]) -> Place
         Command::Take(_, _) => {
             let n = line.len();
             if PAYLOAD_AT + 1 < n {
+                let end = n - 1;
                 Place {
                     start: PAYLOAD_AT,
-                    end: n - 1,
+                    end,
                 }
             } else {
                 none

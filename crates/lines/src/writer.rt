@@ -33,7 +33,8 @@ pub fn write_line(command: Command, payload: &[u8], buffer: &mut [u8]) -> Writte
     put_front(command, buffer);
     put_bytes(payload, &mut buffer[front..end]);
     buffer[end] = LINE_END;
-    Written::Length(end + 1)
+    let n = end + 1;
+    Written::Length(n)
 }
 
 // The most that four digits hold.

@@ -1,4 +1,5 @@
 -- `lines::payload` meets its contract: the place lies within the line, and the part there is the payload. Assumes nothing.
+use mathlib.Core.Path.{refl}
 use Prim.Native.Nat.{_≤_}
 use native.Mathlib.Omega.{arith}
 use lib.ListN.{length}
@@ -28,8 +29,8 @@ part-result-end c = omega (arith, within c .1)
 
 returns : tie.Need-returns
 returns c =
-    let place = c .before .payload-place .result in
-    placed-part (c .before .before .before .args .line) (place .start) (place .end) (c .result .given .0) (search needs) (search needs)
+    let place = c .before .payload-place .ensures in
+    placed-part refl (search needs) (rw (place .starts, place .ends))
 
 pub payload-spec : {M : Type 1} → statement M
 payload-spec =

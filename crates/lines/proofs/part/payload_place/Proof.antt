@@ -22,8 +22,8 @@ enum-told-2 c = search needs
 add-if1 : tie.Need-add-if1
 add-if1 c = search needs
 
-sub-t10 : tie.Need-sub-t10
-sub-t10 c = search needs
+sub-end : tie.Need-sub-end
+sub-end c = search needs
 
 enum-told-3 : tie.Need-enum-told-3
 enum-told-3 c = search needs
@@ -75,7 +75,7 @@ payload-place-spec =
     returns
     enum-told-2
     add-if1
-    sub-t10
+    sub-end
     enum-told-3
     enum-told-4
     returns-2

@@ -5,8 +5,6 @@ use Rattle.lines.proofs.Commands.{send-long, send-read}
 use Rattle.lines.proofs.reader.read_send.Statement.{statement}
 use Rattle.lines.proofs.reader.read_send.Tie as tie
 
--- `lines::read_send` meets its contract: a line begun by 02. Assumes nothing.
-
 add-if1 : tie.Need-add-if1
 add-if1 c = search needs
 

@@ -52,8 +52,8 @@ put-bytes-requires c κs = search needs
 slice-write-buffer : tie.Need-slice-write-buffer
 slice-write-buffer c = search needs
 
-add-t8 : tie.Need-add-t8
-add-t8 c = search needs
+add-n : tie.Need-add-n
+add-n c = search needs
 
 same-length : tie.Need-same-length
 same-length c = simp length-set (search needs)
@@ -85,6 +85,6 @@ write-line-spec =
     part-put-bytes-end
     put-bytes-requires
     slice-write-buffer
-    add-t8
+    add-n
     same-length
     returns-3)

@@ -6,8 +6,7 @@ use native.Mathlib.Omega.{arith}
 use native.Mathlib.Numerals.{add-one}
 use lib.ListN.{length, getD, set, take, drop, length-append, length-drop}
 use lib.Seq.{length-take-le, take-at, drop-at, drop-cons, drop-drop, set-at, append-snoc}
-use Rattle.rules.specs.Lines.{digits}
-use Rattle.theory.specs.Digits.{length-digits}
+use Rattle.lines.specs.Spelling.{put}
 
 -- xs stand at the buffer's start, and the bytes past them are those of zs
 pub record Filled (xs zs buffer : List ℕ) : Type 0 where
@@ -21,24 +20,17 @@ pub filled-length : {xs zs b : List ℕ} → Filled xs zs b → length b ≡ len
 filled-length {xs} {zs} {b} f =
     ap length (f .stand) ∙ omega (arith, length-append xs (drop (length xs) zs), length-drop (length xs) zs, f .room)
 
--- a part more
-pub filled-part : (a k : ℕ) (ys : List ℕ) {xs zs b : List ℕ} → Filled xs zs b → length xs ≡ a → length ys ≡ k → a + k ≤ length zs →
-    Filled (xs ++ ys) zs (take a b ++ (ys ++ drop k (drop a b)))
-filled-part a k ys {xs} {zs} {b} f l m h =
+-- bytes put behind them
+pub filled-put : (a : ℕ) (ys b′ : List ℕ) {xs zs b : List ℕ} → Filled xs zs b → length xs ≡ a → a + length ys ≤ length zs → b′ ≡ put a ys b →
+    Filled (xs ++ ys) zs b′
+filled-put a ys b′ {xs} {zs} {b} f l h e =
     let rest = drop (length xs) zs in
     let n : length (xs ++ ys) ≡ length xs + length ys = length-append xs ys in
+    let m : a + length ys ≡ length (xs ++ ys) = omega arith in
     let t : take a b ≡ xs = rw (f .stand) (take-at xs rest a l) in
-    let d : drop a b ≡ rest = rw (f .stand) (drop-at xs rest a l) in
-    let e : drop k rest ≡ drop (length (xs ++ ys)) zs = rw (drop-drop, n, m) in
-    record { room = omega arith; stand = rw (t, d, e) (sym (append-assoc xs ys (drop (length (xs ++ ys)) zs))) }
-
--- a number in k digits more, as a part of k bytes takes it
-pub filled-digits : (a k v : ℕ) (ys : List ℕ) {xs zs b : List ℕ} → Filled xs zs b → length xs ≡ a → a + k ≤ length zs →
-    ys ≡ digits (length (take k (drop a b))) v → Filled (xs ++ digits k v) zs (take a b ++ (ys ++ drop k (drop a b)))
-filled-digits a k v ys {xs} {zs} {b} f l h e =
-    let n : length (take k (drop a b)) ≡ k = length-take-le k (drop a b) (omega (arith, length-drop a b, filled-length f)) in
-    let q : ys ≡ digits k v = e ∙ ap (λ (i : ℕ). digits i v) n in
-    rw q (filled-part a k (digits k v) f l (length-digits k v) h)
+    let d : drop (a + length ys) b ≡ drop (length (xs ++ ys)) zs =
+    sym (drop-drop (length ys) a b) ∙ rw (f .stand, drop-at xs rest a l, drop-drop, n) in
+    record { room = omega arith; stand = e ∙ rw (t, d) }
 
 -- a byte more
 pub filled-byte : (a x : ℕ) {xs zs b : List ℕ} → Filled xs zs b → length xs ≡ a → a < length zs → Filled (xs ++ (x ∷ [])) zs (set b a x)

@@ -2,19 +2,19 @@
 use mathlib.Core.Path.{_≡_, refl, sym, ap, _∙_}
 use mathlib.Core.Logic.{inl, inr}
 use mathlib.Core.Bool.{true, false, _&&_}
-use mathlib.Core.List.{List, [], _∷_, _++_, append-nil}
+use mathlib.Core.List.{List, [], _∷_, _++_, append-assoc, append-nil}
 use Prim.Native.Nat.{ℕ, suc, _+_, _*_, _-_, _/_, _%_, _^_, _≤_, _<_}
 use native.Mathlib.Omega.{arith}
 use native.Mathlib.Nat.{pow-suc, pow-le-pow-right}
 use native.Mathlib.Numerals.{add-one}
-use lib.ListN.{length, getD, set, take, drop, drop-of-length-le, length-set}
-use lib.Seq.{drop-cons, drop-set-lt, getD-set-same, take-suc, take-suc-set, take-all, drop-length}
+use lib.ListN.{length, getD, set, take, drop, drop-of-length-le, length-set, take-append-drop}
+use lib.Seq.{drop-cons, drop-set-lt, take-set-le, getD-set-same, take-length, paste, paste-zero, paste-suc}
 use borrow.Author.Tests.{le-leb, lt-leb}
 use Rattle.rules.specs.Lines.{digit, is-digit, digit-value, digits, number-from, all-digits}
 use Rattle.theory.specs.Tests.{either}
-use Rattle.theory.specs.Digits.{digit-range, digit-valued, digits-step}
+use Rattle.theory.specs.Digits.{digit-range, digit-valued, length-digits, digits-step}
 use Rattle.lines.specs.declared.digits.Spelt.the-variants.{Number, Nothing}
-use Rattle.lines.specs.Spelling.{value-or, spelt}
+use Rattle.lines.specs.Spelling.{value-or, spelt, put}
 
 -- A DIGIT'S VALUE
 pub no-digit : (n b : ℕ) → (48 ≤ b → b ≤ 57 → ⊥) → (65 ≤ b → b ≤ 70 → ⊥) → value-or n b ≡ n
@@ -96,36 +96,63 @@ unfolding spelt number-from
 read-whole {ds} {i = i} r h = rw (r .clean, all-end ds i h, r .number, drop-of-length-le ds {i = i} h)
 
 -- A NUMBER WRITTEN from its last digit on: what stands from i on, and what is left for the digits before
-pub record Put (value : ℕ) (part : List ℕ) (rest i : ℕ) : Type 0 where
-  pub within : i ≤ length part
-  pub stands : digits i rest ++ drop i part ≡ digits (length part) value
+pub record Put (value count at : ℕ) (before buffer : List ℕ) (rest i : ℕ) : Type 0 where
+  pub least : at ≤ i
+  pub most : i ≤ length buffer
+  pub long : length buffer ≡ length before
+  pub stands : take at buffer ++ digits (i - at) rest ++ drop i buffer ≡ put at (digits count value) before
 
-pub put-none : (value : ℕ) (part : List ℕ) → Put value part value (length part)
-put-none v part = record { within = omega arith; stands = rw drop-length (append-nil (digits (length part) v)) }
+pub put-none : (value count at : ℕ) (z : List ℕ) → at + count ≤ length z → Put value count at z z value (at + count)
+put-none v n a z h =
+    let k : a + n - a ≡ n = omega arith in
+    record { least = omega arith; most = h; long = refl; stands = rw (k, length-digits n v) }
 
 drop-set : (l : List ℕ) (i a : ℕ) → i < length l → drop i (set l i a) ≡ a ∷ drop (suc i) l
 drop-set l i a h =
     drop-cons (set l i a) i 0 (omega (arith, length-set l i a)) ∙ rw (getD-set-same l i a 0 h, drop-set-lt (suc i) l i a (omega arith))
 
-pub put-more : {value : ℕ} {part : List ℕ} {rest i a next : ℕ} → Put value part rest i → 0 < i → a ≡ digit (rest % 16) → next ≡ rest / 16 →
-    Put value (set part (i - 1) a) next (i - 1)
-put-more {part = part} {rest = rest} {i = i} {a = a} p h e q =
+pub put-more : {value count at : ℕ} {z b : List ℕ} {rest i d next : ℕ} → Put value count at z b rest i → at < i →
+    d ≡ digit (rest % 16) → next ≡ rest / 16 → Put value count at z (set b (i - 1) d) next (i - 1)
+put-more {at = a} {b = b} {rest = rest} {i = i} {d = d} {next = next} p h e q =
     let j = i - 1 in
     let s : suc j ≡ i = omega arith in
+    let k : suc (j - a) ≡ i - a = omega arith in
+    let t = take-set-le a b j d (omega arith) in
+    let g : digits (j - a) (rest / 16) ++ digit (rest % 16) ∷ drop i b ≡ digits (i - a) rest ++ drop i b =
+    sym (digits-step (j - a) rest (drop i b)) ∙ rw k in
     record {
-      within = omega (arith, length-set part j a, p .within);
-      stands = rw (length-set, drop-set part j a (omega arith), e, q) (sym (digits-step j rest (drop (suc j) part)) ∙ rw s (p .stands));
+      least = omega arith;
+      most = omega (arith, length-set b j d, p .most);
+      long = length-set b j d ∙ p .long;
+      stands =
+          append-assoc (take a (set b j d)) (digits (j - a) next) (drop j (set b j d))
+          ∙ rw (t, drop-set b j d (omega (arith, p .most)), s, q, e, g) (sym (append-assoc (take a b) (digits (i - a) rest) (drop i b)) ∙ p .stands);
     }
 
-pub put-whole : {value : ℕ} {part : List ℕ} {rest i : ℕ} → Put value part rest i → i ≤ 0 → part ≡ digits (length part) value
+pub put-whole : {value count at : ℕ} {z b : List ℕ} {rest i : ℕ} → Put value count at z b rest i → i ≤ at → b ≡ put at (digits count value) z
 unfolding digits
-put-whole {i = i} p h = let z : i ≡ 0 = omega arith in rw z at (p .stands)
+put-whole {at = a} {b = b} {i = i} p h =
+    let s : i ≡ a = omega (arith, p .least) in
+    let k : a - a ≡ 0 = omega arith in
+    sym (take-append-drop a b) ∙ sym (ap (λ (xs : List ℕ). xs ++ drop a b) (append-nil (take a b))) ∙ rw (s, k) at (p .stands)
 
--- BYTES COPIED up to i
-pub copy-more : (bytes part : List ℕ) (i : ℕ) → length part ≡ length bytes → i < length bytes → take i part ≡ take i bytes →
-    take (i + 1) (set part i (getD bytes i 0)) ≡ take (i + 1) bytes
-copy-more bytes part i l h e =
-    rw (add-one, take-suc-set part i (getD bytes i 0) (omega arith), take-suc bytes i 0 h, e)
+-- BYTES COPIED, the first i of them
+pub record Copied (bytes : List ℕ) (at : ℕ) (before buffer : List ℕ) (i : ℕ) : Type 0 where
+  pub within : i ≤ length bytes
+  pub long : length buffer ≡ length before
+  pub stands : buffer ≡ paste before at bytes i
 
-pub copy-whole : (bytes part : List ℕ) (i : ℕ) → length part ≡ length bytes → length bytes ≤ i → take i part ≡ take i bytes → part ≡ bytes
-copy-whole bytes part i l h e = sym (take-all i part (omega arith)) ∙ e ∙ take-all i bytes h
+pub copied-none : (bytes : List ℕ) (at : ℕ) (z : List ℕ) → Copied bytes at z z 0
+copied-none bytes a z = record { within = omega arith; long = refl; stands = paste-zero z a bytes }
+
+pub copied-more : {bytes : List ℕ} {at : ℕ} {z b : List ℕ} {i : ℕ} → Copied bytes at z b i → i < length bytes → at + length bytes ≤ length z →
+    Copied bytes at z (set b (at + i) (getD bytes i 0)) (i + 1)
+copied-more {bytes} {at = a} {z} {b} {i} p h l =
+    record {
+      within = omega arith;
+      long = length-set b (a + i) (getD bytes i 0) ∙ p .long;
+      stands = ap (λ (xs : List ℕ). set xs (a + i) (getD bytes i 0)) (p .stands) ∙ paste-suc z a bytes i 0 (omega arith) h ∙ rw add-one;
+    }
+
+pub copied-whole : {bytes : List ℕ} {at : ℕ} {z b : List ℕ} {i : ℕ} → Copied bytes at z b i → length bytes ≤ i → b ≡ put at bytes z
+copied-whole {bytes} {i = i} p h = let n : i ≡ length bytes = omega (arith, p .within) in p .stands ∙ rw (n, take-length)

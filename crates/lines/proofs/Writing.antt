@@ -21,9 +21,10 @@ use Rattle.lines.specs.declared.Command.the-variants.{Open, Take, Send}
 use Rattle.lines.specs.declared.Written.{Written}
 use Rattle.lines.specs.declared.Written.the-variants.{Length, Refused}
 use Rattle.lines.specs.Cases.{command-of}
+use Rattle.lines.specs.Spelling.{put}
 use Rattle.lines.specs.Writing.{Writes, payload-stands, Replies, step-text}
 use Rattle.lines.specs.Cases.{out-number, out-ticket}
-use Rattle.lines.proofs.Filling.{Filled, filled-part, filled-byte}
+use Rattle.lines.proofs.Filling.{Filled, filled-put, filled-byte}
 
 -- WHAT CAN STAND
 false-and : (a b : Bool) → b ≡ false → a && b ≡ false
@@ -103,21 +104,19 @@ module _ (c : rules.Command) (ps z : List ℕ) where
       let w = write-refused c ps z 11 (no-room c ps (length z) e (omega (arith, length-text c ps))) in
       record { reply = rw q (sym (w .0)); left = sym (w .1) }
 
-  -- the front stands in b; then the payload and the 0A are put
-  pub write-on : {b ys : List ℕ} {f : ℕ} {r : Written} → stands c ps ≡ true → f ≡ front-size c → f + length ps < length z →
-      b ≡ front c ++ drop (front-size c) z → ys ≡ ps → r ≡ Length (f + length ps + 1) →
-      Writes c ps z (set (take f b ++ (ys ++ drop (f + length ps - f) (drop f b))) (f + length ps) line-end) r
-  write-on {b} {f = f} e g h q p o =
+  -- the front stands in b, the payload behind it in b′; then the 0A is put
+  pub write-on : {b b′ : List ℕ} {f : ℕ} {r : Written} → stands c ps ≡ true → f ≡ front-size c → f + length ps < length z →
+      b ≡ front c ++ drop (front-size c) z → b′ ≡ put f ps b → r ≡ Length (f + length ps + 1) → Writes c ps z (set b′ (f + length ps) line-end) r
+  write-on {b} {b′} {f} e g h q p o =
       let l : length (front c) ≡ f = length-front c ∙ sym g in
-      let k : f + length ps - f ≡ length ps = omega arith in
       let one : Filled (front c) z b = record { room = omega arith; stand = rw (length-front c) q } in
-      let two = filled-part f (length ps) ps one l refl (omega arith) in
+      let two = filled-put f ps b′ one l (omega arith) p in
       let n : length (front c ++ ps) ≡ f + length ps = length-append (front c) ps ∙ rw l in
       let all = filled-byte (f + length ps) line-end two n h in
       let t = text-front c ps in
       let w = write-done c ps z (room c ps (length z) e (rw t (all .room))) in
-      rw (p, k, o) record {
-        reply = rw (length-text c ps, ← g) at (sym (w .0));
+      record {
+        reply = rw o (rw (length-text c ps, ← g) at (sym (w .0)));
         left = rw (← t) at (all .stand) ∙ sym (w .1);
       }
 

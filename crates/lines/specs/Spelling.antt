@@ -1,9 +1,9 @@
--- What bytes spell, and a line whose number is read. Assumes nothing: these are definitions.
+-- What bytes spell, a line whose number is read, and bytes put into a buffer. Assumes nothing: these are definitions.
 use mathlib.Core.Path.{_≡_}
 use mathlib.Core.Bool.{true, cond}
-use mathlib.Core.List.{List}
-use Prim.Native.Nat.{ℕ, _-_, _<_}
-use lib.ListN.{length, getD, take}
+use mathlib.Core.List.{List, _++_}
+use Prim.Native.Nat.{ℕ, _+_, _-_, _<_}
+use lib.ListN.{length, getD, take, drop}
 use Rattle.rules.specs.Lines.{is-digit, digit-value, number-from, all-digits, line-end}
 use Rattle.lines.specs.declared.digits.Spelt.{Spelt}
 use Rattle.lines.specs.declared.digits.Spelt.the-variants.{Number, Nothing}
@@ -22,3 +22,7 @@ pub record Begun (kind : ℕ) (line : List ℕ) : Type 0 where
   pub ends : getD line (length line - 1) 0 ≡ line-end
   pub clean : all-digits (take 2 line) ≡ true
   pub says : number-from 0 (take 2 line) ≡ kind
+
+-- a buffer with bytes put at a place
+abbrev pub put : (at : ℕ) (bytes before : List ℕ) → List ℕ
+put a xs z = take a z ++ xs ++ drop (a + length xs) z

@@ -1,9 +1,9 @@
 // Digits 0 to 9 and A to F, and numbers in digits, high digit first.
 ghost use mathlib.Core.Path.{_≡_};
-ghost use Prim.Native.Nat.{_≤_, _<_};
+ghost use Prim.Native.Nat.{_+_, _≤_, _<_};
 ghost use lib.ListN.{length};
 ghost use Rattle.rules.specs.Lines.{all-digits, digit, digits};
-ghost use Rattle.lines.specs.Spelling.{value-or, spelt};
+ghost use Rattle.lines.specs.Spelling.{put, spelt, value-or};
 
 // What bytes spell: a number, or nothing where one is no digit.
 pub enum Spelt {
@@ -72,27 +72,28 @@ fn digit(v: u32) -> u8
     if v < 10 { 48 + v as u8 } else { 55 + v as u8 }
 }
 
-// A number in as many digits as the part has room for.
-pub fn put_number(value: u32, part: &mut [u8])
-    ensures { λ _. ⌜ now (part .exit) ≡ digits (length (now (part .entry))) value ⌝ }
+// A number in so many digits, from a place of the buffer on.
+pub fn put_number(value: u32, count: usize, at: usize, buffer: &mut [u8])
+    requires { ⌜ at + count ≤ length (now buffer) ⌝ }
+    ensures { λ _. ⌜ now (buffer .exit) ≡ put at (digits count value) (now (buffer .entry)) ⌝ }
 {
     let mut rest = value;
-    let mut i = part.len();
-    while 0 < i {
+    let mut i = at + count;
+    while at < i {
         i -= 1;
-        part[i] = digit(rest % 16);
+        buffer[i] = digit(rest % 16);
         rest /= 16;
     }
 }
 
-// Bytes into a part of their length.
-pub fn put_bytes(bytes: &[u8], part: &mut [u8])
-    requires { ⌜ length (now part) ≡ length (now bytes) ⌝ }
-    ensures { λ _. ⌜ now (part .exit) ≡ now (bytes .entry) ⌝ }
+// Bytes, from a place of the buffer on.
+pub fn put_bytes(bytes: &[u8], at: usize, buffer: &mut [u8])
+    requires { ⌜ at + length (now bytes) ≤ length (now buffer) ⌝ }
+    ensures { λ _. ⌜ now (buffer .exit) ≡ put at (now (bytes .entry)) (now (buffer .entry)) ⌝ }
 {
     let mut i = 0;
     while i < bytes.len() {
-        part[i] = bytes[i];
+        buffer[at + i] = bytes[i];
         i += 1;
     }
 }

@@ -19,6 +19,13 @@ pub use replies::write_step;
 pub use replies::write_ticket;
 pub use writer::write_line;
 
+// How many digits a line's number, a slot, and a weight or a ticket have.
+pub const KIND_DIGITS: usize = 2;
+
+pub const SLOT_DIGITS: usize = 4;
+
+pub const WIDE_DIGITS: usize = 8;
+
 // Where a line's numbers and its payload begin, the most payload digits, and the byte that ends a line.
 pub const SLOT_AT: usize = 2;
 

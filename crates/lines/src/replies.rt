@@ -5,7 +5,9 @@ ghost use lib.ListN.{length};
 ghost use Rattle.rules.specs.Calls.{refused, done, ticket};
 ghost use Rattle.rules.specs.Lines.{reply-text};
 ghost use Rattle.lines.specs.Writing.{Replies, step-text};
+use crate::KIND_DIGITS;
 use crate::LINE_END;
+use crate::WIDE_DIGITS;
 use crate::digits::put_number;
 use round::Ticket;
 
@@ -17,7 +19,7 @@ pub fn write_done(buffer: &mut [u8]) -> usize
     requires { ⌜ 15 ≤ length (now buffer) ⌝ }
     ensures { λ r. ⌜ Replies (reply-text done) (now (buffer .entry)) (now (buffer .exit)) r ⌝ }
 {
-    put_number(0, &mut buffer[0..2]);
+    put_number(0, KIND_DIGITS, 0, buffer);
     buffer[2] = LINE_END;
     3
 }
@@ -27,8 +29,8 @@ pub fn write_ticket(given: Ticket, buffer: &mut [u8]) -> usize
     requires { ⌜ 15 ≤ length (now buffer) ⌝ }
     ensures { λ r. ⌜ Replies (reply-text (ticket (given .0))) (now (buffer .entry)) (now (buffer .exit)) r ⌝ }
 {
-    put_number(1, &mut buffer[0..2]);
-    put_number(given.0, &mut buffer[2..10]);
+    put_number(1, KIND_DIGITS, 0, buffer);
+    put_number(given.0, WIDE_DIGITS, 2, buffer);
     buffer[10] = LINE_END;
     11
 }
@@ -38,10 +40,10 @@ pub fn write_step(out: u32, leap: u32, gone: Ticket, buffer: &mut [u8]) -> usize
     requires { ⌜ 15 ≤ length (now buffer) ⌝ }
     ensures { λ r. ⌜ Replies (step-text out leap (gone .0)) (now (buffer .entry)) (now (buffer .exit)) r ⌝ }
 {
-    put_number(2, &mut buffer[0..2]);
-    put_number(out, &mut buffer[2..4]);
-    put_number(leap, &mut buffer[4..6]);
-    put_number(gone.0, &mut buffer[6..14]);
+    put_number(2, KIND_DIGITS, 0, buffer);
+    put_number(out, KIND_DIGITS, 2, buffer);
+    put_number(leap, KIND_DIGITS, 4, buffer);
+    put_number(gone.0, WIDE_DIGITS, 6, buffer);
     buffer[14] = LINE_END;
     15
 }
@@ -51,8 +53,8 @@ pub fn write_refusal(number: u32, buffer: &mut [u8]) -> usize
     requires { ⌜ 15 ≤ length (now buffer) ⌝ }
     ensures { λ r. ⌜ Replies (reply-text (refused number)) (now (buffer .entry)) (now (buffer .exit)) r ⌝ }
 {
-    put_number(255, &mut buffer[0..2]);
-    put_number(number, &mut buffer[2..4]);
+    put_number(255, KIND_DIGITS, 0, buffer);
+    put_number(number, KIND_DIGITS, 2, buffer);
     buffer[4] = LINE_END;
     5
 }

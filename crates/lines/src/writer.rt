@@ -8,11 +8,14 @@ ghost use Rattle.theory.specs.Lines.{front, front-size};
 ghost use Rattle.lines.specs.Cases.{command-of};
 ghost use Rattle.lines.specs.Writing.{Writes, payload-stands};
 use crate::Command;
+use crate::KIND_DIGITS;
 use crate::LINE_END;
 use crate::MOST_PAYLOAD;
 use crate::PAYLOAD_AT;
 use crate::SLOT_AT;
+use crate::SLOT_DIGITS;
 use crate::WEIGHT_AT;
+use crate::WIDE_DIGITS;
 use crate::Written;
 use crate::digits::digits_only;
 use crate::digits::put_bytes;
@@ -31,7 +34,7 @@ pub fn write_line(command: Command, payload: &[u8], buffer: &mut [u8]) -> Writte
         return Written::Refused(12);
     }
     put_front(command, buffer);
-    put_bytes(payload, &mut buffer[front..end]);
+    put_bytes(payload, front, buffer);
     buffer[end] = LINE_END;
     let n = end + 1;
     Written::Length(n)
@@ -90,14 +93,14 @@ fn put_front(command: Command, buffer: &mut [u8])
 {
     match command {
         Command::Open(last) => {
-            put_number(0, &mut buffer[0..SLOT_AT]);
-            put_number(last.0, &mut buffer[SLOT_AT..WEIGHT_AT]);
+            put_number(0, KIND_DIGITS, 0, buffer);
+            put_number(last.0, SLOT_DIGITS, SLOT_AT, buffer);
         }
         Command::Take(due, weight) => {
-            put_number(1, &mut buffer[0..SLOT_AT]);
-            put_number(due.0, &mut buffer[SLOT_AT..WEIGHT_AT]);
-            put_number(weight.0, &mut buffer[WEIGHT_AT..PAYLOAD_AT]);
+            put_number(1, KIND_DIGITS, 0, buffer);
+            put_number(due.0, SLOT_DIGITS, SLOT_AT, buffer);
+            put_number(weight.0, WIDE_DIGITS, WEIGHT_AT, buffer);
         }
-        Command::Send => put_number(2, &mut buffer[0..SLOT_AT]),
+        Command::Send => put_number(2, KIND_DIGITS, 0, buffer),
     }
 }

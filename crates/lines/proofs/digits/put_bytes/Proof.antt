@@ -1,26 +1,30 @@
 -- `lines::put_bytes` meets its contract: the bytes before i are copied; what is left of the length falls. Assumes nothing.
-use mathlib.Core.Path.{_≡_, refl}
 use Prim.Native.Nat.{_-_}
-use lib.ListN.{length, take, length-set}
+use lib.ListN.{length}
 use borrow.Author.Needs.{needs}
-use Rattle.lines.proofs.Spelling.{copy-more, copy-whole}
+use Rattle.lines.proofs.Spelling.{Copied, copied-none, copied-more, copied-whole}
 use Rattle.lines.proofs.digits.put_bytes.Statement.{statement}
 use Rattle.lines.proofs.digits.put_bytes.Tie as tie
 
 abbrev Inv-loop : tie.InvT-loop
-Inv-loop bytes part₀ i₀ part i = (length part ≡ length bytes) × (take i part ≡ take i bytes)
+Inv-loop bytes at buffer₀ i₀ buffer i = Copied bytes at buffer₀ buffer i
 
 abbrev μ-loop : tie.MeasureT-loop
-μ-loop bytes part₀ i₀ part i = length bytes - i
+μ-loop bytes at buffer₀ i₀ buffer i = length bytes - i
 
 loop-holds : tie.Need-loop-holds Inv-loop μ-loop
-loop-holds c = (search needs, refl)
+loop-holds c =
+    let s = c .args in
+    copied-none (s .bytes .now) (s .at) (s .buffer .now)
 
-shared-slice-read-part : tie.Need-shared-slice-read-part Inv-loop μ-loop
-shared-slice-read-part c = search needs
+shared-slice-read-buffer : tie.Need-shared-slice-read-buffer Inv-loop μ-loop
+shared-slice-read-buffer c = search needs
 
-slice-write-part : tie.Need-slice-write-part Inv-loop μ-loop
-slice-write-part c = search needs
+add-buffer : tie.Need-add-buffer Inv-loop μ-loop
+add-buffer c = search needs
+
+slice-write-buffer : tie.Need-slice-write-buffer Inv-loop μ-loop
+slice-write-buffer c = search needs
 
 add-i : tie.Need-add-i Inv-loop μ-loop
 add-i c = search needs
@@ -29,17 +33,13 @@ loop-less : tie.Need-loop-less Inv-loop μ-loop
 loop-less c = search needs
 
 loop-again : tie.Need-loop-again Inv-loop μ-loop
-loop-again c =
-    let l = c .before .before .loop in
-    (simp length-set (search needs), copy-more (c .before .before .before .args .bytes .now) (l .part) (l .i) (search needs) (search needs) (l .inv .1))
+loop-again c = copied-more (c .before .before .loop .inv) (search needs) (search needs)
 
 same-length : tie.Need-same-length Inv-loop μ-loop
 same-length c = search needs
 
 returns : tie.Need-returns Inv-loop μ-loop
-returns c =
-    let l = c .before .loop in
-    copy-whole (c .before .before .args .bytes .now) (l .part) (l .i) (search needs) (search needs) (l .inv .1)
+returns c = copied-whole (c .before .loop .inv) (search needs)
 
 pub put-bytes-spec : {M : Type 1} → statement M
 put-bytes-spec =
@@ -48,8 +48,9 @@ put-bytes-spec =
     Inv-loop
     μ-loop
     loop-holds
-    shared-slice-read-part
-    slice-write-part
+    shared-slice-read-buffer
+    add-buffer
+    slice-write-buffer
     add-i
     loop-less
     loop-again

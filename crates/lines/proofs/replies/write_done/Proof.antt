@@ -2,19 +2,10 @@
 use mathlib.Core.Path.{refl}
 use borrow.Author.Needs.{needs}
 use Rattle.rules.specs.Lines.{digits, reply-digits, reply-text}
-use Rattle.lines.proofs.Filling.{filled-none, filled-digits, filled-byte}
+use Rattle.lines.proofs.Filling.{filled-none, filled-put, filled-byte}
 use Rattle.lines.proofs.Writing.{replied}
 use Rattle.lines.proofs.replies.write_done.Statement.{statement}
 use Rattle.lines.proofs.replies.write_done.Tie as tie
-
-sub-put-number : tie.Need-sub-put-number
-sub-put-number c = search needs
-
-part-put-number-start : tie.Need-part-put-number-start
-part-put-number-start c = search needs
-
-part-put-number-end : tie.Need-part-put-number-end
-part-put-number-end c = search needs
 
 put-number-requires : tie.Need-put-number-requires
 put-number-requires c κs = search needs
@@ -29,17 +20,8 @@ returns : tie.Need-returns
 unfolding digits reply-digits reply-text
 returns c =
     let z = c .before .before .before .before .before .args .buffer .now in
-    let one = filled-digits 0 2 0 (c .before .before .put-number .last .1 .0) (filled-none z) refl (search needs) cc in
+    let one = filled-put 0 (digits 2 0) (c .before .before .put-number .last .1 .1 .1 .0) (filled-none z) refl (search needs) cc in
     replied (filled-byte 2 10 one refl (search needs)) (search needs)
 
 pub write-done-spec : {M : Type 1} → statement M
-write-done-spec =
-    tie.close
-    (tie.spec
-    sub-put-number
-    part-put-number-start
-    part-put-number-end
-    put-number-requires
-    slice-write-buffer
-    same-length
-    returns)
+write-done-spec = tie.close (tie.spec put-number-requires slice-write-buffer same-length returns)

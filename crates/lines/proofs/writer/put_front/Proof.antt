@@ -7,7 +7,7 @@ use borrow.Author.Needs.{needs}
 use Rattle.rules.specs.Lines.{digits}
 use Rattle.theory.specs.Lines.{front}
 use Rattle.lines.specs.Cases.{command-of}
-use Rattle.lines.proofs.Filling.{filled-none, filled-digits}
+use Rattle.lines.proofs.Filling.{filled-none, filled-put}
 use Rattle.lines.proofs.Writing.{open-size, take-size, send-size, front-filled}
 use Rattle.lines.proofs.writer.put_front.Statement.{statement}
 use Rattle.lines.proofs.writer.put_front.Tie as tie
@@ -31,83 +31,29 @@ send-room c =
 enum-known-command : tie.Need-enum-known-command
 enum-known-command c = search needs
 
-sub-put-number : tie.Need-sub-put-number
-sub-put-number c = search needs
-
-part-put-number-start : tie.Need-part-put-number-start
-part-put-number-start c = search needs
-
-part-put-number-end : tie.Need-part-put-number-end
-part-put-number-end c = omega (arith, open-room (c .before))
-
 put-number-requires : tie.Need-put-number-requires
-put-number-requires c κs = search needs
-
-sub-put-number-2 : tie.Need-sub-put-number-2
-sub-put-number-2 c = search needs
-
-part-put-number-start-2 : tie.Need-part-put-number-start-2
-part-put-number-start-2 c = search needs
-
-part-put-number-end-2 : tie.Need-part-put-number-end-2
-part-put-number-end-2 c = omega (arith, open-room (c .before .before .before .before .before))
+put-number-requires c κs = omega (arith, open-room (c .before .before))
 
 put-number-requires-2 : tie.Need-put-number-requires-2
-put-number-requires-2 c κs = search needs
+put-number-requires-2 c κs = omega (arith, open-room (c .before .before .before .before .before .before))
 
 enum-known-command-2 : tie.Need-enum-known-command-2
 enum-known-command-2 c = search needs
 
-sub-put-number-3 : tie.Need-sub-put-number-3
-sub-put-number-3 c = search needs
-
-part-put-number-start-3 : tie.Need-part-put-number-start-3
-part-put-number-start-3 c = search needs
-
-part-put-number-end-3 : tie.Need-part-put-number-end-3
-part-put-number-end-3 c = omega (arith, take-room (c .before))
-
 put-number-requires-3 : tie.Need-put-number-requires-3
-put-number-requires-3 c κs = search needs
-
-sub-put-number-4 : tie.Need-sub-put-number-4
-sub-put-number-4 c = search needs
-
-part-put-number-start-4 : tie.Need-part-put-number-start-4
-part-put-number-start-4 c = search needs
-
-part-put-number-end-4 : tie.Need-part-put-number-end-4
-part-put-number-end-4 c = omega (arith, take-room (c .before .before .before .before .before))
+put-number-requires-3 c κs = omega (arith, take-room (c .before .before))
 
 put-number-requires-4 : tie.Need-put-number-requires-4
-put-number-requires-4 c κs = search needs
-
-sub-put-number-5 : tie.Need-sub-put-number-5
-sub-put-number-5 c = search needs
-
-part-put-number-start-5 : tie.Need-part-put-number-start-5
-part-put-number-start-5 c = search needs
-
-part-put-number-end-5 : tie.Need-part-put-number-end-5
-part-put-number-end-5 c = omega (arith, take-room (c .before .before .before .before .before .before .before .before .before))
+put-number-requires-4 c κs = omega (arith, take-room (c .before .before .before .before .before .before))
 
 put-number-requires-5 : tie.Need-put-number-requires-5
-put-number-requires-5 c κs = search needs
+put-number-requires-5 c κs = omega (arith, take-room (c .before .before .before .before .before .before .before .before .before .before))
 
 enum-told : tie.Need-enum-told
 enum-told c = search needs
 
-sub-put-number-6 : tie.Need-sub-put-number-6
-sub-put-number-6 c = search needs
-
-part-put-number-start-6 : tie.Need-part-put-number-start-6
-part-put-number-start-6 c = search needs
-
-part-put-number-end-6 : tie.Need-part-put-number-end-6
-part-put-number-end-6 c = omega (arith, send-room c)
-
 put-number-requires-6 : tie.Need-put-number-requires-6
-put-number-requires-6 c κs = search needs
+put-number-requires-6 c κs = omega (arith, send-room (c .before))
 
 same-length : tie.Need-same-length
 same-length c = search needs
@@ -118,8 +64,8 @@ returns c =
     let command = c .before .before .before .before .before .before .before .before .before in
     let r = open-room command in
     let s = c .before .before .before .before .before .before .before .before .before .before .before .before .args in
-    let one = filled-digits 0 2 0 (c .before .before .before .before .before .before .put-number .last .1 .0) (filled-none (s .buffer .now)) refl (omega arith) cc in
-    let two = filled-digits 2 4 (command .command .given .0 .0 .0) (c .before .before .put-number2 .last .1 .0) one refl (omega arith) cc in
+    let one = filled-put 0 (digits 2 0) (c .before .before .before .before .before .before .put-number .last .1 .1 .1 .0) (filled-none (s .buffer .now)) refl (omega arith) cc in
+    let two = filled-put 2 (digits 4 (command .command .given .0 .0 .0)) (c .before .before .put-number2 .last .1 .1 .1 .0) one refl (omega arith) cc in
     front-filled (command-of (s .command)) (rw (command .command .given .1)) two
 
 same-length-2 : tie.Need-same-length-2
@@ -129,12 +75,13 @@ returns-2 : tie.Need-returns-2
 unfolding digits front
 returns-2 c =
     let command = c .before .before .before .before .before .before .before .before .before .before .before .before .before in
+    let both = command .command2 .given .0 in
     let r = take-room command in
     let s = c .before .before .before .before .before .before .before .before .before .before .before .before .before .before .before .before .args in
     let put = c .before .before .before .before .before .before in
-    let one = filled-digits 0 2 1 (put .before .before .before .before .put-number3 .last .1 .0) (filled-none (s .buffer .now)) refl (omega arith) cc in
-    let two = filled-digits 2 4 (command .command2 .given .0 .0 .0) (put .put-number4 .last .1 .0) one refl (omega arith) cc in
-    let three = filled-digits 6 8 (command .command2 .given .0 .1 .0 .0) (c .before .before .put-number5 .last .1 .0) two refl (omega arith) cc in
+    let one = filled-put 0 (digits 2 1) (put .before .before .before .before .put-number3 .last .1 .1 .1 .0) (filled-none (s .buffer .now)) refl (omega arith) cc in
+    let two = filled-put 2 (digits 4 (both .0 .0)) (put .put-number4 .last .1 .1 .1 .0) one refl (omega arith) cc in
+    let three = filled-put 6 (digits 8 (both .1 .0 .0)) (c .before .before .put-number5 .last .1 .1 .1 .0) two refl (omega arith) cc in
     front-filled (command-of (s .command)) (rw (command .command2 .given .1)) three
 
 same-length-3 : tie.Need-same-length-3
@@ -146,7 +93,7 @@ returns-3 c =
     let command = c .before .before .before .before in
     let r = send-room command in
     let s = c .before .before .before .before .before .before .before .args in
-    let one = filled-digits 0 2 2 (c .before .before .put-number6 .last .1 .0) (filled-none (s .buffer .now)) refl (omega arith) cc in
+    let one = filled-put 0 (digits 2 2) (c .before .before .put-number6 .last .1 .1 .1 .0) (filled-none (s .buffer .now)) refl (omega arith) cc in
     front-filled (command-of (s .command)) (rw (command .enum-told .given .1)) one
 
 pub put-front-spec : {M : Type 1} → statement M
@@ -154,31 +101,13 @@ put-front-spec =
     tie.close
     (tie.spec
     enum-known-command
-    sub-put-number
-    part-put-number-start
-    part-put-number-end
     put-number-requires
-    sub-put-number-2
-    part-put-number-start-2
-    part-put-number-end-2
     put-number-requires-2
     enum-known-command-2
-    sub-put-number-3
-    part-put-number-start-3
-    part-put-number-end-3
     put-number-requires-3
-    sub-put-number-4
-    part-put-number-start-4
-    part-put-number-end-4
     put-number-requires-4
-    sub-put-number-5
-    part-put-number-start-5
-    part-put-number-end-5
     put-number-requires-5
     enum-told
-    sub-put-number-6
-    part-put-number-start-6
-    part-put-number-end-6
     put-number-requires-6
     same-length
     returns

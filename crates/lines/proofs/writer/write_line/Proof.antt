@@ -32,19 +32,11 @@ add-end c = omega (arith, c .front-size .ensures, front-small (command-of (c .be
 returns-2 : tie.Need-returns-2
 returns-2 c =
     let s = c .before .before .before .before .before .before .args in
-    write-full (command-of (s .command)) (s .payload .now) (s .buffer .now) (stands-here (c .before .before)) (omega (arith, c .before .front-size .ensures)) (search needs)
+    write-full (command-of (s .command)) (s .payload .now) (s .buffer .now) (stands-here (c .before .before)) (omega (arith, c .before .front-size .ensures))
+    (search needs)
 
 put-front-requires : tie.Need-put-front-requires
 put-front-requires c κs = omega (arith, c .before .before .front-size .ensures)
-
-sub-put-bytes : tie.Need-sub-put-bytes
-sub-put-bytes c = search needs
-
-part-put-bytes-start : tie.Need-part-put-bytes-start
-part-put-bytes-start c = search needs
-
-part-put-bytes-end : tie.Need-part-put-bytes-end
-part-put-bytes-end c = search needs
 
 put-bytes-requires : tie.Need-put-bytes-requires
 put-bytes-requires c κs = search needs
@@ -80,9 +72,6 @@ write-line-spec =
     add-end
     returns-2
     put-front-requires
-    sub-put-bytes
-    part-put-bytes-start
-    part-put-bytes-end
     put-bytes-requires
     slice-write-buffer
     add-n

@@ -6,7 +6,9 @@ use native.Mathlib.Omega.{arith}
 use native.Mathlib.Numerals.{add-one}
 use lib.ListN.{length, getD, set, take, drop, length-append, length-drop}
 use lib.Seq.{length-take-le, take-at, drop-at, drop-cons, drop-drop, set-at, append-snoc}
-use Rattle.lines.specs.Spelling.{put}
+use Rattle.rules.specs.Lines.{digits}
+use Rattle.theory.specs.Digits.{length-digits}
+use Rattle.lines.specs.Spelling.{put, Puts}
 
 -- xs stand at the buffer's start, and the bytes past them are those of zs
 pub record Filled (xs zs buffer : List ℕ) : Type 0 where
@@ -20,10 +22,10 @@ pub filled-length : {xs zs b : List ℕ} → Filled xs zs b → length b ≡ len
 filled-length {xs} {zs} {b} f =
     ap length (f .stand) ∙ omega (arith, length-append xs (drop (length xs) zs), length-drop (length xs) zs, f .room)
 
--- bytes put behind them
-pub filled-put : (a : ℕ) (ys b′ : List ℕ) {xs zs b : List ℕ} → Filled xs zs b → length xs ≡ a → a + length ys ≤ length zs → b′ ≡ put a ys b →
+-- bytes put behind them, and a number v in k digits
+pub filled-put : (a : ℕ) (ys : List ℕ) {xs zs b b′ : List ℕ} → Filled xs zs b → length xs ≡ a → a + length ys ≤ length zs → b′ ≡ put a ys b →
     Filled (xs ++ ys) zs b′
-filled-put a ys b′ {xs} {zs} {b} f l h e =
+filled-put a ys {xs} {zs} {b} f l h e =
     let rest = drop (length xs) zs in
     let n : length (xs ++ ys) ≡ length xs + length ys = length-append xs ys in
     let m : a + length ys ≡ length (xs ++ ys) = omega arith in
@@ -31,6 +33,11 @@ filled-put a ys b′ {xs} {zs} {b} f l h e =
     let d : drop (a + length ys) b ≡ drop (length (xs ++ ys)) zs =
     sym (drop-drop (length ys) a b) ∙ rw (f .stand, drop-at xs rest a l, drop-drop, n) in
     record { room = omega arith; stand = e ∙ rw (t, d) }
+
+pub filled-number : (k v : ℕ) {value count at : ℕ} {xs zs b b′ : List ℕ} → Filled xs zs b → Puts value count at b b′ →
+    (value ≡ v) × (count ≡ k) × (at ≡ length xs) × (at + count ≤ length zs) → Filled (xs ++ digits k v) zs b′
+filled-number k v {at = a} f p h =
+    filled-put a (digits k v) f (sym (h .2)) (omega (arith, h .1, h .3, length-digits k v)) (rw (h .1, h .0) at (p .left))
 
 -- a byte more
 pub filled-byte : (a x : ℕ) {xs zs b : List ℕ} → Filled xs zs b → length xs ≡ a → a < length zs → Filled (xs ++ (x ∷ [])) zs (set b a x)

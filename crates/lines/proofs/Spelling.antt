@@ -14,7 +14,7 @@ use Rattle.rules.specs.Lines.{digit, is-digit, digit-value, digits, number-from
 use Rattle.theory.specs.Tests.{either}
 use Rattle.theory.specs.Digits.{digit-range, digit-valued, length-digits, digits-step}
 use Rattle.lines.specs.declared.digits.Spelt.the-variants.{Number, Nothing}
-use Rattle.lines.specs.Spelling.{value-or, spelt, put}
+use Rattle.lines.specs.Spelling.{value-or, spelt, put, Puts}
 
 -- A DIGIT'S VALUE
 pub no-digit : (n b : ℕ) → (48 ≤ b → b ≤ 57 → ⊥) → (65 ≤ b → b ≤ 70 → ⊥) → value-or n b ≡ n
@@ -129,12 +129,12 @@ put-more {at = a} {b = b} {rest = rest} {i = i} {d = d} {next = next} p h e q =
           ∙ rw (t, drop-set b j d (omega (arith, p .most)), s, q, e, g) (sym (append-assoc (take a b) (digits (i - a) rest) (drop i b)) ∙ p .stands);
     }
 
-pub put-whole : {value count at : ℕ} {z b : List ℕ} {rest i : ℕ} → Put value count at z b rest i → i ≤ at → b ≡ put at (digits count value) z
+pub put-whole : {value count at : ℕ} {z b : List ℕ} {rest i : ℕ} → Put value count at z b rest i → i ≤ at → Puts value count at z b
 unfolding digits
 put-whole {at = a} {b = b} {i = i} p h =
     let s : i ≡ a = omega (arith, p .least) in
     let k : a - a ≡ 0 = omega arith in
-    sym (take-append-drop a b) ∙ sym (ap (λ (xs : List ℕ). xs ++ drop a b) (append-nil (take a b))) ∙ rw (s, k) at (p .stands)
+    record { left = sym (take-append-drop a b) ∙ sym (ap (λ (xs : List ℕ). xs ++ drop a b) (append-nil (take a b))) ∙ rw (s, k) at (p .stands) }
 
 -- BYTES COPIED, the first i of them
 pub record Copied (bytes : List ℕ) (at : ℕ) (before buffer : List ℕ) (i : ℕ) : Type 0 where

@@ -107,10 +107,10 @@ module _ (c : rules.Command) (ps z : List ℕ) where
   -- the front stands in b, the payload behind it in b′; then the 0A is put
   pub write-on : {b b′ : List ℕ} {f : ℕ} {r : Written} → stands c ps ≡ true → f ≡ front-size c → f + length ps < length z →
       b ≡ front c ++ drop (front-size c) z → b′ ≡ put f ps b → r ≡ Length (f + length ps + 1) → Writes c ps z (set b′ (f + length ps) line-end) r
-  write-on {b} {b′} {f} e g h q p o =
+  write-on {b} {f = f} e g h q p o =
       let l : length (front c) ≡ f = length-front c ∙ sym g in
       let one : Filled (front c) z b = record { room = omega arith; stand = rw (length-front c) q } in
-      let two = filled-put f ps b′ one l (omega arith) p in
+      let two = filled-put f ps one l (omega arith) p in
       let n : length (front c ++ ps) ≡ f + length ps = length-append (front c) ps ∙ rw l in
       let all = filled-byte (f + length ps) line-end two n h in
       let t = text-front c ps in

@@ -4,7 +4,7 @@ use mathlib.Core.Bool.{true, cond}
 use mathlib.Core.List.{List, _++_}
 use Prim.Native.Nat.{ℕ, _+_, _-_, _<_}
 use lib.ListN.{length, getD, take, drop}
-use Rattle.rules.specs.Lines.{is-digit, digit-value, number-from, all-digits, line-end}
+use Rattle.rules.specs.Lines.{is-digit, digit-value, digits, number-from, all-digits, line-end}
 use Rattle.lines.specs.declared.digits.Spelt.{Spelt}
 use Rattle.lines.specs.declared.digits.Spelt.the-variants.{Number, Nothing}
 
@@ -26,3 +26,7 @@ pub record Begun (kind : ℕ) (line : List ℕ) : Type 0 where
 -- a buffer with bytes put at a place
 abbrev pub put : (at : ℕ) (bytes before : List ℕ) → List ℕ
 put a xs z = take a z ++ xs ++ drop (a + length xs) z
+
+-- a number put there in so many digits
+pub record Puts (value count at : ℕ) (before after : List ℕ) : Type 0 where
+  pub left : after ≡ put at (digits count value) before

@@ -2,8 +2,8 @@
 ghost use mathlib.Core.Path.{_≡_};
 ghost use Prim.Native.Nat.{_+_, _≤_, _<_};
 ghost use lib.ListN.{length};
-ghost use Rattle.rules.specs.Lines.{all-digits, digit, digits};
-ghost use Rattle.lines.specs.Spelling.{put, spelt, value-or};
+ghost use Rattle.rules.specs.Lines.{all-digits, digit};
+ghost use Rattle.lines.specs.Spelling.{Puts, put, spelt, value-or};
 
 // What bytes spell: a number, or nothing where one is no digit.
 pub enum Spelt {
@@ -75,7 +75,7 @@ fn digit(v: u32) -> u8
 // A number in so many digits, from a place of the buffer on.
 pub fn put_number(value: u32, count: usize, at: usize, buffer: &mut [u8])
     requires { ⌜ at + count ≤ length (now buffer) ⌝ }
-    ensures { λ _. ⌜ now (buffer .exit) ≡ put at (digits count value) (now (buffer .entry)) ⌝ }
+    ensures { λ _. ⌜ Puts value count at (now (buffer .entry)) (now (buffer .exit)) ⌝ }
 {
     let mut rest = value;
     let mut i = at + count;

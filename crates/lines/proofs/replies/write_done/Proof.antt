@@ -2,7 +2,7 @@
 use mathlib.Core.Path.{refl}
 use borrow.Author.Needs.{needs}
 use Rattle.rules.specs.Lines.{digits, reply-digits, reply-text}
-use Rattle.lines.proofs.Filling.{filled-none, filled-put, filled-byte}
+use Rattle.lines.proofs.Filling.{filled-none, filled-number, filled-byte}
 use Rattle.lines.proofs.Writing.{replied}
 use Rattle.lines.proofs.replies.write_done.Statement.{statement}
 use Rattle.lines.proofs.replies.write_done.Tie as tie
@@ -20,7 +20,7 @@ returns : tie.Need-returns
 unfolding digits reply-digits reply-text
 returns c =
     let z = c .before .before .before .before .before .args .buffer .now in
-    let one = filled-put 0 (digits 2 0) (c .before .before .put-number .last .1 .1 .1 .0) (filled-none z) refl (search needs) cc in
+    let one = filled-number 2 0 (filled-none z) (c .before .before .put-number .ensures) (search needs) in
     replied (filled-byte 2 10 one refl (search needs)) (search needs)
 
 pub write-done-spec : {M : Type 1} → statement M

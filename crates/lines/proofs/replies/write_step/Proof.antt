@@ -4,7 +4,7 @@ use lib.ListN.{length-set}
 use borrow.Author.Needs.{needs}
 use Rattle.rules.specs.Lines.{digits}
 use Rattle.lines.specs.Writing.{step-text}
-use Rattle.lines.proofs.Filling.{filled-none, filled-put, filled-byte}
+use Rattle.lines.proofs.Filling.{filled-none, filled-number, filled-byte}
 use Rattle.lines.proofs.Writing.{replied}
 use Rattle.lines.proofs.replies.write_step.Statement.{statement}
 use Rattle.lines.proofs.replies.write_step.Tie as tie
@@ -32,10 +32,10 @@ unfolding digits step-text
 returns c =
     let s = c .before .before .before .before .before .before .before .before .before .before .before .before .before .before .before .before .before .args in
     let after = c .before .before .before .before .before .before .before .before .before .before in
-    let one = filled-put 0 (digits 2 2) (after .before .before .before .before .put-number .last .1 .1 .1 .0) (filled-none (s .buffer .now)) refl (search needs) cc in
-    let two = filled-put 2 (digits 2 (s .out)) (after .put-number2 .last .1 .1 .1 .0) one refl (search needs) cc in
-    let three = filled-put 4 (digits 2 (s .leap)) (c .before .before .before .before .before .before .put-number3 .last .1 .1 .1 .0) two refl (search needs) cc in
-    let four = filled-put 6 (digits 8 (s .gone .0)) (c .before .before .put-number4 .last .1 .1 .1 .0) three refl (search needs) cc in
+    let one = filled-number 2 2 (filled-none (s .buffer .now)) (after .before .before .before .before .put-number .ensures) (search needs) in
+    let two = filled-number 2 (s .out) one (after .put-number2 .ensures) (search needs) in
+    let three = filled-number 2 (s .leap) two (c .before .before .before .before .before .before .put-number3 .ensures) (search needs) in
+    let four = filled-number 8 (s .gone .0) three (c .before .before .put-number4 .ensures) (search needs) in
     replied (filled-byte 14 10 four refl (search needs)) (search needs)
 
 pub write-step-spec : {M : Type 1} → statement M

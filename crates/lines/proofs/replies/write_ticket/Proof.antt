@@ -3,7 +3,7 @@ use mathlib.Core.Path.{refl}
 use lib.ListN.{length-set}
 use borrow.Author.Needs.{needs}
 use Rattle.rules.specs.Lines.{digits, reply-digits, reply-text}
-use Rattle.lines.proofs.Filling.{filled-none, filled-put, filled-byte}
+use Rattle.lines.proofs.Filling.{filled-none, filled-number, filled-byte}
 use Rattle.lines.proofs.Writing.{replied}
 use Rattle.lines.proofs.replies.write_ticket.Statement.{statement}
 use Rattle.lines.proofs.replies.write_ticket.Tie as tie
@@ -24,8 +24,8 @@ returns : tie.Need-returns
 unfolding digits reply-digits reply-text
 returns c =
     let s = c .before .before .before .before .before .before .before .before .before .args in
-    let one = filled-put 0 (digits 2 1) (c .before .before .before .before .before .before .put-number .last .1 .1 .1 .0) (filled-none (s .buffer .now)) refl (search needs) cc in
-    let two = filled-put 2 (digits 8 (s .given .0)) (c .before .before .put-number2 .last .1 .1 .1 .0) one refl (search needs) cc in
+    let one = filled-number 2 1 (filled-none (s .buffer .now)) (c .before .before .before .before .before .before .put-number .ensures) (search needs) in
+    let two = filled-number 8 (s .given .0) one (c .before .before .put-number2 .ensures) (search needs) in
     replied (filled-byte 10 10 two refl (search needs)) (search needs)
 
 pub write-ticket-spec : {M : Type 1} → statement M

@@ -7,7 +7,7 @@ use borrow.Author.Needs.{needs}
 use Rattle.rules.specs.Lines.{digits}
 use Rattle.theory.specs.Lines.{front}
 use Rattle.lines.specs.Cases.{command-of}
-use Rattle.lines.proofs.Filling.{filled-none, filled-put}
+use Rattle.lines.proofs.Filling.{filled-none, filled-number}
 use Rattle.lines.proofs.Writing.{open-size, take-size, send-size, front-filled}
 use Rattle.lines.proofs.writer.put_front.Statement.{statement}
 use Rattle.lines.proofs.writer.put_front.Tie as tie
@@ -64,8 +64,8 @@ returns c =
     let command = c .before .before .before .before .before .before .before .before .before in
     let r = open-room command in
     let s = c .before .before .before .before .before .before .before .before .before .before .before .before .args in
-    let one = filled-put 0 (digits 2 0) (c .before .before .before .before .before .before .put-number .last .1 .1 .1 .0) (filled-none (s .buffer .now)) refl (omega arith) cc in
-    let two = filled-put 2 (digits 4 (command .command .given .0 .0 .0)) (c .before .before .put-number2 .last .1 .1 .1 .0) one refl (omega arith) cc in
+    let one = filled-number 2 0 (filled-none (s .buffer .now)) (c .before .before .before .before .before .before .put-number .ensures) (search needs) in
+    let two = filled-number 4 (command .command .given .0 .0 .0) one (c .before .before .put-number2 .ensures) (search needs) in
     front-filled (command-of (s .command)) (rw (command .command .given .1)) two
 
 same-length-2 : tie.Need-same-length-2
@@ -79,9 +79,9 @@ returns-2 c =
     let r = take-room command in
     let s = c .before .before .before .before .before .before .before .before .before .before .before .before .before .before .before .before .args in
     let put = c .before .before .before .before .before .before in
-    let one = filled-put 0 (digits 2 1) (put .before .before .before .before .put-number3 .last .1 .1 .1 .0) (filled-none (s .buffer .now)) refl (omega arith) cc in
-    let two = filled-put 2 (digits 4 (both .0 .0)) (put .put-number4 .last .1 .1 .1 .0) one refl (omega arith) cc in
-    let three = filled-put 6 (digits 8 (both .1 .0 .0)) (c .before .before .put-number5 .last .1 .1 .1 .0) two refl (omega arith) cc in
+    let one = filled-number 2 1 (filled-none (s .buffer .now)) (put .before .before .before .before .put-number3 .ensures) (search needs) in
+    let two = filled-number 4 (both .0 .0) one (put .put-number4 .ensures) (search needs) in
+    let three = filled-number 8 (both .1 .0 .0) two (c .before .before .put-number5 .ensures) (search needs) in
     front-filled (command-of (s .command)) (rw (command .command2 .given .1)) three
 
 same-length-3 : tie.Need-same-length-3
@@ -93,7 +93,7 @@ returns-3 c =
     let command = c .before .before .before .before in
     let r = send-room command in
     let s = c .before .before .before .before .before .before .before .args in
-    let one = filled-put 0 (digits 2 2) (c .before .before .put-number6 .last .1 .1 .1 .0) (filled-none (s .buffer .now)) refl (omega arith) cc in
+    let one = filled-number 2 2 (filled-none (s .buffer .now)) (c .before .before .put-number6 .ensures) (search needs) in
     front-filled (command-of (s .command)) (rw (command .enum-told .given .1)) one
 
 pub put-front-spec : {M : Type 1} → statement M

@@ -2,12 +2,12 @@
 use round::Slot;
 use round::Weight;
 
-pub mod digits; // digits.rt: digits, and numbers in digits
-pub mod reader; // reader.rt: a line's command
-pub mod part; // part.rt: a line's payload
-pub mod writer; // writer.rt: a command's line
-pub mod ends; // ends.rt: where a line ends
-pub mod replies; // replies.rt: a reply's line
+mod digits; // digits.rt: digits, and numbers in digits
+mod reader; // reader.rt: a line's command
+mod part; // part.rt: a line's payload
+mod writer; // writer.rt: a command's line
+mod ends; // ends.rt: where a line ends
+mod replies; // replies.rt: a reply's line
 
 pub use ends::line_end;
 pub use part::payload;
@@ -36,6 +36,9 @@ pub const PAYLOAD_AT: usize = 14;
 pub const MOST_PAYLOAD: usize = 48;
 
 pub const LINE_END: u8 = 10;
+
+// The room that each reply's line fits in.
+pub const REPLY_ROOM: usize = 15;
 
 // A command, one for each line number.
 pub enum Command {

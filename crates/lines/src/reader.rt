@@ -16,6 +16,7 @@ use crate::digits::number;
 use round::Slot;
 use round::Weight;
 
+// A command, or refusal 1.
 pub fn read_command(line: &[u8]) -> Reading
     ensures { λ r. ⌜ reading-of r ≡ read (now (line .entry)) ⌝ }
 {

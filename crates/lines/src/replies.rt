@@ -11,9 +11,6 @@ use crate::WIDE_DIGITS;
 use crate::digits::put_number;
 use round::Ticket;
 
-// The longest reply's line, a step's.
-pub const REPLY_ROOM: usize = 15;
-
 // An opening's.
 pub fn write_done(buffer: &mut [u8]) -> usize
     requires { ⌜ 15 ≤ length (now buffer) ⌝ }

@@ -1,0 +1,22 @@
+-- Where a line of an input ends. Assumes nothing: these are definitions.
+use mathlib.Core.Path.{_≡_}
+use mathlib.Core.List.{List}
+use Prim.Native.Nat.{ℕ, _≤_, _<_}
+use lib.ListN.{length, getD}
+use Rattle.rules.specs.Lines.{line-end}
+use Rattle.lines.specs.declared.LineEnd.{LineEnd}
+use Rattle.lines.specs.declared.LineEnd.the-variants.{At, Nowhere}
+
+-- no 0A from a place up to another
+abbrev pub None : List ℕ → (from end : ℕ) → Type 0
+None input from end = (k : ℕ) → from ≤ k → k < end → getD input k 0 ≡ line-end → ⊥
+
+pub record First (input : List ℕ) (from at : ℕ) : Type 0 where
+  pub after : from ≤ at
+  pub within : at < length input
+  pub ends : getD input at 0 ≡ line-end
+  pub first : None input from at
+
+abbrev pub Ends : List ℕ → (from : ℕ) → LineEnd → Type 0
+Ends input from (At i) = First input from i
+Ends input from Nowhere = None input from (length input)

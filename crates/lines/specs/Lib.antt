@@ -1,0 +1,5 @@
+pub mod Cases
+pub mod Spelling
+pub mod Part
+pub mod Writing
+pub mod Ends

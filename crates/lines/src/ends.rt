@@ -1,0 +1,18 @@
+// Where the next line of an input ends.
+ghost use Rattle.lines.specs.Ends.{Ends};
+use crate::LINE_END;
+use crate::LineEnd;
+
+// The first 0A at or after a place.
+pub fn line_end(input: &[u8], from: usize) -> LineEnd
+    ensures { λ r. ⌜ Ends (now (input .entry)) from r ⌝ }
+{
+    let mut i = from;
+    while i < input.len() {
+        if input[i] == LINE_END {
+            return LineEnd::At(i);
+        }
+        i += 1;
+    }
+    LineEnd::Nowhere
+}

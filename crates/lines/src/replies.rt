@@ -1,0 +1,57 @@
+// A reply's line, written into a lent buffer: what a call answers, or a refusal's number.
+ghost use mathlib.Core.Path.{_≡_};
+ghost use Prim.Native.Nat.{_≤_};
+ghost use lib.ListN.{length};
+ghost use Rattle.rules.specs.Calls.{refused, done, ticket};
+ghost use Rattle.rules.specs.Lines.{reply-text};
+ghost use Rattle.lines.specs.Writing.{Replies, step-text};
+use crate::KIND_DIGITS;
+use crate::LINE_END;
+use crate::WIDE_DIGITS;
+use crate::digits::put_number;
+use round::Ticket;
+
+// An opening's.
+pub fn write_done(buffer: &mut [u8]) -> usize
+    requires { ⌜ 15 ≤ length (now buffer) ⌝ }
+    ensures { λ r. ⌜ Replies (reply-text done) (now (buffer .entry)) (now (buffer .exit)) r ⌝ }
+{
+    put_number(0, KIND_DIGITS, 0, buffer);
+    buffer[2] = LINE_END;
+    3
+}
+
+// A taking's.
+pub fn write_ticket(given: Ticket, buffer: &mut [u8]) -> usize
+    requires { ⌜ 15 ≤ length (now buffer) ⌝ }
+    ensures { λ r. ⌜ Replies (reply-text (ticket (given .0))) (now (buffer .entry)) (now (buffer .exit)) r ⌝ }
+{
+    put_number(1, KIND_DIGITS, 0, buffer);
+    put_number(given.0, WIDE_DIGITS, 2, buffer);
+    buffer[10] = LINE_END;
+    11
+}
+
+// A sending's: what went out (0 silence, 1 a frame, 2 a kept blank), 1 in a leap and 0 in an ordinary step, and the ticket (0 for silence).
+pub fn write_step(out: u32, leap: u32, gone: Ticket, buffer: &mut [u8]) -> usize
+    requires { ⌜ 15 ≤ length (now buffer) ⌝ }
+    ensures { λ r. ⌜ Replies (step-text out leap (gone .0)) (now (buffer .entry)) (now (buffer .exit)) r ⌝ }
+{
+    put_number(2, KIND_DIGITS, 0, buffer);
+    put_number(out, KIND_DIGITS, 2, buffer);
+    put_number(leap, KIND_DIGITS, 4, buffer);
+    put_number(gone.0, WIDE_DIGITS, 6, buffer);
+    buffer[14] = LINE_END;
+    15
+}
+
+// A refusal's.
+pub fn write_refusal(number: u32, buffer: &mut [u8]) -> usize
+    requires { ⌜ 15 ≤ length (now buffer) ⌝ }
+    ensures { λ r. ⌜ Replies (reply-text (refused number)) (now (buffer .entry)) (now (buffer .exit)) r ⌝ }
+{
+    put_number(255, KIND_DIGITS, 0, buffer);
+    put_number(number, KIND_DIGITS, 2, buffer);
+    buffer[4] = LINE_END;
+    5
+}

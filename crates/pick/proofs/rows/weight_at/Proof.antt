@@ -1,0 +1,28 @@
+use borrow.Author.Needs.{needs}
+use native.Mathlib.Omega.{arith}
+use Rattle.pick.proofs.RowLaws.{reads-within, weight-read}
+use Rattle.pick.proofs.rows.weight_at.Statement.{statement}
+use Rattle.pick.proofs.rows.weight_at.Tie as tie
+use Rattle.pick.proofs.rows.weight_at.Reads as reads
+use Rattle.pick.proofs.rows.weight_at.Lts as lts
+use Rattle.round.proofs.bytes.read4.Reads as read4-reads
+use Rattle.round.proofs.rows.row_at.Reads as row-at-reads
+
+-- src/rows.rt:35:18
+row-at-requires : tie.Need-row-at-requires
+row-at-requires c κs = reads-within _ _ (c .before .pre .0) _ (c .before .pre .1) .0
+
+-- src/rows.rt:35:18
+add-read4 : tie.Need-add-read4
+add-read4 c = search needs
+
+-- src/rows.rt:35:5
+read4-requires : tie.Need-read4-requires
+read4-requires c κs = let h = reads-within _ _ (c .before .before .pre .0) _ (c .before .before .pre .1) .1 in omega (arith, h, c .row-at .ensures)
+
+-- src/rows.rt:31:1
+returns : tie.Need-returns
+returns c = weight-read _ _ _ _ _ (c .before .before .before .pre .0) (c .before .before .before .pre .1) (c .before .row-at .ensures) (c .read4 .ensures)
+
+pub weight-at-spec : {M : Type 1} → statement M
+weight-at-spec = tie.close (tie.spec row-at-requires add-read4 read4-requires returns)

@@ -1,0 +1,9 @@
+pub mod ArrayLaws
+pub mod HeapLaws
+pub mod KeyLaws
+pub mod ListLaws
+pub mod TableLaws
+pub mod TallyLaws
+pub mod SweepLaws
+pub mod HeapedLaws
+pub mod PlanLaws

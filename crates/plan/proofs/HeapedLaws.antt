@@ -9,11 +9,11 @@ use native.Mathlib.Numerals.{add-one}
 use lib.Dec.{eqb}
 use lib.ListN.{length, getD, set, replicate, length-set, length-replicate, getD-replicate}
 use Rattle.theory.specs.Tests.{leb?, ltb?, eqb?}
-use Rattle.rules.specs.Conditions.{used-in, due-in, weight-in}
+use Rattle.rules.specs.Conditions.{due-in, weight-in}
 use Rattle.plan.specs.Keys.{key-in, ahead-in}
 use Rattle.plan.specs.Lists.{Next, Nexts}
 use Rattle.plan.specs.Heap.{Heap, heaped, Grown, Replaced}
-use Rattle.plan.specs.Sweep.{kept?, tally, Mid, Sweeping, Kept}
+use Rattle.plan.specs.Sweep.{kept?, tally, Flagged, Sweeping, Kept}
 use Rattle.plan.proofs.ArrayLaws.{same-place}
 use Rattle.plan.proofs.KeyLaws.{row-in-key, ahead-by}
 use Rattle.plan.proofs.TallyLaws.{tally-on, tally-most, tally-none, tally-at, tally-some}
@@ -61,6 +61,11 @@ is-1 v = elim (is? v v) [ inl a ↦ a .0 | inr a ↦ absurd (a .1 refl) ]
 is-yes : (v x : ℕ) → 1 ≤ is v x → x ≡ v
 is-yes v x h = elim (is? v x) [ inl a ↦ a .1 | inr a ↦ absurd (omega arith) ]
 
+-- other flags of the same rows
+pub flagged-as : (t fs gs : List ℕ) → Flagged t fs → length gs ≡ length fs → Flagged t gs
+flagged-as t fs gs F l =
+    record { used = l ∙ F .used; few = omega (arith, F .few); known = λ i h. F .known i (omega arith) }
+
 -- THE TOP is the key of the lightest row kept
 pub record Lightest (t fs : List ℕ) (top z : ℕ) : Type 0 where
   pub in-rows : z < length fs
@@ -68,9 +73,9 @@ pub record Lightest (t fs : List ℕ) (top z : ℕ) : Type 0 where
   pub key : key-in t z ≡ top
   pub row : top % 1024 ≡ z
 
-module _ (t heap fs : List ℕ) (s a count : ℕ) (few : length fs ≤ 1024) (W : Sweeping t heap fs s a count) where
+module _ (t heap fs : List ℕ) (s a count : ℕ) (W : Sweeping t heap fs s a count) where
   row-is : (j : ℕ) → j < length fs → key-in t j % 1024 ≡ j
-  row-is j h = row-in-key (weight-in t j) (due-in t j) j (omega arith)
+  row-is j h = row-in-key (weight-in t j) (due-in t j) j (omega (arith, W .flagged .few))
 
   top-key : 1 ≤ count → (z : ℕ) × Lightest t fs (getD heap 1 0) z
   top-key h =
@@ -110,13 +115,14 @@ count-under t heap fs s i count W h here =
     )
 
 -- ONE ROW, with its key
-module _ (t heap fs : List ℕ) (s i count k : ℕ) (few : length fs ≤ 1024) (W : Sweeping t heap fs s i count) (h : i < length fs) (here : ahead-in t i ≡ s) (is-key : k ≡ key-in t i) where
+module _ (t heap fs : List ℕ) (s i count k : ℕ) (W : Sweeping t heap fs s i count) (h : i < length fs) (here : ahead-in t i ≡ s) (is-key : k ≡ key-in t i) where
   not-kept : kept? fs i ≡ false
   not-kept = off (key-in t) (ahead-in t) (length fs) fs s i count (W .mid) h here
 
   pub joined : (u : List ℕ) → count ≤ s → Grown count k heap u → Sweeping t u (set fs i 1) s (suc i) (count + 1)
   joined u free G =
       record {
+        flagged = flagged-as t fs (set fs i 1) (W .flagged) (length-set fs i 1);
         mid = rw (length-set fs i 1) (join (key-in t) (ahead-in t) (length fs) fs s i count (W .mid) h here free);
         ordered = rw add-one (G .heap);
         keys = λ μ. rw (add-one, length-set fs i 1) (omega (arith, G .keys μ, W .keys μ, ap μ is-key, tally-on (λ j. μ (key-in t j)) fs (length fs) i h h not-kept));
@@ -125,6 +131,7 @@ module _ (t heap fs : List ℕ) (s i count k : ℕ) (few : length fs ≤ 1024) (
   pub stayed : s < count → getD heap 1 0 ≤ k → Sweeping t heap fs s (suc i) count
   stayed full above =
       record {
+        flagged = W .flagged;
         mid = stay (key-in t) (ahead-in t) (length fs) fs s i count (W .mid) h here full under;
         ordered = W .ordered;
         keys = W .keys;
@@ -134,13 +141,14 @@ module _ (t heap fs : List ℕ) (s i count k : ℕ) (few : length fs ≤ 1024) (
       under j a e = elim (ltb? (key-in t j) (key-in t i)) [
         | inl b ↦ b .1
         | inr b ↦
-            let q : key-in t j ≡ key-in t i = omega (arith, b .1, under-top t heap fs s i count few W j a e, above, is-key) in
-            absurd (true≢false (sym e ∙ ap (kept? fs) (differ t heap fs s i count few W j i a h q) ∙ not-kept))
+            let q : key-in t j ≡ key-in t i = omega (arith, b .1, under-top t heap fs s i count W j a e, above, is-key) in
+            absurd (true≢false (sym e ∙ ap (kept? fs) (differ t heap fs s i count W j i a h q) ∙ not-kept))
       ]
 
   pub exchanged : (u : List ℕ) (z : ℕ) → s < count → k < getD heap 1 0 → z ≡ getD heap 1 0 % 1024 → Replaced count k heap u → Sweeping t u (set (set fs z 0) i 1) s (suc i) count
   exchanged u z full over e R =
       record {
+        flagged = flagged-as t fs (set (set fs z 0) i 1) (W .flagged) long;
         mid = rw long (exchange (key-in t) (ahead-in t) (length fs) fs s i count (W .mid) h here full z (L .in-rows) (L .kept) most heavier);
         ordered = R .heap;
         keys = λ μ. rw long (omega (
@@ -154,13 +162,13 @@ module _ (t heap fs : List ℕ) (s i count k : ℕ) (few : length fs ≤ 1024) (
       }
     where
       L : Lightest t fs (getD heap 1 0) z
-      L = subst (Lightest t fs (getD heap 1 0)) (sym e) (top-row t heap fs s i count few W (omega arith))
+      L = subst (Lightest t fs (getD heap 1 0)) (sym e) (top-row t heap fs s i count W (omega arith))
       heavier : key-in t i < key-in t z
       heavier = omega (arith, L .key, over, is-key)
       most : (j : ℕ) → j < length fs → kept? fs j ≡ true → (j ≡ z) ⊎ (key-in t j < key-in t z)
       most j a f = elim (ltb? (key-in t j) (key-in t z)) [
         | inl b ↦ inr (b .1)
-        | inr b ↦ inl (differ t heap fs s i count few W j z a (L .in-rows) (omega (arith, b .1, L .key, under-top t heap fs s i count few W j a f)))
+        | inr b ↦ inl (differ t heap fs s i count W j z a (L .in-rows) (omega (arith, b .1, L .key, under-top t heap fs s i count W j a f)))
       ]
       long : length (set (set fs z 0) i 1) ≡ length fs
       long = length-set (set fs z 0) i 1 ∙ length-set fs z 0
@@ -168,19 +176,30 @@ module _ (t heap fs : List ℕ) (s i count k : ℕ) (few : length fs ≤ 1024) (
 -- ON TO THE NEXT ROW, the next list, and the end
 pub next-row : (t heap fs : List ℕ) (s a c count : ℕ) → Sweeping t heap fs s a count → Next (ahead-in t) (length fs) s a c → Sweeping t heap fs s c count
 next-row t heap fs s a c count W N =
-    record { mid = skip (key-in t) (ahead-in t) (length fs) fs s a c count (W .mid) N; ordered = W .ordered; keys = W .keys }
+    record {
+      flagged = W .flagged;
+      mid = skip (key-in t) (ahead-in t) (length fs) fs s a c count (W .mid) N;
+      ordered = W .ordered;
+      keys = W .keys;
+    }
 
 pub next-list : (t heap fs : List ℕ) (s a count : ℕ) → Sweeping t heap fs s a count → length fs ≤ a → Sweeping t heap fs (suc s) 0 count
 next-list t heap fs s a count W h =
-    record { mid = onward (key-in t) (ahead-in t) (length fs) fs s a count (W .mid) h; ordered = W .ordered; keys = W .keys }
+    record {
+      flagged = W .flagged;
+      mid = onward (key-in t) (ahead-in t) (length fs) fs s a count (W .mid) h;
+      ordered = W .ordered;
+      keys = W .keys;
+    }
 
 pub next-ahead : (t heap fs : List ℕ) (s count : ℕ) → Sweeping t heap fs (suc s) 0 count → Sweeping t heap fs (s + 1) 0 count
 next-ahead t heap fs s count W = rw add-one W
 
-pub none-swept : (t heap fs : List ℕ) → heap ≡ replicate 1026 1 → fs ≡ replicate (length fs) 0 → Sweeping t heap fs 0 0 0
+pub none-swept : (t heap fs : List ℕ) → Flagged t fs → heap ≡ replicate 1026 1 → fs ≡ replicate (length fs) 0 → Sweeping t heap fs 0 0 0
 unfolding heaped
-none-swept t heap fs g e =
+none-swept t heap fs F g e =
     record {
+      flagged = F;
       mid = none-yet (key-in t) (ahead-in t) (length fs) fs refl off;
       ordered = record {
         room = ap length g ∙ length-replicate 1026 one;
@@ -200,11 +219,11 @@ none-swept t heap fs g e =
     off : (j : ℕ) → j < length fs → kept? fs j ≡ false
     off j h = ap (λ (xs : List ℕ). kept? xs j) e ∙ ap (λ (z : ℕ). eqb z 1) (getD-replicate (length fs) j 0 0 h)
 
-pub all-swept : (t heap fs : List ℕ) (s count : ℕ) → length fs ≡ used-in t → Sweeping t heap fs s 0 count → length fs < s → Kept t fs
-all-swept t heap fs s count u W h =
+pub all-swept : (t heap fs : List ℕ) (s count : ℕ) → Sweeping t heap fs s 0 count → length fs < s → Kept t fs
+all-swept t heap fs s count W h =
     record {
       fits = λ e a. W .mid .fits e (omega arith);
-      out = λ j a e. W .mid .out j a (inl (omega (arith, ahead-by t j))) e;
+      out = λ j a e. W .mid .out j a (inl (omega (arith, ahead-by t j, W .flagged .used))) e;
     }
 
 -- IN THE MIDST OF A LIST: row is the next one of it

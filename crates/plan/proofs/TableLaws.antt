@@ -10,6 +10,7 @@ use Rattle.rules.specs.Conditions.{slot-in, used-in, row-at, due-in, weight-in}
 use Rattle.theory.specs.Clauses.{rows-count, length-long, accepted-length}
 use Rattle.theory.specs.Soundness.{row-in, row-there, row-next, accepted-sound}
 use Rattle.plan.specs.Keys.{Row-known, Rows-known}
+use Rattle.plan.specs.Sweep.{Flagged}
 
 rows-there : (t : List ℕ) (z : Row) (k i j : ℕ) → j < k → getD (rows-in k (drop (row-at i) t)) j z ≡ row-in t (i + j)
 unfolding rows-in
@@ -56,3 +57,6 @@ module _ (t : List ℕ) (e : table-refusal t ≡ 0) where
         by = omega (arith, s .dues-by i h, s .last-most);
         most = s .weights-most i h;
       }
+
+  pub flagged : (fs : List ℕ) → length fs ≡ used-in t → Flagged t fs
+  flagged fs l = record { used = l; few = omega (arith, few-rows); known = λ i h. rows-known i (omega arith) }

@@ -6,7 +6,9 @@ use mathlib.Core.List.{List}
 use Prim.Native.Nat.{ℕ, zero, suc, _+_, _≤_, _<_}
 use lib.Dec.{ltb, eqb}
 use lib.ListN.{length, getD}
-use Rattle.plan.specs.Keys.{key-in, ahead-in}
+use Rattle.rules.specs.Limits.{most-rows}
+use Rattle.rules.specs.Conditions.{used-in}
+use Rattle.plan.specs.Keys.{key-in, ahead-in, Rows-known}
 use Rattle.plan.specs.Heap.{Heap, heaped}
 
 -- whether a row has a flag, and the sum of a measure of the first n rows that have one
@@ -45,8 +47,15 @@ pub record Mid (key ahead : ℕ → ℕ) (n : ℕ) (fs : List ℕ) (s a count : 
   pub fits : (e : ℕ) → e ≤ s → tally (before ahead e) fs n ≤ e
   pub out : (j : ℕ) → j < n → Done ahead s a j → kept? fs j ≡ false → Barred key ahead n fs j
 
+-- one flag for each used row of a table
+pub record Flagged (t fs : List ℕ) : Type 0 where
+  pub used : length fs ≡ used-in t
+  pub few : length fs ≤ most-rows
+  pub known : Rows-known t (length fs)
+
 -- the same, with the keys of the rows kept in a heap
 pub record Sweeping (t heap fs : List ℕ) (s a count : ℕ) : Type 0 where
+  pub flagged : Flagged t fs
   pub mid : Mid (key-in t) (ahead-in t) (length fs) fs s a count
   pub ordered : Heap count heap
   pub keys : (μ : ℕ → ℕ) → heaped μ count heap ≡ tally (λ j. μ (key-in t j)) fs (length fs)

@@ -1,11 +1,10 @@
 // Rows by rising due slot: each is kept while a slot is free for it, else the lightest of all leaves.
 ghost use mathlib.Core.Path.{_≡_};
-ghost use Prim.Native.Nat.{ℕ, suc, _≤_, _<_};
+ghost use Prim.Native.Nat.{ℕ, suc, _<_};
 ghost use lib.ListN.{length, replicate};
-ghost use Rattle.rules.specs.Conditions.{used-in};
-ghost use Rattle.plan.specs.Keys.{key-in, ahead-in, Rows-known};
+ghost use Rattle.plan.specs.Keys.{ahead-in};
 ghost use Rattle.plan.specs.Lists.{Next, Firsts, Nexts};
-ghost use Rattle.plan.specs.Sweep.{Sweeping, Kept};
+ghost use Rattle.plan.specs.Sweep.{Flagged, Sweeping, Kept};
 use crate::heap::rise;
 use crate::heap::sink;
 use crate::keys::key_at;
@@ -13,7 +12,7 @@ use crate::keys::row_of;
 
 // One row. Answers how many are kept.
 fn admit(table: &[u8], heap: &mut [u64; 1026], flags: &mut [u8], row: usize, ahead: usize, count: usize) -> usize
-    requires { ⌜ (row < length (now flags)) × (length (now flags) ≤ 1024) × Rows-known (now table) (length (now flags)) × (ahead-in (now table) row ≡ ahead) × Sweeping (now table) (now heap) (now flags) ahead row count ⌝ }
+    requires { ⌜ (row < length (now flags)) × (ahead-in (now table) row ≡ ahead) × Sweeping (now table) (now heap) (now flags) ahead row count ⌝ }
     ensures { λ r. ⌜ Sweeping (now (table .entry)) (now (heap .exit)) (now (flags .exit)) ahead (suc row) r ⌝ }
 {
     let key = key_at(table, row);
@@ -40,7 +39,7 @@ fn wide(x: u16) -> usize
 
 // The rows of one list, from the row that starts it.
 fn admit_list(table: &[u8], heap: &mut [u64; 1026], flags: &mut [u8], next: &[u16; 1024], start: usize, ahead: usize, kept: usize) -> usize
-    requires { ⌜ (length (now flags) ≤ 1024) × Rows-known (now table) (length (now flags)) × Nexts (ahead-in (now table)) (length (now flags)) 0 (now next) × Next (ahead-in (now table)) (length (now flags)) ahead 0 start × Sweeping (now table) (now heap) (now flags) ahead 0 kept ⌝ }
+    requires { ⌜ Nexts (ahead-in (now table)) (length (now flags)) 0 (now next) × Next (ahead-in (now table)) (length (now flags)) ahead 0 start × Sweeping (now table) (now heap) (now flags) ahead 0 kept ⌝ }
     ensures { λ r. ⌜ Sweeping (now (table .entry)) (now (heap .exit)) (now (flags .exit)) (suc ahead) 0 r ⌝ }
 {
     let mut row = start;
@@ -54,7 +53,7 @@ fn admit_list(table: &[u8], heap: &mut [u64; 1026], flags: &mut [u8], next: &[u1
 
 // All lists.
 pub fn sweep(table: &[u8], heap: &mut [u64; 1026], flags: &mut [u8], first: &[u16; 1025], next: &[u16; 1024])
-    requires { ⌜ (length (now flags) ≤ 1024) × Rows-known (now table) (length (now flags)) × Firsts (ahead-in (now table)) (length (now flags)) 0 (now first) × Nexts (ahead-in (now table)) (length (now flags)) 0 (now next) × (now flags ≡ replicate (length (now flags)) 0) × (now heap ≡ replicate 1026 1) × (length (now flags) ≡ used-in (now table)) ⌝ }
+    requires { ⌜ Flagged (now table) (now flags) × Firsts (ahead-in (now table)) (length (now flags)) 0 (now first) × Nexts (ahead-in (now table)) (length (now flags)) 0 (now next) × (now heap ≡ replicate 1026 1) × (now flags ≡ replicate (length (now flags)) 0) ⌝ }
     ensures { λ _. ⌜ Kept (now (table .entry)) (now (flags .exit)) ⌝ }
 {
     let mut ahead: usize = 0;

@@ -1,5 +1,5 @@
+use Rattle.plan.proofs.TableLaws.{few-rows, rows-known, flagged}
 use Rattle.plan.proofs.PlanLaws.{cleared, chosen-kept}
-use Rattle.plan.proofs.TableLaws.{few-rows, rows-known}
 use Rattle.plan.proofs.ListLaws.{firsts-of, nexts-of}
 use mathlib.Core.Path.{_≡_, refl, _∙_}
 use native.Mathlib.Omega.{arith}
@@ -28,13 +28,11 @@ sweep-requires c κs =
     let z = cleared (c .before .before .before .before .before .before .before .before .before .before .before .before .before .args .flags .now) (c .before .before .before .before .before .before .clear .last .0) (c .before .before .before .before .before .before .clear .ensures) in
     let l : length (c .before .before .before .before .before .before .clear .last .0) ≡ c .before .before .before .before .before .before .before .before .before .before .before .before .before .args .used = z .0 ∙ p .3 in
     (
-      omega (arith, few-rows _ (p .0), p .1, l),
-      λ i h. rows-known _ (p .0) i (omega (arith, p .1, l)),
+      flagged _ (p .0) (c .before .before .before .before .before .before .clear .last .0) (l ∙ p .1),
       firsts-of _ _ _ (c .before .before .before .before .before .before .before .before .link .last .1 .0) l (c .before .before .before .before .before .before .before .before .link .ensures .0),
       nexts-of _ _ _ (c .before .before .before .before .before .before .before .before .link .last .1 .1 .0) l (c .before .before .before .before .before .before .before .before .link .ensures .1),
-      z .1,
       refl,
-      l ∙ p .1,
+      z .1,
     )
 
 -- src/choose.rt:13:1

@@ -18,19 +18,19 @@ abbrev μ-loop : tie.MeasureT-loop
 
 -- src/sweep.rt:47:5
 loop-holds : tie.Need-loop-holds Inv-loop μ-loop
-loop-holds c = list-start _ _ _ _ _ _ (c .before .before .pre .4) (c .before .before .pre .3)
+loop-holds c = list-start _ _ _ _ _ _ (c .before .before .pre .2) (c .before .before .pre .1)
 
 -- src/sweep.rt:48:9
 admit-requires : tie.Need-admit-requires Inv-loop μ-loop
-admit-requires c κs = (search needs, search needs, λ i h. c .before .before .before .before .before .before .pre .1 i (omega (arith, c .before .before .before .loop .inv .size)), c .before .before .before .loop .inv .here (search needs), search needs)
+admit-requires c κs = (search needs, c .before .before .before .loop .inv .here (search needs), search needs)
 
 -- src/sweep.rt:49:20
 mul-wide : tie.Need-mul-wide Inv-loop μ-loop
-mul-wide c = search needs
+mul-wide c = let f = c .before .before .before .before .before .before .loop .inv .swept .flagged .few in search needs
 
 -- src/sweep.rt:49:20
 element-copy-out-wide : tie.Need-element-copy-out-wide Inv-loop μ-loop
-element-copy-out-wide c = search needs
+element-copy-out-wide c = omega (arith, c .before .before .before .before .before .before .loop .inv .swept .flagged .few)
 
 -- src/sweep.rt:49:9
 wide-requires : tie.Need-wide-requires Inv-loop μ-loop
@@ -38,11 +38,11 @@ wide-requires c κs = search needs
 
 -- src/sweep.rt:47:5
 loop-less : tie.Need-loop-less Inv-loop μ-loop
-loop-less c = omega (arith, c .wide .ensures, c .before .before .before .before .before .before .before .before .before .before .before .pre .2 (c .before .before .before .before .before .before .before .before .loop .row) (omega arith) (omega arith) .from)
+loop-less c = omega (arith, c .wide .ensures, c .before .before .before .before .before .before .before .before .before .before .before .pre .0 (c .before .before .before .before .before .before .before .before .loop .row) (omega arith) (omega arith) .from)
 
 -- src/sweep.rt:47:5
 loop-again : tie.Need-loop-again Inv-loop μ-loop
-loop-again c = list-more _ _ _ _ _ _ (c .before .before .before .before .before .before .before .before .before .before .before .args .next .now) _ _ _ _ _ (c .before .before .before .before .before .before .before .before .loop .inv) (search needs) (search needs) (c .before .before .before .before .admit .ensures) (c .before .before .before .before .before .before .before .before .before .before .before .pre .2) (c .wide .ensures)
+loop-again c = list-more _ _ _ _ _ _ (c .before .before .before .before .before .before .before .before .before .before .before .args .next .now) _ _ _ _ _ (c .before .before .before .before .before .before .before .before .loop .inv) (search needs) (search needs) (c .before .before .before .before .admit .ensures) (c .before .before .before .before .before .before .before .before .before .before .before .pre .0) (c .wide .ensures)
 
 -- src/sweep.rt:41:1
 same-length : tie.Need-same-length Inv-loop μ-loop

@@ -21,7 +21,7 @@ abbrev μ-loop : tie.MeasureT-loop
 
 -- src/sweep.rt:62:5
 loop-holds : tie.Need-loop-holds Inv-loop μ-loop
-loop-holds c = (refl, search needs, none-swept _ _ _ (c .before .before .pre .5) (c .before .before .pre .4))
+loop-holds c = (refl, search needs, none-swept _ _ _ (c .before .before .pre .0) (c .before .before .pre .3) (c .before .before .pre .4))
 
 -- src/sweep.rt:63:59
 mul-wide : tie.Need-mul-wide Inv-loop μ-loop
@@ -37,7 +37,7 @@ wide-requires c κs = search needs
 
 -- src/sweep.rt:63:9
 admit-list-requires : tie.Need-admit-list-requires Inv-loop μ-loop
-admit-list-requires c κs = (search needs, λ i h. c .before .before .before .before .before .before .before .before .pre .1 i (omega (arith, c .before .before .before .before .before .loop .inv .0)), nexts-of _ _ _ (c .before .before .before .before .before .before .before .before .args .next .now) (c .before .before .before .before .before .loop .inv .0) (c .before .before .before .before .before .before .before .before .pre .3), start-of _ _ _ (c .before .before .before .before .before .before .before .before .args .first .now) _ _ (c .before .before .before .before .before .loop .inv .0) (c .before .before .before .before .before .before .before .before .pre .2) (search needs) (c .wide .ensures), c .before .before .before .before .before .loop .inv .2)
+admit-list-requires c κs = (nexts-of _ _ _ (c .before .before .before .before .before .before .before .before .args .next .now) (c .before .before .before .before .before .loop .inv .0) (c .before .before .before .before .before .before .before .before .pre .2), start-of _ _ _ (c .before .before .before .before .before .before .before .before .args .first .now) _ _ (c .before .before .before .before .before .loop .inv .0) (c .before .before .before .before .before .before .before .before .pre .1) (search needs) (c .wide .ensures), c .before .before .before .before .before .loop .inv .2)
 
 -- src/sweep.rt:64:9
 add-ahead : tie.Need-add-ahead Inv-loop μ-loop
@@ -57,7 +57,7 @@ same-length c = search needs
 
 -- src/sweep.rt:56:1
 returns : tie.Need-returns Inv-loop μ-loop
-returns c = all-swept _ _ _ _ _ (search needs) (c .before .loop .inv .2) (search needs)
+returns c = all-swept _ _ _ _ _ (c .before .loop .inv .2) (search needs)
 
 pub sweep-spec : {M : Type 1} → statement M
 sweep-spec =

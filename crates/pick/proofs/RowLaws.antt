@@ -11,7 +11,7 @@ use Rattle.theory.specs.All.{all-in}
 use Rattle.theory.specs.Full.{Fine, Row-fine}
 use Rattle.theory.specs.Keys.{getD-in}
 use Rattle.theory.specs.Sane.{sound}
-use Rattle.theory.specs.Clauses.{rows-count, long, accepted-length}
+use Rattle.theory.specs.Clauses.{rows-count, length-long, accepted-length}
 use Rattle.theory.specs.Soundness.{row-in, row-there, row-next}
 use Rattle.round.specs.declared.Round.{Round as Head}
 use Rattle.pick.specs.Rows.{Ready, Due-at, Weight-at, at}
@@ -31,7 +31,7 @@ pub known : (t : List ℕ) (h : Head) → Ready t h → Known t h
 unfolding round-in round
 known t h k =
     let s = sound t (k .sound) .sane in
-    let l = long t (accepted-length t (k .sound)) in
+    let l = length-long t (accepted-length t (k .sound)) in
     let n = rows-count (used-in t) (drop 16 t) in
     record {
       fine = s .fine;

@@ -1,11 +1,13 @@
 -- Entries written one after another: the first n, then what stood past them. Assumes nothing.
 use mathlib.Core.Path.{_≡_, refl, sym, ap, _∙_}
 use mathlib.Core.List.{List, [], _∷_, _++_, map, map-append, append-assoc}
-use Prim.Native.Nat.{ℕ, zero, suc, _≤_, _<_}
+use Prim.Native.Nat.{ℕ, zero, suc, _+_, _≤_, _<_}
 use native.Mathlib.Omega.{arith}
 use lib.ListN.{length, getD, set, take, drop, length-set, length-map}
 use lib.Seq.{take-suc, take-length, drop-cons, length-take-le}
-use Rattle.rules.specs.Rows.{Row, blank}
+use Rattle.rules.specs.Rows.{Row, row, blank}
+use Rattle.rules.specs.Table.{field}
+use Rattle.rules.specs.Conditions.{row-at}
 use Rattle.theory.specs.Soundness.{row-in}
 use Rattle.calls.specs.declared.listing.Entry.{Entry}
 use Rattle.calls.specs.Entries.{entry}
@@ -42,3 +44,14 @@ module _ (t xs : List ℕ) (rows : List Row) (es : List Entry) (room : length ro
   filled-all =
       filled-part (length rows) (omega arith)
       ∙ ap (λ (zs : List Row). map entry zs ++ drop (length rows) es) (take-length rows)
+
+-- the entry that the code reads
+pub entry-read : (t : List ℕ) (i a k d w : ℕ) → a ≡ row-at i → k ≡ field (a + 0) 4 t → d ≡ field (a + 4) 2 t → w ≡ field (a + 6) 4 t →
+    _≡_ {A = Entry} (record { ticket = record { 0 = k }; due = record { 0 = d }; weight = record { 0 = w } }) (entry (row-in t i))
+unfolding row
+entry-read t i a k d w e x y z j =
+    record {
+      ticket = record { 0 = (x ∙ ap (λ (n : ℕ). field (n + 0) 4 t) e) j };
+      due = record { 0 = (y ∙ ap (λ (n : ℕ). field (n + 4) 2 t) e) j };
+      weight = record { 0 = (z ∙ ap (λ (n : ℕ). field (n + 6) 4 t) e) j };
+    }

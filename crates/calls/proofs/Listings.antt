@@ -5,13 +5,14 @@ use Prim.Native.Nat.{ℕ, _+_, _≤_, _<_}
 use native.Mathlib.Omega.{arith}
 use borrow.Author.Tests.{lt-ltb, le-ltb, ne-eqb}
 use lib.ListN.{length, getD}
+use Rattle.rules.specs.Rows.{round}
 use Rattle.rules.specs.Table.{round-in, table-refusal}
 use Rattle.rules.specs.Plan.{listed}
 use Rattle.rules.specs.Calls.{amount, refused, first, send-refusal, list-refusal, list-answer, list-left}
 use Rattle.round.specs.declared.Round.{Round}
 use Rattle.round.specs.Head.{Head-of}
 use Rattle.pick.specs.Rows.{Ready}
-use Rattle.pick.proofs.RowLaws.{known, at-is, reads-within}
+use Rattle.pick.proofs.RowLaws.{Known, known, at-is, reads-within}
 use Rattle.order.specs.declared.Order.{Order}
 use Rattle.order.specs.Ordered.{Ordered}
 use Rattle.calls.specs.declared.listing.Entry.{Entry}
@@ -54,6 +55,16 @@ refused-says t room n l e h g =
       left = λ es a. rw (g .count, a, f);
     }
 
+pub table-says : (t : List ℕ) (room n : ℕ) (l : Listing) → (n ≡ table-refusal t) × (n ≡ 0 → ⊥) → Nothing-listed n l → Listing-says t room l
+table-says t room n l j g = refused-says t room n l (list-table t room n (j .0) (j .1)) (j .1) g
+
+pub over-says : (t : List ℕ) (h : Round) (room : ℕ) (l : Listing) → (table-refusal t ≡ 0) × Head-of t h → h .last .0 < h .slot .0 → Nothing-listed 5 l → Listing-says t room l
+unfolding round-in round
+over-says t h room l k e g = refused-says t room 5 l (list-over t room (k .0) (omega (arith, k .1 .slot, k .1 .last))) (λ z. omega (arith, z)) g
+
+pub short-says : (t : List ℕ) (h : Round) (room : ℕ) (o : Order) (l : Listing) → Ready t h → Ordered (round-in t) o → room < o .count → Nothing-listed 12 l → Listing-says t room l
+short-says t h room o l k d e g = refused-says t room 12 l (list-short t room (k .sound) (known t h k .time) (omega (arith, d .count))) (λ z. omega (arith, z)) g
+
 -- ACCEPTED: the rows in their order
 pub accepted-says : (t : List ℕ) (h : Round) (room : ℕ) (o : Order) → Ready t h → Ordered (round-in t) o → o .count ≤ room →
     Listing-says t room (record { reply = Count (o .count); count = o .count; at = o .at })
@@ -70,6 +81,7 @@ accepted-says t h room o k d fit =
           (λ i b. sym (at-is t h k (getD (o .at) i 0) (omega (arith, d .within i (omega (arith, d .count)), n .used))) ∙ d .is i (omega (arith, d .count))));
     }
   where
+    n : Known t h
     n = known t h k
     f : list-refusal t room ≡ 0
     f = list-fits t room (k .sound) (n .time) (omega (arith, d .count))

@@ -55,3 +55,12 @@ entry-read t i a k d w e x y z j =
       due = record { 0 = (y ∙ ap (λ (n : ℕ). field (n + 4) 2 t) e) j };
       weight = record { 0 = (z ∙ ap (λ (n : ℕ). field (n + 6) 4 t) e) j };
     }
+
+-- no entry, and one more
+pub filled-none : (t xs : List ℕ) (es : List Entry) → es ≡ filled 0 t xs es
+unfolding filled
+filled-none t xs es = refl
+
+pub filled-more : (n : ℕ) (t xs : List ℕ) (es : List Entry) → set (filled n t xs es) n (entry (row-in t (getD xs n 0))) ≡ filled (suc n) t xs es
+unfolding filled
+filled-more n t xs es = refl

@@ -114,6 +114,16 @@ index-same r i = ap (λ (xs : List ℕ). getD xs i 0) (map-id (r .at))
 index-room : (r : Listing) → Is Rows (indices r) (rows-val r ∷ []) → length (indices r) ≡ 1024
 index-room r p = p .1 .0 .1
 
+-- ---- the locals' types
+abbrev table-ty : Ty
+table-ty = sliceTy (tyRef (named 0) imm (tyInt w8))
+
+abbrev list-ty : Ty
+list-ty = sliceTy (tyRef (named 1) mut (pointee (E.the-row .written)))
+
+abbrev rows-ty : Ty
+rows-ty = tyArray (tyInt w16) 1024
+
 abbrev Args : Type 0
 Args = RefT (List ℕ) × (RefT (List Entry) × Unit {0})
 
@@ -184,6 +194,11 @@ module _ {M : Type 1} (𝓤 : URA M) (H : Heap 𝓤) (A : Atoms 𝓤) (W : Given
     pick-said : (r : Entry) → ent 𝓤 (ensured 𝓤 H A pickf.ended (pickf.clauses 𝓤 H A mem run) (κ, tt) (t, (i, tt)) tt r) (fact 𝓤 (r ≡ entry (row-in (t .now) i)))
     pick-said r = exE 𝓤 _ (λ ws. snd∗ 𝓤 (sem 𝓤 H A (lasts pickf.ended (κ, tt) (t, (i, tt)) ws)) (fact 𝓤 (r ≡ entry (row-in (t .now) i))))
 
+  module _ (l₀ l₁ l₂ l₃ l₄ l₅ l₆ l₇ l₈ l₉ l₁₀ l₁₁ l₁₂ l₁₃ l₁₄ : ℕ) where
+    abbrev En : Env 𝓤 H
+    En = (L′.mir, l₀) ∷ (table-ty, l₁) ∷ (list-ty, l₂) ∷ (P′.mir, l₃) ∷ (rows-ty, l₄) ∷ (tyInt w64, l₅) ∷ (tyInt w64, l₆) ∷ (tyBool, l₇) ∷ (E′.mir, l₈)
+        ∷ (tyInt w64, l₉) ∷ (tyPtr, l₁₀) ∷ (tyPtr, l₁₁) ∷ (tyInt w16, l₁₂) ∷ (tyInt w64, l₁₃) ∷ (tyPtr, l₁₄) ∷ []
+
   -- once the plan is decided
   module _ (r : Listing) (says-r : Listing-says (t .now) (length ys) r) (parts : Parts r) (gn : Room E.the-row (length ys)) (gt : Room u8 (length (t .now))) where
     abbrev lst : ℕ → List Entry
@@ -217,18 +232,8 @@ module _ {M : Type 1} (𝓤 : URA M) (H : Heap 𝓤) (A : Atoms 𝓤) (W : Given
       abbrev Λ : Loops 𝓤 H
       Λ = 𝓣 .Λ
 
-      abbrev table-ty : Ty
-      table-ty = sliceTy (tyRef (named 0) imm (tyInt w8))
-
-      abbrev list-ty : Ty
-      list-ty = sliceTy (tyRef (named 1) mut (pointee (E.the-row .written)))
-
-      abbrev rows-ty : Ty
-      rows-ty = tyArray (tyInt w16) 1024
-
-      abbrev En : Env 𝓤 H
-      En = (L′.mir, l₀) ∷ (table-ty, l₁) ∷ (list-ty, l₂) ∷ (P′.mir, l₃) ∷ (rows-ty, l₄) ∷ (tyInt w64, l₅) ∷ (tyInt w64, l₆) ∷ (tyBool, l₇) ∷ (E′.mir, l₈)
-          ∷ (tyInt w64, l₉) ∷ (tyPtr, l₁₀) ∷ (tyPtr, l₁₁) ∷ (tyInt w16, l₁₂) ∷ (tyInt w64, l₁₃) ∷ (tyPtr, l₁₄) ∷ []
+      abbrev Vars : Env 𝓤 H
+      Vars = En l₀ l₁ l₂ l₃ l₄ l₅ l₆ l₇ l₈ l₉ l₁₀ l₁₁ l₁₂ l₁₃ l₁₄
 
       abbrev Frame : List (Item 𝓤)
       Frame = ‵ (fat fullShare table-ty l₁ 0 s) ∷ ‵ (fat fullShare list-ty l₂ 0 s′) ∷ ‵ (fat fullShare P′.mir l₃ 0 (plan-val r)) ∷ ‵ (froom L′.mir l₀ 0) ∷ ‵ (froom (tyInt w64) l₆ 0)
@@ -248,10 +253,10 @@ module _ {M : Type 1} (𝓤 : URA M) (H : Heap 𝓤) (A : Atoms 𝓤) (W : Given
       Below k = ex 𝓤 (λ (k′ : ℕ). guard 𝓤 (k′ < k) (Inv k′))
 
       abbrev Left : Out → SProp 𝓤
-      Left = afterBlock 𝓤 H (afterSeq 𝓤 H (Wp 𝓤 H C Λ En code.Mir.t-6 (atReturn 𝓤 H En Post)) (atReturn 𝓤 H En Post))
+      Left = afterBlock 𝓤 H (afterSeq 𝓤 H (Wp 𝓤 H C Λ Vars code.Mir.t-6 (atReturn 𝓤 H Vars Post)) (atReturn 𝓤 H Vars Post))
 
       -- a turn that writes one entry
-      more : (i : ℕ) (X : SProp 𝓤) → i < n → ent 𝓤 (⋆ 𝓤 H A (At (suc i))) X → ent 𝓤 (⋆ 𝓤 H A (At i)) (Wp 𝓤 H C Λ En code.Mir.turn-1 (afterTurn 𝓤 H X Left))
+      more : (i : ℕ) (X : SProp 𝓤) → i < n → ent 𝓤 (⋆ 𝓤 H A (At (suc i))) X → ent 𝓤 (⋆ 𝓤 H A (At i)) (Wp 𝓤 H C Λ Vars code.Mir.turn-1 (afterTurn 𝓤 H X Left))
       unfolding afterTurn
       more i X small k =
           let fit : n ≤ length ys = says-r .fits in
@@ -263,7 +268,7 @@ module _ {M : Type 1} (𝓤 : URA M) (H : Heap 𝓤) (A : Atoms 𝓤) (W : Given
           let within : i < length (lst i) = rw (long i) (omega arith) in
           let j = getD (indices r) i 0 in
           let h = subst (λ (m : ℕ). (m < most-rows) × (row-at m + row-size ≤ length (t .now))) (sym (index-same r i)) (says-r .row i small) in
-          qed W (At i) ∵ exec ! C Λ En code.Mir.turn-1 (anyQ (afterTurn 𝓤 H X Left)) $
+          qed W (At i) ∵ exec ! C Λ Vars code.Mir.turn-1 (anyQ (afterTurn 𝓤 H X Left)) $
           assigns ! (bin ! (load ! (from ! (stop !)) (look ! 2 refl)) (load ! (from ! (fld ! refl (stop !))) (look-in ! 13 (sub ! 1 refl (whole !)))) tt) (from ! (stop !)) (init ! 3 refl (tt, tt)) $
           rewrite ! 3 (λ (v : Bool). ‵ (fat fullShare tyBool l₇ 0 (vbool v))) (lt-ltb i n small) refl $
           stays ! (load ! (from ! (stop !)) (look ! 3 refl)) $
@@ -301,14 +306,14 @@ module _ {M : Type 1} (𝓤 : URA M) (H : Heap 𝓤) (A : Atoms 𝓤) (W : Given
           keep ! (0 ∷ 3 ∷ 4 ∷ 5 ∷ 6 ∷ 7 ∷ 8 ∷ 9 ∷ 10 ∷ 11 ∷ 12 ∷ 13 ∷ 14 ∷ 15 ∷ 16 ∷ 17 ∷ 18 ∷ 19 ∷ 20 ∷ 2 ∷ 1 ∷ 21 ∷ 22 ∷ 23 ∷ 24 ∷ 25 ∷ 26 ∷ 27 ∷ 28 ∷ 29 ∷ 30 ∷ 31 ∷ 32 ∷ 33 ∷ 34 ∷ 35 ∷ 36 ∷ []) $ by ! k))))))
 
       -- the turn that leaves the loop, and the rest of the body
-      ends : (X : SProp 𝓤) → ent 𝓤 (⋆ 𝓤 H A (At n)) (Wp 𝓤 H C Λ En code.Mir.turn-1 (afterTurn 𝓤 H X Left))
+      ends : (X : SProp 𝓤) → ent 𝓤 (⋆ 𝓤 H A (At n)) (Wp 𝓤 H C Λ Vars code.Mir.turn-1 (afterTurn 𝓤 H X Left))
       unfolding afterTurn partOf
       ends X =
           let typed = EL.lawful L.the-type L′.the-laws 𝓤 H A W tt .typed (r .reply) _ (parts .reply) .0 in
-          qed W (At n) ∵ exec ! C Λ En code.Mir.turn-1 (anyQ (afterTurn 𝓤 H X Left)) $
+          qed W (At n) ∵ exec ! C Λ Vars code.Mir.turn-1 (anyQ (afterTurn 𝓤 H X Left)) $
           assigns ! (bin ! (load ! (from ! (stop !)) (look ! 2 refl)) (load ! (from ! (fld ! refl (stop !))) (look-in ! 13 (sub ! 1 refl (whole !)))) tt) (from ! (stop !)) (init ! 3 refl (tt, tt)) $
           rewrite ! 3 (λ (v : Bool). ‵ (fat fullShare tyBool l₇ 0 (vbool v))) (le-ltb n n (omega arith)) refl $
-          leaves-loop ! (load ! (from ! (stop !)) (look ! 3 refl)) $ exec ! C Λ En code.Mir.t-6 (atRet En Post) $
+          leaves-loop ! (load ! (from ! (stop !)) (look ! 3 refl)) $ exec ! C Λ Vars code.Mir.t-6 (atRet Vars Post) $
           assigns ! (of-opd ! (load ! (from ! (fld ! refl (stop !))) (look-in ! 13 (sub ! 0 refl (whole !))))) (from ! (stop !)) (init ! 14 refl typed) $
           move ! (0 ∷ 16 ∷ 17 ∷ 18 ∷ []) $ closes-slice ! tt E.the-row ys (lst n) (long n) b o $
           -- the rows are one array again
@@ -329,56 +334,80 @@ module _ {M : Type 1} (𝓤 : URA M) (H : Heap 𝓤) (A : Atoms 𝓤) (W : Given
           (via 𝓤 (guard 𝓤 (suc i + k ≡ n) (⋆ 𝓤 H A (At (suc i)))) (guardI 𝓤 (suc i + k ≡ n) (⋆ 𝓤 H A (At (suc i))) e) (exI 𝓤 (λ (j : ℕ). guard 𝓤 (j + k ≡ n) (⋆ 𝓤 H A (At j))) (suc i)))
           (via 𝓤 (guard 𝓤 (k < suc k) (Inv k)) (guardI 𝓤 (k < suc k) (Inv k) (lt-suc-self k)) (exI 𝓤 (λ (u : ℕ). guard 𝓤 (u < suc k) (Inv u)) k))
 
-      turn-at : (k i : ℕ) → i + k ≡ n → ent 𝓤 (⋆ 𝓤 H A (At i)) (Wp 𝓤 H C Λ En code.Mir.turn-1 (afterTurn 𝓤 H (Below k) Left))
+      turn-at : (k i : ℕ) → i + k ≡ n → ent 𝓤 (⋆ 𝓤 H A (At i)) (Wp 𝓤 H C Λ Vars code.Mir.turn-1 (afterTurn 𝓤 H (Below k) Left))
       turn-at zero i e =
           let z : n ≡ i = omega arith in
-          subst (λ (j : ℕ). ent 𝓤 (⋆ 𝓤 H A (At j)) (Wp 𝓤 H C Λ En code.Mir.turn-1 (afterTurn 𝓤 H (Below zero) Left))) z (ends (Below zero))
+          subst (λ (j : ℕ). ent 𝓤 (⋆ 𝓤 H A (At j)) (Wp 𝓤 H C Λ Vars code.Mir.turn-1 (afterTurn 𝓤 H (Below zero) Left))) z (ends (Below zero))
       turn-at (suc k) i e = more i (Below (suc k)) (omega arith) (below k i (omega arith))
 
-      turns : (k : ℕ) → ent 𝓤 (Inv k) (Wp 𝓤 H C Λ En code.Mir.turn-1 (afterTurn 𝓤 H (Below k) Left))
+      turns : (k : ℕ) → ent 𝓤 (Inv k) (Wp 𝓤 H C Λ Vars code.Mir.turn-1 (afterTurn 𝓤 H (Below k) Left))
       turns k = exE 𝓤 (λ (i : ℕ). guard 𝓤 (i + k ≡ n) (⋆ 𝓤 H A (At i))) (λ i. guardE 𝓤 (i + k ≡ n) (⋆ 𝓤 H A (At i)) (λ e. turn-at k i e))
 
-      loops : ent 𝓤 (⋆ 𝓤 H A (At 0)) (Wp 𝓤 H C Λ En (loop code.Mir.turn-1) Left)
+      loops : ent 𝓤 (⋆ 𝓤 H A (At 0)) (Wp 𝓤 H C Λ Vars (loop code.Mir.turn-1) Left)
       loops =
           via 𝓤 (Inv n)
           (via 𝓤 (guard 𝓤 (0 + n ≡ n) (⋆ 𝓤 H A (At 0))) (guardI 𝓤 (0 + n ≡ n) (⋆ 𝓤 H A (At 0)) (omega arith)) (exI 𝓤 (λ (j : ℕ). guard 𝓤 (j + n ≡ n) (⋆ 𝓤 H A (At j))) 0))
-          (loop-rule 𝓤 H (W .laws) 𝓣 _<_ (Nat·lt-wfRel .wf) En code.Mir.turn-1 Left Inv turns n)
+          (loop-rule 𝓤 H (W .laws) 𝓣 _<_ (Nat·lt-wfRel .wf) Vars code.Mir.turn-1 Left Inv turns n)
 
-  -- the MIR, up to the loop
-  walk : (𝓣 : Tables 𝓤 H) → Triple 𝓤 (𝓣 .C #plan) (Plans 𝓤 H A mem run) → Triple 𝓤 (𝓣 .C #pick) (Picks 𝓤 H A mem run) → Room u8 (length (t .now)) → Room E.the-row (length ys)
-      → ent 𝓤 (onEntry 𝓤 H A f.signature (κ, (κ′, tt)) (q, (q′, tt)) a vals) (WpFn 𝓤 H (𝓣 .C) (𝓣 .Λ) code.function (s ∷ s′ ∷ []) Post)
-  unfolding partOf
-  walk 𝓣 planned known gt gn =
-      qed W ((‵ (flft κ q) ⊛ (‵ (flft κ′ q′) ⊛ ‵ ftrue)) ∷ ‵ (owns (ShrSlice (named 0) κ u8 ∷ MutSlice (named 1) κ′ E.the-row ∷ []) a vals) ∷ []) ∵ enter ! (𝓣 .C) (𝓣 .Λ) code.function (s ∷ s′ ∷ []) _ $
-      alloc1 ! (λ l₀. alloc1 ! (λ l₁. alloc1 ! (λ l₂. alloc1 ! (λ l₃. alloc1 ! (λ l₄. alloc1 ! (λ l₅. alloc1 ! (λ l₆. alloc1 ! (λ l₇. alloc1 ! (λ l₈. alloc1 ! (λ l₉. alloc1 ! (λ l₁₀. alloc1 ! (λ l₁₁. alloc1 ! (λ l₁₂. alloc1 ! (λ l₁₃. alloc1 ! (λ l₁₄. alloc0 ! $ params1 ! $
-      pass1 ! (init ! 26 refl (tt, (tt, (record { fits = gt .0 }, tt)))) $ pass1 ! (init ! 24 refl (tt, (tt, (record { fits = gn .0 }, tt)))) $ pass0 ! $
-      assigns ! (of-opd ! (load ! (from ! (fld ! refl (stop !))) (look-in ! 24 (sub ! 1 refl (whole !))))) (from ! (stop !)) (init ! 16 refl (tt, record { fits = gn .0 })) $
-      move ! (31 ∷ []) $ fsplit ! $ use1 W (‵ Tab ⊛ ‵ Tab) (shr-slice-copy 𝓤 H A W (named 0) κ u8 .twice t (s ∷ [])) $ split ! $
-      move ! (33 ∷ []) $ split ! $ move ! (1 ∷ []) $ split ! $ move ! (2 ∷ 1 ∷ []) $ join ! $
-      nothing ! $ owned ! usize (Is usize) (uint-makes 𝓤 H A W w64) (length ys) _ (refl, gn .0) $ fjoin ! $ move ! (3 ∷ 0 ∷ []) $ fjoin ! $
-      move ! (1 ∷ 0 ∷ []) $ use2 W (raw (Plans 𝓤 H A mem run .pre to-plan)) plan-asked $
-      calls-at ! (fmOf 𝓤 H (W .laws) 𝓣) (Plans 𝓤 H A mem run) planned to-plan (and-then ! (load ! (from ! (stop !)) (look ! 30 refl)) (and-then ! (load ! (from ! (stop !)) (look ! 20 refl)) (no-more !))) (λ u.
-      use1 W (later (some (λ (r : Listing). (Tok ⊛ ‵ (P.the-row .own r (u ∷ []))) ⊛ raw (ensured 𝓤 H A planf.ended (planf.clauses 𝓤 H A mem run) (κ, tt) (t, (length ys, tt)) tt r)))) (id⊢ 𝓤 _) $ await ! tt $ pick ! (λ r.
-      split ! $ move ! (1 ∷ []) $ use1 W (raw (fact 𝓤 (Listing-says (t .now) (length ys) r))) (plan-said r) $ heard ! (Listing-says (t .now) (length ys) r) (λ says-r. split ! $ move ! (1 ∷ []) $
-      facts ! P.the-row (Is P.the-row) (shows 𝓤 H A P.the-row) r (u ∷ []) (λ is.
-      let parts = parts-of r u is in
-      let typed = LL.lawful P.the-type P′.the-laws 𝓤 H A W .typed r _ is .0 in
-      let typed-rows = array-lawful 𝓤 H A W u16 (uint-lawful 𝓤 H A W w16) 1024 .typed (indices r) _ (parts .rows) .0 in
-      -- [the token; the list's; the table; what the list owns; _14 to _0 and that each dies]
-      land ! (from ! (stop !)) (init ! 26 refl typed) $
-      rewrite ! 26 (λ (v : Val). ‵ (fat fullShare P′.mir l₃ 0 v)) (ap only (LL.tells P.the-type P′.the-laws r (u ∷ []) is)) refl $
-      assigns ! (of-opd ! (load ! (from ! (fld ! refl (stop !))) (look-in ! 26 (sub ! 2 refl (whole !))))) (from ! (stop !)) (init ! 24 refl typed-rows) $
-      assigns ! (of-opd ! (lit ! tt)) (from ! (stop !)) (init ! 22 refl (tt, record { fits = lit< tt })) $
-      -- the array is its rows
-      owned ! Rows (Is Rows) (array-makes 𝓤 H A W u16 (uint-makes 𝓤 H A W w16) 1024) (indices r) (rows-val r ∷ []) (parts .rows) $ move ! (25 ∷ 0 ∷ []) $ fjoin ! $
-      fpack ! (List Val) (λ vs. fsep (cellAt fullShare (Rows .mir) vs l₄ 0) (Rows .own (indices r) vs)) (rows-val r ∷ []) $
-      use1 W (‵ (arr-parts (shares u16) 1024 .part fullShare (indices r) l₄ 0)) (array-apart 𝓤 H A W u16 fullShare tt 1024 (indices r) l₄ 0) $ fsplit ! $ feqL ! (λ _.
-      -- the list is opened
-      move ! (4 ∷ []) $ fsplit ! $ fsplit ! $ move ! (1 ∷ []) $ fsplit ! $ move ! (0 ∷ 1 ∷ 6 ∷ []) $
-      opens-slice ! tt E.the-row ys b o $ rewrite ! 0 (λ (l : List Entry). ‵ (row E.the-row fullShare l b o)) (filled-none (t .now) (r .at) ys) refl $
-      forget ! 25 refl $
-      keep ! (0 ∷ 6 ∷ 27 ∷ 23 ∷ 21 ∷ 19 ∷ 17 ∷ 15 ∷ 13 ∷ 11 ∷ 9 ∷ 34 ∷ 32 ∷ 30 ∷ 36 ∷ 25 ∷ 1 ∷ 2 ∷ 3 ∷ 8 ∷ 7 ∷ 5 ∷ 37 ∷ 35 ∷ 33 ∷ 31 ∷ 29 ∷ 28 ∷ 26 ∷ 24 ∷ 22 ∷ 20 ∷ 18 ∷ 16 ∷ 14 ∷ 12 ∷ 10 ∷ []) $
-      by ! (loops r says-r parts gn gt 𝓣 known l₀ l₁ l₂ l₃ l₄ l₅ l₆ l₇ l₈ l₉ l₁₀ l₁₁ l₁₂ l₁₃ l₁₄)))))))))))))))))))))
+      -- the plan is decided: its rows are copied, and the list is opened
+      abbrev Got : List (Item 𝓤)
+      Got = Tok ∷ ‵ (flft κ′ q′) ∷ ‵ Tab ∷ ‵ (fsep (MutSlice (named 1) κ′ E.the-row .own (x ys) (s′ ∷ [])) ftrue)
+          ∷ ‵ (froom tyPtr l₁₄ 0) ∷ ‵ (fdies tyPtr l₁₄) ∷ ‵ (froom (tyInt w64) l₁₃ 0) ∷ ‵ (fdies (tyInt w64) l₁₃) ∷ ‵ (froom (tyInt w16) l₁₂ 0) ∷ ‵ (fdies (tyInt w16) l₁₂)
+          ∷ ‵ (froom tyPtr l₁₁ 0) ∷ ‵ (fdies tyPtr l₁₁) ∷ ‵ (froom tyPtr l₁₀ 0) ∷ ‵ (fdies tyPtr l₁₀) ∷ ‵ (froom (tyInt w64) l₉ 0) ∷ ‵ (fdies (tyInt w64) l₉)
+          ∷ ‵ (froom E′.mir l₈ 0) ∷ ‵ (fdies E′.mir l₈) ∷ ‵ (froom tyBool l₇ 0) ∷ ‵ (fdies tyBool l₇) ∷ ‵ (fat fullShare (tyInt w64) l₆ 0 (vint w64 (length ys))) ∷ ‵ (fdies (tyInt w64) l₆)
+          ∷ ‵ (froom (tyInt w64) l₅ 0) ∷ ‵ (fdies (tyInt w64) l₅) ∷ ‵ (froom rows-ty l₄ 0) ∷ ‵ (fdies rows-ty l₄) ∷ ‵ (fat fullShare P′.mir l₃ 0 (plan-val r)) ∷ ‵ (fdies P′.mir l₃)
+          ∷ ‵ (fat fullShare list-ty l₂ 0 s′) ∷ ‵ (fdies list-ty l₂) ∷ ‵ (fat fullShare table-ty l₁ 0 s) ∷ ‵ (fdies table-ty l₁) ∷ ‵ (froom L′.mir l₀ 0) ∷ ‵ (fdies L′.mir l₀) ∷ []
+
+      starts : ent 𝓤 (⋆ 𝓤 H A Got) (Wp 𝓤 H C Λ Vars code.Mir.t-3 (atReturn 𝓤 H Vars Post))
+      unfolding partOf
+      starts =
+          let typed = array-lawful 𝓤 H A W u16 (uint-lawful 𝓤 H A W w16) 1024 .typed (indices r) _ (parts .rows) .0 in
+          qed W Got ∵ exec ! C Λ Vars code.Mir.t-3 (atRet Vars Post) $
+          assigns ! (of-opd ! (load ! (from ! (fld ! refl (stop !))) (look-in ! 26 (sub ! 2 refl (whole !))))) (from ! (stop !)) (init ! 24 refl typed) $
+          assigns ! (of-opd ! (lit ! tt)) (from ! (stop !)) (init ! 22 refl (tt, record { fits = lit< tt })) $
+          -- the array is its rows
+          owned ! Rows (Is Rows) (array-makes 𝓤 H A W u16 (uint-makes 𝓤 H A W w16) 1024) (indices r) (rows-val r ∷ []) (parts .rows) $ move ! (25 ∷ 0 ∷ []) $ fjoin ! $
+          fpack ! (List Val) (λ vs. fsep (cellAt fullShare (Rows .mir) vs l₄ 0) (Rows .own (indices r) vs)) (rows-val r ∷ []) $
+          use1 W (‵ (arr-parts (shares u16) 1024 .part fullShare (indices r) l₄ 0)) (array-apart 𝓤 H A W u16 fullShare tt 1024 (indices r) l₄ 0) $ fsplit ! $ feqL ! (λ _.
+          move ! (4 ∷ []) $ fsplit ! $ fsplit ! $ move ! (1 ∷ []) $ fsplit ! $ move ! (0 ∷ 1 ∷ 6 ∷ []) $
+          opens-slice ! tt E.the-row ys b o $ rewrite ! 0 (λ (l : List Entry). ‵ (row E.the-row fullShare l b o)) (filled-none (t .now) (r .at) ys) refl $
+          forget ! 25 refl $
+          keep ! (0 ∷ 6 ∷ 27 ∷ 23 ∷ 21 ∷ 19 ∷ 17 ∷ 15 ∷ 13 ∷ 11 ∷ 9 ∷ 34 ∷ 32 ∷ 30 ∷ 36 ∷ 25 ∷ 1 ∷ 2 ∷ 3 ∷ 8 ∷ 7 ∷ 5 ∷ 37 ∷ 35 ∷ 33 ∷ 31 ∷ 29 ∷ 28 ∷ 26 ∷ 24 ∷ 22 ∷ 20 ∷ 18 ∷ 16 ∷ 14 ∷ 12 ∷ 10 ∷ []) $
+          by ! loops)
+
+  -- the plan is decided
+  module _ (𝓣 : Tables 𝓤 H) (planned : Triple 𝓤 (𝓣 .C #plan) (Plans 𝓤 H A mem run)) (known : Triple 𝓤 (𝓣 .C #pick) (Picks 𝓤 H A mem run)) (gt : Room u8 (length (t .now))) (gn : Room E.the-row (length ys)) where
+    module _ (l₀ l₁ l₂ l₃ l₄ l₅ l₆ l₇ l₈ l₉ l₁₀ l₁₁ l₁₂ l₁₃ l₁₄ : ℕ) where
+      abbrev Entered : List (Item 𝓤)
+      Entered = ‵ (froom tyPtr l₁₄ 0) ∷ ‵ (fdies tyPtr l₁₄) ∷ ‵ (froom (tyInt w64) l₁₃ 0) ∷ ‵ (fdies (tyInt w64) l₁₃) ∷ ‵ (froom (tyInt w16) l₁₂ 0) ∷ ‵ (fdies (tyInt w16) l₁₂)
+          ∷ ‵ (froom tyPtr l₁₁ 0) ∷ ‵ (fdies tyPtr l₁₁) ∷ ‵ (froom tyPtr l₁₀ 0) ∷ ‵ (fdies tyPtr l₁₀) ∷ ‵ (froom (tyInt w64) l₉ 0) ∷ ‵ (fdies (tyInt w64) l₉)
+          ∷ ‵ (froom E′.mir l₈ 0) ∷ ‵ (fdies E′.mir l₈) ∷ ‵ (froom tyBool l₇ 0) ∷ ‵ (fdies tyBool l₇) ∷ ‵ (froom (tyInt w64) l₆ 0) ∷ ‵ (fdies (tyInt w64) l₆)
+          ∷ ‵ (froom (tyInt w64) l₅ 0) ∷ ‵ (fdies (tyInt w64) l₅) ∷ ‵ (froom rows-ty l₄ 0) ∷ ‵ (fdies rows-ty l₄) ∷ ‵ (froom P′.mir l₃ 0) ∷ ‵ (fdies P′.mir l₃)
+          ∷ ‵ (fat fullShare list-ty l₂ 0 s′) ∷ ‵ (fdies list-ty l₂) ∷ ‵ (fat fullShare table-ty l₁ 0 s) ∷ ‵ (fdies table-ty l₁) ∷ ‵ (froom L′.mir l₀ 0) ∷ ‵ (fdies L′.mir l₀)
+          ∷ (‵ (flft κ q) ⊛ (‵ (flft κ′ q′) ⊛ ‵ ftrue)) ∷ ‵ (owns (ShrSlice (named 0) κ u8 ∷ MutSlice (named 1) κ′ E.the-row ∷ []) a vals) ∷ []
+
+      decides : ent 𝓤 (⋆ 𝓤 H A Entered) (Wp 𝓤 H (𝓣 .C) (𝓣 .Λ) (En l₀ l₁ l₂ l₃ l₄ l₅ l₆ l₇ l₈ l₉ l₁₀ l₁₁ l₁₂ l₁₃ l₁₄) code.Mir.t-1 (atReturn 𝓤 H (En l₀ l₁ l₂ l₃ l₄ l₅ l₆ l₇ l₈ l₉ l₁₀ l₁₁ l₁₂ l₁₃ l₁₄) Post))
+      decides =
+          qed W Entered ∵ exec ! (𝓣 .C) (𝓣 .Λ) (En l₀ l₁ l₂ l₃ l₄ l₅ l₆ l₇ l₈ l₉ l₁₀ l₁₁ l₁₂ l₁₃ l₁₄) code.Mir.t-1 (atRet (En l₀ l₁ l₂ l₃ l₄ l₅ l₆ l₇ l₈ l₉ l₁₀ l₁₁ l₁₂ l₁₃ l₁₄) Post) $
+          assigns ! (of-opd ! (load ! (from ! (fld ! refl (stop !))) (look-in ! 24 (sub ! 1 refl (whole !))))) (from ! (stop !)) (init ! 16 refl (tt, record { fits = gn .0 })) $
+          move ! (31 ∷ []) $ fsplit ! $ use1 W (‵ Tab ⊛ ‵ Tab) (shr-slice-copy 𝓤 H A W (named 0) κ u8 .twice t (s ∷ [])) $ split ! $
+          move ! (33 ∷ []) $ split ! $ move ! (1 ∷ []) $ split ! $ move ! (2 ∷ 1 ∷ []) $ join ! $
+          nothing ! $ owned ! usize (Is usize) (uint-makes 𝓤 H A W w64) (length ys) _ (refl, gn .0) $ fjoin ! $ move ! (3 ∷ 0 ∷ []) $ fjoin ! $
+          move ! (1 ∷ 0 ∷ []) $ use2 W (raw (Plans 𝓤 H A mem run .pre to-plan)) plan-asked $
+          calls-at ! (fmOf 𝓤 H (W .laws) 𝓣) (Plans 𝓤 H A mem run) planned to-plan (and-then ! (load ! (from ! (stop !)) (look ! 30 refl)) (and-then ! (load ! (from ! (stop !)) (look ! 20 refl)) (no-more !))) (λ u.
+          use1 W (later (some (λ (r : Listing). (Tok ⊛ ‵ (P.the-row .own r (u ∷ []))) ⊛ raw (ensured 𝓤 H A planf.ended (planf.clauses 𝓤 H A mem run) (κ, tt) (t, (length ys, tt)) tt r)))) (id⊢ 𝓤 _) $ await ! tt $ pick ! (λ r.
+          split ! $ move ! (1 ∷ []) $ use1 W (raw (fact 𝓤 (Listing-says (t .now) (length ys) r))) (plan-said r) $ heard ! (Listing-says (t .now) (length ys) r) (λ says-r. split ! $ move ! (1 ∷ []) $
+          facts ! P.the-row (Is P.the-row) (shows 𝓤 H A P.the-row) r (u ∷ []) (λ is.
+          land ! (from ! (stop !)) (init ! 26 refl (LL.lawful P.the-type P′.the-laws 𝓤 H A W .typed r _ is .0)) $
+          rewrite ! 26 (λ (v : Val). ‵ (fat fullShare P′.mir l₃ 0 v)) (ap only (LL.tells P.the-type P′.the-laws r (u ∷ []) is)) refl $
+          by ! (starts r says-r (parts-of r u is) gn gt 𝓣 known l₀ l₁ l₂ l₃ l₄ l₅ l₆ l₇ l₈ l₉ l₁₀ l₁₁ l₁₂ l₁₃ l₁₄)))))
+
+    walk : ent 𝓤 (onEntry 𝓤 H A f.signature (κ, (κ′, tt)) (q, (q′, tt)) a vals) (WpFn 𝓤 H (𝓣 .C) (𝓣 .Λ) code.function (s ∷ s′ ∷ []) Post)
+    walk =
+        qed W ((‵ (flft κ q) ⊛ (‵ (flft κ′ q′) ⊛ ‵ ftrue)) ∷ ‵ (owns (ShrSlice (named 0) κ u8 ∷ MutSlice (named 1) κ′ E.the-row ∷ []) a vals) ∷ []) ∵ enter ! (𝓣 .C) (𝓣 .Λ) code.function (s ∷ s′ ∷ []) _ $
+        alloc1 ! (λ l₀. alloc1 ! (λ l₁. alloc1 ! (λ l₂. alloc1 ! (λ l₃. alloc1 ! (λ l₄. alloc1 ! (λ l₅. alloc1 ! (λ l₆. alloc1 ! (λ l₇. alloc1 ! (λ l₈. alloc1 ! (λ l₉. alloc1 ! (λ l₁₀. alloc1 ! (λ l₁₁. alloc1 ! (λ l₁₂. alloc1 ! (λ l₁₃. alloc1 ! (λ l₁₄. alloc0 ! $ params1 ! $
+        pass1 ! (init ! 26 refl (tt, (tt, (record { fits = gt .0 }, tt)))) $ pass1 ! (init ! 24 refl (tt, (tt, (record { fits = gn .0 }, tt)))) $ pass0 ! $
+        by ! (decides l₀ l₁ l₂ l₃ l₄ l₅ l₆ l₇ l₈ l₉ l₁₀ l₁₁ l₁₂ l₁₃ l₁₄))))))))))))))))
 
 module _ {M : Type 1} (𝓤 : URA M) (H : Heap 𝓤) (A : Atoms 𝓤) (W : Given 𝓤 H A) (mem : Memory → SProp 𝓤) (run : Routine → Fun 𝓤) where
   list-walks : (𝓣 : Tables 𝓤 H) → Triple 𝓤 (𝓣 .C #plan) (Plans 𝓤 H A mem run) → Triple 𝓤 (𝓣 .C #pick) (Picks 𝓤 H A mem run) → Walks 𝓤 H A f.ended stayed (WpFn 𝓤 H (𝓣 .C) (𝓣 .Λ) code.function) (f.clauses 𝓤 H A mem run)

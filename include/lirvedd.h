@@ -49,7 +49,16 @@ enum lirvedd_refusal_number {
     LIRVEDD_BAD_WEIGHT = 6,     /* the weight is 0 or above 16,777,216 */
     LIRVEDD_BAD_SLOT = 7,       /* the slot is before the current one or after the last */
     LIRVEDD_NO_TICKET_LEFT = 8, /* the next ticket is 16,777,216 */
-    LIRVEDD_TABLE_FULL = 9      /* every row is in use */
+    LIRVEDD_TABLE_FULL = 9,     /* every row is in use */
+    LIRVEDD_NO_SUCH_TICKET = 10, /* the ticket is in no row */
+    LIRVEDD_NOT_IN_PLAN = 11    /* the ticket's row is not in the plan */
+};
+
+/* What went out in a slot. */
+enum lirvedd_what {
+    LIRVEDD_SILENCE = 0,   /* nothing: no row was waiting */
+    LIRVEDD_FRAME = 1,     /* the frame of the ticket */
+    LIRVEDD_KEPT_BLANK = 2 /* an empty slot that was kept, by its ticket: nothing goes on air */
 };
 
 /* Opens a round of the slots 0 to `last`, whatever the table held before: current slot 0, next ticket 1, no row in use,
@@ -66,16 +75,69 @@ uint64_t lirvedd_open(uint32_t last, uint8_t *table, size_t length);
  */
 uint64_t lirvedd_take(uint32_t due, uint32_t weight, uint8_t *table, size_t length);
 
+/* Sends the current slot: what goes out leaves the table, a leap may lower due slots and raise weights of others, rows due
+ * before the next slot leave, and the current slot rises by 1.
+ *
+ * Reply: what went out (lirvedd_out), whether by a leap (lirvedd_is_leap) and the ticket (lirvedd_ticket; 0 for silence), or
+ * one of the refusals 2, 3 and 5, in this order.
+ */
+uint64_t lirvedd_send(uint8_t *table, size_t length);
+
+/* The mark of a slot: a frame due there that is taken now raises the plan's total by what its weight is above the mark.
+ * The mark of a slot still ahead never sinks while the round is not opened anew. The table is only read.
+ *
+ * Reply: the mark (lirvedd_amount), or one of the refusals 2, 3, 5 and 7, in this order.
+ */
+uint64_t lirvedd_mark(uint32_t slot, const uint8_t *table, size_t length);
+
+/* The total weight of the plan, kept blanks included. The table is only read.
+ *
+ * Reply: the total (lirvedd_amount), or one of the refusals 2, 3 and 5, in this order.
+ */
+uint64_t lirvedd_total(const uint8_t *table, size_t length);
+
+/* The substitute of a ticket whose row is in the plan: a waiting row, or a blank. The table is only read.
+ *
+ * Reply: the substitute's ticket (lirvedd_ticket), or 0 there for a blank, whose due slot is lirvedd_blank_due; or one of
+ * the refusals 2, 3, 5, 10 and 11, in this order.
+ */
+uint64_t lirvedd_substitute(uint32_t ticket, const uint8_t *table, size_t length);
+
 /* Of any reply: the refusal's number, LIRVEDD_ACCEPTED (0) where the call was accepted. */
 static inline uint32_t lirvedd_refusal(uint64_t reply)
 {
     return (uint32_t)(reply & 0xFFu);
 }
 
-/* Of an accepted reply of lirvedd_take: the ticket, 1 to LIRVEDD_TICKET_LIMIT - 1. Of a refusal: 0. */
+/* Of an accepted reply of lirvedd_take, lirvedd_send or lirvedd_substitute: the ticket, 1 to LIRVEDD_TICKET_LIMIT - 1; 0 for
+ * silence and for a blank. Of a refusal: 0. */
 static inline uint32_t lirvedd_ticket(uint64_t reply)
 {
     return (uint32_t)((reply >> 8) & 0xFFFFFFu);
+}
+
+/* Of an accepted reply of lirvedd_mark or lirvedd_total: the amount. */
+static inline uint64_t lirvedd_amount(uint64_t reply)
+{
+    return reply >> 8;
+}
+
+/* Of an accepted reply of lirvedd_send: one of enum lirvedd_what. */
+static inline uint32_t lirvedd_out(uint64_t reply)
+{
+    return (uint32_t)((reply >> 32) & 3u);
+}
+
+/* Of an accepted reply of lirvedd_send: 1 for a leap, 0 for an ordinary step. */
+static inline uint32_t lirvedd_is_leap(uint64_t reply)
+{
+    return (uint32_t)((reply >> 34) & 1u);
+}
+
+/* Of an accepted reply of lirvedd_substitute whose ticket is 0: the blank's due slot. */
+static inline uint32_t lirvedd_blank_due(uint64_t reply)
+{
+    return (uint32_t)((reply >> 32) & 0xFFFFu);
 }
 
 LIRVEDD_STATIC_ASSERT(sizeof(size_t) == 8, "the archive is for x86-64: a length has 64 bits");

@@ -11,8 +11,8 @@ use Rattle.rules.specs.Plan.{listed}
 use Rattle.rules.specs.Calls.{amount, refused, first, send-refusal, list-refusal, list-answer, list-left}
 use Rattle.round.specs.declared.Round.{Round}
 use Rattle.round.specs.Head.{Head-of}
-use Rattle.pick.specs.Rows.{Ready}
-use Rattle.pick.proofs.RowLaws.{Known, known, at-is, reads-within}
+use Rattle.tally.specs.Rows.{Ready}
+use Rattle.tally.proofs.RowLaws.{Known, known, at-is, reads-within}
 use Rattle.order.specs.declared.Order.{Order}
 use Rattle.order.specs.Ordered.{Ordered}
 use Rattle.calls.specs.declared.listing.Entry.{Entry}

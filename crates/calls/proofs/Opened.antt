@@ -12,7 +12,7 @@ use Rattle.rules.specs.Rows.{round}
 use Rattle.rules.specs.Table.{round-in, length-good}
 use Rattle.rules.specs.Calls.{opening, done, open-refusal, refusal, says, leaves}
 use Rattle.theory.specs.Clauses.{length-long}
-use Rattle.theory.specs.Close.{head-bytes}
+use Rattle.round.specs.Numbers.{head-numbers}
 use Rattle.round.proofs.TableLaws.{opened-table}
 use Rattle.calls.specs.Says.{Says}
 use Rattle.calls.proofs.Outcomes.{says-accepted, opening-number}
@@ -25,13 +25,13 @@ module _ (l : ℕ) (t : List ℕ) (good : length-good (length t) ≡ true) where
   pub head-fits : 16 ≤ length t
   head-fits = omega (arith, length-long t good .0)
 
-  pub cleared-fits : (v : List ℕ) → v ≡ take 16 t ++ replicate (length t - 16) 0 → 16 ≤ length v
+  pub cleared-fits : (v : List ℕ) → v ≡ take 10 t ++ replicate (length t - 10) 0 → 10 ≤ length v
   cleared-fits v e =
-      omega (arith, head-fits, ap length e, length-append (take 16 t) (replicate (length t - 16) 0), length-take-le 16 t head-fits)
+      omega (arith, head-fits, ap length e, length-append (take 10 t) (replicate (length t - 10) 0), length-take-le 10 t (omega (arith, head-fits)))
 
   -- ALL WRITTEN: zeros behind the head, then the head of a round just opened
-  pub opened-says : l ≤ most-last → (a b n u : ℕ) (v z : List ℕ) → (a ≡ 0) × (b ≡ l) × (n ≡ 1) × (u ≡ 0) → v ≡ take 16 t ++ replicate (length t - 16) 0 →
-      z ≡ head-bytes a b n u ++ drop 16 v → Says (opening l) done t z
+  pub opened-says : l ≤ most-last → (a b n u : ℕ) (v z : List ℕ) → (a ≡ 0) × (b ≡ l) × (n ≡ 1) × (u ≡ 0) → v ≡ take 10 t ++ replicate (length t - 10) 0 →
+      z ≡ head-numbers a b n u ++ drop 10 v → Says (opening l) done t z
   unfolding open-refusal says leaves round-in round
   opened-says h a b n u v z g e f =
       says-accepted (opening l) t z (opening-number l t good ∙ rw (le-ltb most-last l h))

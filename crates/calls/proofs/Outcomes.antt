@@ -1,12 +1,13 @@
 -- What a call owes, from its refusal number and the bytes it wrote. Assumes nothing.
-use mathlib.Core.Path.{_≡_, sym, _∙_}
+use mathlib.Core.Path.{_≡_, refl, sym, ap, _∙_}
 use mathlib.Core.Bool.{true, false}
 use mathlib.Core.List.{List}
 use Prim.Native.Nat.{ℕ}
 use borrow.Author.Tests.{ne-eqb}
 use lib.ListN.{length}
+use Rattle.rules.specs.Plan.{total, mark}
 use Rattle.rules.specs.Table.{table, round-in, table-refusal, length-good}
-use Rattle.rules.specs.Calls.{Call, opening, taking, refused, first, open-refusal, take-refusal, table-first, round-refusal, refusal, says, leaves, answer, left}
+use Rattle.rules.specs.Calls.{Call, opening, taking, sending, marking, totalling, refused, amount, first, open-refusal, take-refusal, table-first, round-refusal, refusal, says, leaves, answer, left}
 use Rattle.calls.specs.Says.{Says}
 use Rattle.calls.specs.Taking.{taking-number}
 
@@ -30,12 +31,40 @@ pub opening-number : (l : ℕ) (t : List ℕ) → length-good (length t) ≡ tru
 unfolding refusal first table-first round-refusal
 opening-number l t e = rw e
 
--- taking: the table's number, then the round's by its head
-pub taking-table : (d w : ℕ) (t : List ℕ) (n : ℕ) → n ≡ table-refusal t → (n ≡ 0 → ⊥) → refusal (taking d w) t ≡ n
-unfolding refusal first table-first
-taking-table d w t n e h = let f = ne-eqb (table-refusal t) 0 (λ z. h (e ∙ z)) in rw f (sym e)
-
+-- taking: the round's number by its head
 pub taking-round : (d w : ℕ) (t : List ℕ) → table-refusal t ≡ 0 →
     refusal (taking d w) t ≡ taking-number (round-in t .slot) (round-in t .last) (round-in t .next) (length (round-in t .rows)) (round-in t .room) d w
 unfolding refusal first table-first round-refusal take-refusal taking-number
 taking-round d w t e = rw e
+
+-- ON ANY TABLE a call but opening is judged by the table first
+abbrev pub Judges : Call → Type 0
+Judges c = (t : List ℕ) → table-first c t ≡ table-refusal t
+
+pub judges : (d w s : ℕ) → Judges (taking d w) × Judges sending × Judges (marking s) × Judges totalling
+unfolding table-first
+judges d w s = (λ t. refl, λ t. refl, λ t. refl, λ t. refl)
+
+pub by-table : (c : Call) (t : List ℕ) (n : ℕ) → Judges c → n ≡ table-refusal t → (n ≡ 0 → ⊥) → refusal c t ≡ n
+unfolding refusal first
+by-table c t n j e h = let f = ne-eqb (table-refusal t) 0 (λ z. h (e ∙ z)) in rw (j t, f) (sym e)
+
+pub by-round : (c : Call) (t : List ℕ) → Judges c → table-refusal t ≡ 0 → refusal c t ≡ round-refusal c (round-in t)
+unfolding refusal first
+by-round c t j e = rw (j t, e)
+
+-- a call that leaves the table: the reply alone
+pub answers-accepted : (c : Call) (t : List ℕ) → refusal c t ≡ 0 → says c (round-in t) ≡ answer c t
+unfolding answer
+answers-accepted c t e = rw e
+
+pub answers-refused : (c : Call) (t : List ℕ) (n : ℕ) → refusal c t ≡ n → (n ≡ 0 → ⊥) → refused n ≡ answer c t
+answers-refused c t n e h = says-refused c t n e h .0
+
+pub total-said : (t : List ℕ) (n : ℕ) → n ≡ total (round-in t) → refusal totalling t ≡ 0 → amount n ≡ answer totalling t
+unfolding says
+total-said t n e f = ap amount e ∙ answers-accepted totalling t f
+
+pub mark-said : (s : ℕ) (t : List ℕ) (n : ℕ) → n ≡ mark (round-in t) s → refusal (marking s) t ≡ 0 → amount n ≡ answer (marking s) t
+unfolding says
+mark-said s t n e f = ap amount e ∙ answers-accepted (marking s) t f

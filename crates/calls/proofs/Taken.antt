@@ -10,10 +10,9 @@ use Rattle.rules.specs.Table.{round-in, table-refusal}
 use Rattle.rules.specs.Conditions.{used-in, row-at}
 use Rattle.rules.specs.Calls.{taking, ticket, refusal, says, leaves}
 use Rattle.theory.specs.Clauses.{rows-count}
-use Rattle.theory.specs.Close.{head-bytes}
 use Rattle.round.specs.declared.Round.{Round}
 use Rattle.round.specs.Head.{Head-of}
-use Rattle.round.specs.Row.{row-numbers}
+use Rattle.round.specs.Numbers.{head-numbers, row-numbers}
 use Rattle.round.proofs.HeadLaws.{sound-head}
 use Rattle.round.proofs.TableLaws.{taken-table}
 use Rattle.calls.specs.Says.{Says}
@@ -44,7 +43,7 @@ module _ (t : List ℕ) (h : Round) (sound : table-refusal t ≡ 0) (head : Head
 
     -- ALL WRITTEN: the numbers that the writers were given are those of the frame and of the head
     pub taken-says : (g : Round) (v z : List ℕ) (a k e m : ℕ) → One-more h g → a ≡ row-at (h .used) → k ≡ h .next .0 → e ≡ d → m ≡ w →
-        v ≡ sets t a (row-numbers k e m 0) → z ≡ head-bytes (g .slot .0) (g .last .0) (g .next .0) (g .used) ++ drop 16 v →
+        v ≡ sets t a (row-numbers k e m 0) → z ≡ head-numbers (g .slot .0) (g .last .0) (g .next .0) (g .used) ++ drop 10 v →
         Says (taking d w) (ticket k) t z
     unfolding says leaves round-in round
     taken-says g v z a k e m o i x y u j q =

@@ -25,7 +25,7 @@ pub fn open_round(last: Slot, table: &mut [u8]) -> Opened
         return Opened::Refused(4);
     }
     let round = Round::new(last, rows_of(table));
-    clear(table, Round::HEAD_SIZE);
+    clear(table, Round::HEAD_ZEROS_AT);
     write_head(table, round);
     Opened::Done
 }

@@ -1,5 +1,4 @@
 pub mod KeyLaws
-pub mod FlagLaws
 pub mod GatherLaws
 pub mod DrainLaws
 pub mod OrderLaws

@@ -1,15 +1,13 @@
 -- The leader: far rows, segments one by one, and what it is at the end. Assumes nothing.
-use mathlib.Core.Path.{_≡_, refl, sym, ap, _∙_, subst}
+use mathlib.Core.Path.{_≡_, refl, sym, ap, subst}
 use mathlib.Core.Logic.{_⊎_, inl, inr}
 use mathlib.Core.Bool.{Bool, true, false, cond}
 use mathlib.Core.List.{List}
-use Prim.Native.Nat.{ℕ, zero, suc, _+_, _*_, _-_, _/_, _≤_, _<_}
+use Prim.Native.Nat.{ℕ, suc, _+_, _-_, _/_, _≤_, _<_}
 use native.Mathlib.Omega.{arith}
-use lib.Dec.{ltb, leb, eqb}
-use lib.ListN.{length, getD}
+use lib.ListN.{length}
 use borrow.Author.Tests.{le-leb, lt-leb, eq-eqb, ne-eqb}
 use Rattle.rules.specs.Rows.{Row, Round, blank, heavier, In}
-use Rattle.rules.specs.Plan.{plan, mark, substitute}
 use Rattle.rules.specs.PlanM.{score}
 use Rattle.theory.specs.Tests.{leb?, ltb?, eqb?}
 use Rattle.theory.specs.Keys.{key, getD-in}
@@ -21,16 +19,15 @@ use Rattle.theory.specs.Index.{chosen-index, each-chosen}
 use Rattle.theory.specs.Members.{Rows, of-rows-fine}
 use Rattle.theory.specs.Best.{some-row}
 use Rattle.theory.specs.Flags.{raised, with-flag}
-use Rattle.pick.specs.Rows.{at, key-at, top-of, place}
-use Rattle.pick.specs.Tally.{kept-key, left-key}
-use Rattle.pick.specs.Lead.{most-key, leader-score, Fair, takes-lead, Lightest, Least-by}
-use Rattle.pick.specs.Choice.{leap-of, Leading, Within, Heaviest-left, None-left, Picks-far, Picks-later, Picked}
-use Rattle.pick.specs.declared.near.Reach.{Reach}
+use Rattle.tally.specs.Rows.{at, key-at, top-of, place}
+use Rattle.tally.specs.Tally.{kept-key, left-key}
+use Rattle.pick.specs.Lead.{most-key, leader-score, Fair, takes-lead, Least-by}
+use Rattle.pick.specs.Peak.{Peak}
+use Rattle.pick.specs.Choice.{leap-of, Leading, Within, Heaviest-left, None-left, Picks-later, Picked}
+use Rattle.tally.specs.declared.near.Reach.{Reach}
 use Rattle.pick.specs.declared.lead.Leader.{Leader}
-use Rattle.pick.specs.declared.choice.Pick.{Pick}
 use Rattle.pick.specs.declared.choice.Pick.the-variants.{First, Far}
-use Rattle.pick.proofs.NearLaws.{place-by}
-use Rattle.pick.proofs.PeakLaws.{Peak}
+use Rattle.tally.proofs.NearLaws.{place-by}
 use Rattle.pick.proofs.SceneLaws.{Scene, Heaviest, plan-rows, fine-at, from-place, before-place, place-from, place-before, key-some, key-most, weight-key, not-over, peak-heaviest, peak-row, heaviest-in, heaviest-over, left-none, left-heaviest}
 
 -- what stands in for a row of a segment from slot b on, by its key: a row left out, or the blank
@@ -48,13 +45,16 @@ abbrev pub Stands : Round → List Row → (z : ℕ) → Leader → Row → Type
 Stands r rs z l p = ((z ≤ l .first) × (r .slot + z ≤ p .due)) ⊎ Spot r rs z l p
 
 -- THE LEADER of the rows due from slot d on, or none
-pub record Ahead (r : Round) (fs : List ℕ) (z d : ℕ) (l : Leader) : Type 0 where
+pub record Front (r : Round) (fs : List ℕ) (d : ℕ) (l : Leader) : Type 0 where
   pub row : ℕ
   pub below : row < length (r .rows)
   pub key : l .key ≡ key-at r row
   pub leads : Leads r (with-flag r fs) d (at r row)
   pub score : score-of r (at r row) ≡ leader-score l
-  pub stands : Stands r (with-flag r fs) z l (at r row)
+
+pub record Ahead (r : Round) (fs : List ℕ) (z d : ℕ) (l : Leader) : Type 0 where
+  pub front : Front r fs d l
+  pub stands : Stands r (with-flag r fs) z l (at r (front .row))
 
 abbrev pub Nobody : Round → List ℕ → (d : ℕ) → Leader → Type 0
 Nobody r fs d l = (l .key ≡ 0) × (l .other ≡ 0) × ((q : Row) → In q (with-flag r fs) → q .due < d)
@@ -89,9 +89,22 @@ unfolding key
 lesser-key u d i v e j h k a b l = omega arith
 
 module _ (r : Round) (fs : List ℕ) (x : Reach) (s : Scene r fs x) where
+  -- ROWS FROM A BUCKET ON
+  pub late-over : (e k i : ℕ) → e ≤ x .free → Heaviest r fs e (suc (top-of r)) k i → (q : Row) → In q (with-flag r fs) → r .slot + e ≤ q .due → heavier q (at r i) ≡ false
+  late-over e k i m h =
+      each-chosen (λ q. r .slot + e ≤ q .due → heavier q (at r i) ≡ false) (blank 0) (raised fs) (r .rows)
+      (λ j l f u. not-over r fs x s j i l (h .below) (omega (arith, h .most j l f (place-from r fs x s j e l m u) (omega (arith, place-by r j)), h .key)))
+
+  pub late-none : (e : ℕ) → e ≤ x .free → Peak (place r) (kept-key r fs) (length (r .rows)) e (suc (top-of r)) 0 → (q : Row) → In q (with-flag r fs) → q .due < r .slot + e
+  late-none e m p =
+      each-chosen (λ q. q .due < r .slot + e) (blank 0) (raised fs) (r .rows) (λ j l f. elim (ltb? (at r j .due) (r .slot + e)) [
+        | inl b ↦ b .1
+        | inr b ↦ absurd (omega (arith, peak-row r fs x s e (suc (top-of r)) 0 j p l f (place-from r fs x s j e l m (b .1)) (omega (arith, place-by r j))))
+      ])
+
   -- FAR ROWS
-  pub far-led : (top k : ℕ) → Peak (place r) (kept-key r fs) (length (r .rows)) (x .free) (suc (top-of r)) k → Led r fs (x .free) (r .slot + x .free) (made k (x .free) top 0)
-  far-led top k p = elim (ltb? 0 k) [
+  pub far-led : (k : ℕ) → Peak (place r) (kept-key r fs) (length (r .rows)) (x .free) (suc (top-of r)) k → Led r fs (x .free) (r .slot + x .free) (made k (x .free) (x .free) 0)
+  far-led k p = elim (ltb? 0 k) [
     | inl a ↦
         let w = peak-heaviest r fs x s (x .free) (suc (top-of r)) k p (a .1) in
         let i = w .0 in
@@ -102,38 +115,27 @@ module _ (r : Round) (fs : List ℕ) (x : Reach) (s : Scene r fs x) where
         record {
           fair = record { key = omega (arith, h .key, key-most r fs x s i (h .below)); other = omega arith };
           who = inr (record {
-            row = i;
-            below = h .below;
-            key = h .key;
-            leads = lead-far r (s .fine) (s .time) (with-flag r fs) c (r .slot + x .free) (s .reach .near) (at r i) g d (heaviest-far k i h);
-            score = omega (
-              arith,
-              far-score r (s .fine) (with-flag r fs) c (r .slot + x .free) (s .reach .near) (s .time) (at r i) g d,
-              weight-key r fs x s i k (h .below) (h .key),
-            );
+            front = record {
+              row = i;
+              below = h .below;
+              key = h .key;
+              leads = lead-far r (s .fine) (s .time) (with-flag r fs) c (r .slot + x .free) (s .reach .near) (at r i) g d (late-over (x .free) k i (omega arith) h);
+              score = omega (
+                arith,
+                far-score r (s .fine) (with-flag r fs) c (r .slot + x .free) (s .reach .near) (s .time) (at r i) g d,
+                weight-key r fs x s i k (h .below) (h .key),
+              );
+            };
             stands = inl (omega arith, d);
           });
         }
     | inr a ↦
         let z : k ≡ 0 = omega (arith, a .1) in
-        record { fair = record { key = omega (arith, z); other = omega arith }; who = inl (z, refl, nobody z) }
+        record {
+          fair = record { key = omega (arith, z); other = omega arith };
+          who = inl (z, refl, late-none (x .free) (omega arith) (subst (λ (v : ℕ). Peak (place r) (kept-key r fs) (length (r .rows)) (x .free) (suc (top-of r)) v) z p));
+        }
   ]
-    where
-      heaviest-far : (k i : ℕ) → Heaviest r fs (x .free) (suc (top-of r)) k i → (q : Row) → In q (with-flag r fs) → r .slot + x .free ≤ q .due → heavier q (at r i) ≡ false
-      heaviest-far k i h =
-          each-chosen (λ q. r .slot + x .free ≤ q .due → heavier q (at r i) ≡ false) (blank 0) (raised fs) (r .rows)
-          (λ j l f u. not-over r fs x s j i l (h .below) (omega (arith, h .most j l f (place-from r fs x s j (x .free) l (omega arith) u) (omega (arith, place-by r j)), h .key)))
-
-      nobody : k ≡ 0 → (q : Row) → In q (with-flag r fs) → q .due < r .slot + x .free
-      nobody z =
-          each-chosen (λ q. q .due < r .slot + x .free) (blank 0) (raised fs) (r .rows) (λ j l f. elim (ltb? (at r j .due) (r .slot + x .free)) [
-            | inl b ↦ b .1
-            | inr b ↦ absurd (omega (
-              arith,
-              peak-row r fs x s (x .free) (suc (top-of r)) k j p l f (place-from r fs x s j (x .free) l (omega arith) (b .1)) (omega (arith, place-by r j)),
-              z,
-            ))
-          ])
 
   -- A SEGMENT's heaviest row
   pub segment-key : (b e k : ℕ) → b < e → e ≤ x .free → Segment r (with-flag r fs) (r .slot + b) (r .slot + (e - 1)) → Peak (place r) (kept-key r fs) (length (r .rows)) b e k → 1 ≤ k
@@ -205,7 +207,7 @@ module _ (r : Round) (fs : List ℕ) (x : Reach) (s : Scene r fs x) where
           )
 
   -- an earlier row of a lesser key weighs less than the leader
-  pub lesser : (d k i : ℕ) (l : Leader) → i < length (r .rows) → k ≡ key-at r i → at r i .due < d → Ahead r fs (x .free) d l → k ≤ l .key → k / 4194304 < l .key / 4194304
+  pub lesser : (d k i : ℕ) (l : Leader) → i < length (r .rows) → k ≡ key-at r i → at r i .due < d → Front r fs d l → k ≤ l .key → k / 4194304 < l .key / 4194304
   lesser d k i l h e g p m =
       let u = fine-at r fs x s (p .row) (p .below) in
       omega (
@@ -224,16 +226,18 @@ module _ (r : Round) (fs : List ℕ) (x : Reach) (s : Scene r fs x) where
       | inl t ↦ taken (t .0) (lead-first r (s .fine) (s .time) (with-flag r fs) (plan-rows r fs x s) b d (at r i) (v .2) c)
       | inr t ↦ absurd (omega (arith, t .1, v .0, v .1))
     ]
-    | inr v ↦ elim (takes? l n (λ m. lesser d (n .key) i l below key (c .before) v m)) [
-      | inl t ↦ taken (t .0) (lead-takes r (s .fine) (s .time) (with-flag r fs) (plan-rows r fs x s) b d (at r (v .row)) (at r i) (v .leads) c (omega (arith, t .1, e, v .score)))
+    | inr v ↦ elim (takes? l n (λ m. lesser d (n .key) i l below key (c .before) (v .front) m)) [
+      | inl t ↦ taken (t .0) (lead-takes r (s .fine) (s .time) (with-flag r fs) (plan-rows r fs x s) b d (at r (v .front .row)) (at r i) (v .front .leads) c (omega (arith, t .1, e, v .front .score)))
       | inr t ↦ subst (λ (y : Bool). Led r fs (x .free) b (cond y n l)) (sym (t .0)) (record {
         fair = w .fair;
         who = inr (record {
-          row = v .row;
-          below = v .below;
-          key = v .key;
-          leads = lead-keeps r (s .fine) (s .time) (with-flag r fs) (plan-rows r fs x s) b d (at r (v .row)) (at r i) h (v .leads) c (omega (arith, t .1, e, v .score));
-          score = v .score;
+          front = record {
+            row = v .front .row;
+            below = v .front .below;
+            key = v .front .key;
+            leads = lead-keeps r (s .fine) (s .time) (with-flag r fs) (plan-rows r fs x s) b d (at r (v .front .row)) (at r i) h (v .front .leads) c (omega (arith, t .1, e, v .front .score));
+            score = v .front .score;
+          };
           stands = v .stands;
         });
       })
@@ -243,7 +247,7 @@ module _ (r : Round) (fs : List ℕ) (x : Reach) (s : Scene r fs x) where
       taken : takes-lead l n ≡ true → Leads r (with-flag r fs) b (at r i) → Led r fs (x .free) b (ahead-of l n)
       taken t k =
           subst (λ (y : Bool). Led r fs (x .free) b (cond y n l)) (sym t)
-          (record { fair = f; who = inr (record { row = i; below = below; key = key; leads = k; score = e; stands = st }) })
+          (record { fair = f; who = inr (record { front = record { row = i; below = below; key = key; leads = k; score = e }; stands = st }) })
 
   -- that of a segment
   pub record Joins (b e k o i : ℕ) : Type 0 where
@@ -309,7 +313,7 @@ module _ (r : Round) (fs : List ℕ) (x : Reach) (s : Scene r fs x) where
       (segment-champ 0 e k i h m (subst (λ (v : ℕ). Segment r (with-flag r fs) v (r .slot + (e - 1))) (sym z) g) w)
 
   pub first-goes : (l : Leader) (e k i m : ℕ) → 0 < e → e ≤ x .free → Segment r (with-flag r fs) (r .slot) (r .slot + (e - 1)) → Heaviest r fs 0 e k i →
-      Least-by r fs (r .slot + (e - 1)) m → Led r fs (x .free) (r .slot + e) l → leader-score l ≤ score (k / 4194304) m → Picked r fs (x .free) (First k)
+      Least-by r fs (r .slot + (e - 1)) m → Nobody r fs (r .slot + e) l ⊎ Front r fs (r .slot + e) l → leader-score l ≤ score (k / 4194304) m → Picked r fs (x .free) (First k)
   first-goes l e k i m h n g w t d u =
       let c = first-champ e k i h n g w in
       let q = first-score e k i m h n g w t in
@@ -318,7 +322,7 @@ module _ (r : Round) (fs : List ℕ) (x : Reach) (s : Scene r fs x) where
         leading = record {
           below = w .below;
           key = w .key;
-          leads = elim (d .who) [
+          leads = elim d [
             | inl v ↦ lead-first r (s .fine) (s .time) (with-flag r fs) (plan-rows r fs x s) (r .slot) (r .slot + e) (at r i) (v .2) c
             | inr v ↦ lead-takes r (s .fine) (s .time) (with-flag r fs) (plan-rows r fs x s) (r .slot) (r .slot + e) (at r (v .row)) (at r i) (v .leads) c (omega (arith, u, q, v .score))
           ];
@@ -344,29 +348,41 @@ module _ (r : Round) (fs : List ℕ) (x : Reach) (s : Scene r fs x) where
       by-other (inl o) = rw (lt-leb (x .free) (l .first) (v .near), eq-eqb (l .other) 0 (o .0)) (later, o .1)
       by-other (inr o) = rw (lt-leb (x .free) (l .first) (v .near), ne-eqb (l .other) 0 (λ z. omega (arith, o .0, z))) (later, o .1)
 
+  pub front-stays : (l : Leader) (e k i m : ℕ) → 0 < e → e ≤ x .free → Segment r (with-flag r fs) (r .slot) (r .slot + (e - 1)) → Heaviest r fs 0 e k i →
+      Least-by r fs (r .slot + (e - 1)) m → (v : Front r fs (r .slot + e) l) → score (k / 4194304) m < leader-score l → Leading r (with-flag r fs) (l .key) (v .row)
+  front-stays l e k i m h n g w t v u =
+      record {
+        below = v .below;
+        key = v .key;
+        leads = lead-keeps r (s .fine) (s .time) (with-flag r fs) (plan-rows r fs x s) (r .slot) (r .slot + e) (at r (v .row)) (at r i) (omega arith) (v .leads) (first-champ e k i h n g w)
+            (omega (arith, u, first-score e k i m h n g w t, v .score));
+      }
+
   pub leap-goes : (l : Leader) (e k i m : ℕ) → 0 < e → e ≤ x .free → Segment r (with-flag r fs) (r .slot) (r .slot + (e - 1)) → Heaviest r fs 0 e k i →
       Least-by r fs (r .slot + (e - 1)) m → Led r fs (x .free) (r .slot + e) l → score (k / 4194304) m < leader-score l → Picked r fs (x .free) (leap-of l (x .free))
   leap-goes l e k i m h n g w t d u = elim (d .who) [
     | inl v ↦ absurd (omega (arith, u, v .0, v .1))
-    | inr v ↦ leap-is l (v .row) (record {
-      below = v .below;
-      key = v .key;
-      leads = lead-keeps r (s .fine) (s .time) (with-flag r fs) (plan-rows r fs x s) (r .slot) (r .slot + e) (at r (v .row)) (at r i) (omega arith) (v .leads) (first-champ e k i h n g w)
-          (omega (arith, u, first-score e k i m h n g w t, v .score));
-    }) (v .stands)
+    | inr v ↦ leap-is l (v .front .row) (front-stays l e k i m h n g w t (v .front) u) (v .stands)
   ]
+
+  pub fronts : (z d : ℕ) (l : Leader) → Led r fs z d l → Nobody r fs d l ⊎ Front r fs d l
+  fronts z d l w = elim (w .who) [ inl v ↦ inl v | inr v ↦ inr (v .front) ]
 
   -- with no slot full the far rows have them all
   pub far-goes : (k : ℕ) → x .free ≡ 0 → 1 ≤ length (r .rows) → Peak (place r) (kept-key r fs) (length (r .rows)) (x .free) (suc (top-of r)) k → Picked r fs (x .free) (Far k)
-  far-goes k z n p = elim (far-led 0 k p .who) [
+  far-goes k z n p = elim (far-led k p .who) [
     | inl v ↦
         let y = some-row r (s .fine) (s .time) (with-flag r fs) (plan-rows r fs x s) (at r 0) (getD-in (r .rows) (blank 0) 0 n) in
         absurd (omega (arith, v .2 (y .0) (y .1), z, of-rows-fine r (s .fine) (with-flag r fs) (plan-rows r fs x s) (y .0) (y .1) .0))
     | inr v ↦
         let q : r .slot + x .free ≡ r .slot = omega (arith, z) in
         record {
-          row = v .row;
-          leading = record { below = v .below; key = v .key; leads = subst (λ (d : ℕ). Leads r (with-flag r fs) d (at r (v .row))) q (v .leads) };
-          far = v .leads .from;
+          row = v .front .row;
+          leading = record {
+            below = v .front .below;
+            key = v .front .key;
+            leads = subst (λ (d : ℕ). Leads r (with-flag r fs) d (at r (v .front .row))) q (v .front .leads);
+          };
+          far = v .front .leads .from;
         }
   ]

@@ -1,9 +1,9 @@
 -- The least weight of the plan's rows due by a slot, row by row. Assumes nothing.
 use mathlib.Core.Path.{_≡_, refl, sym, ap, _∙_}
 use mathlib.Core.Logic.{_⊎_, inl, inr}
-use mathlib.Core.Bool.{Bool, true, false, true≢false}
+use mathlib.Core.Bool.{true, false, true≢false}
 use mathlib.Core.List.{List}
-use Prim.Native.Nat.{ℕ, suc, _+_, _≤_, _<_, min}
+use Prim.Native.Nat.{ℕ, _+_, _≤_, _<_, min}
 use native.Mathlib.Omega.{arith}
 use lib.ListN.{length, getD}
 use Rattle.rules.specs.Rows.{Row, Round, blank, In}
@@ -12,10 +12,10 @@ use Rattle.theory.specs.All.{all-in}
 use Rattle.theory.specs.Full.{Fine, Row-fine}
 use Rattle.theory.specs.Keys.{getD-in}
 use Rattle.theory.specs.Index.{flag-in, chosen-index, each-chosen}
-use Rattle.theory.specs.Flags.{raised, with-flag, Chosen}
-use Rattle.pick.specs.Rows.{Due-at, Weight-at, at}
-use Rattle.pick.specs.Lead.{Lightest, Least-by}
-use Rattle.pick.proofs.TallyLaws.{flag-on, flag-off}
+use Rattle.theory.specs.Flags.{raised, with-flag}
+use Rattle.tally.specs.Rows.{Due-at, Weight-at, at}
+use Rattle.pick.specs.Lead.{Least-by}
+use Rattle.tally.proofs.TallyLaws.{flag-on, flag-off}
 
 -- row j of the plan is due by a slot
 abbrev pub Due-by : Round → (flags : List ℕ) → (by row : ℕ) → Type 0

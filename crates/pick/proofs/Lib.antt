@@ -1,8 +1,7 @@
-pub mod RowLaws
-pub mod NearLaws
 pub mod PeakLaws
-pub mod TallyLaws
 pub mod LeastLaws
 pub mod SceneLaws
 pub mod LeadLaws
 pub mod PassLaws
+pub mod StretchLaws
+pub mod WholeLaws

@@ -1,9 +1,9 @@
 -- The pass over the segments, bucket by bucket. Assumes nothing.
-use mathlib.Core.Path.{_≡_, refl, sym, ap, _∙_, subst}
-use mathlib.Core.Logic.{_⊎_, inl, inr, _≢_}
+use mathlib.Core.Path.{_≡_, sym, ap, _∙_, subst}
+use mathlib.Core.Logic.{inl, inr, _≢_}
 use mathlib.Core.Bool.{Bool, cond}
 use mathlib.Core.List.{List, [], _∷_}
-use Prim.Native.Nat.{ℕ, zero, suc, _+_, _-_, _/_, _≤_, _<_, max}
+use Prim.Native.Nat.{ℕ, suc, _+_, _-_, _/_, _≤_, _<_, max}
 use native.Mathlib.Omega.{arith}
 use lib.ListN.{length, getD}
 use Rattle.rules.specs.Rows.{Row, Round, In}
@@ -12,22 +12,22 @@ use Rattle.theory.specs.Tests.{eqb?}
 use Rattle.theory.specs.Sum.{sum}
 use Rattle.theory.specs.Feas.{below, below-yes}
 use Rattle.theory.specs.Change.{in-sum}
-use Rattle.theory.specs.Count.{in-bucket, counts-next, counts-none, kept-counts}
-use Rattle.theory.specs.Near.{near-edge}
+use Rattle.theory.specs.Count.{counts-next, counts-none}
 use Rattle.theory.specs.Segments.{Segment, segment-made}
 use Rattle.theory.specs.Flags.{with-flag}
-use Rattle.pick.specs.Rows.{at, top-of, place}
-use Rattle.pick.specs.Near.{before}
-use Rattle.pick.specs.Tally.{kept-key, left-key, Tallied}
+use Rattle.tally.specs.Rows.{at, top-of, place}
+use Rattle.tally.specs.Near.{before}
+use Rattle.tally.specs.Tally.{kept-key, left-key, Tallied}
 use Rattle.pick.specs.Lead.{Greatest, leader-score, Fair, takes-lead, Least-by, Alone}
+use Rattle.pick.specs.Peak.{Peak}
 use Rattle.pick.specs.Choice.{leap-of, Picked}
-use Rattle.pick.specs.declared.near.Reach.{Reach}
+use Rattle.tally.specs.declared.near.Reach.{Reach}
 use Rattle.pick.specs.declared.lead.Leader.{Leader}
 use Rattle.pick.specs.declared.choice.Pick.the-variants.{First, Far}
-use Rattle.pick.proofs.NearLaws.{enough}
-use Rattle.pick.proofs.PeakLaws.{Peak, peak-none, peak-more, peak-is}
-use Rattle.pick.proofs.SceneLaws.{Scene, Heaviest, plan-rows, fine-at, before-place, free-high, peak-heaviest, heaviest-in, key-most, weight-key, left-far}
-use Rattle.pick.proofs.LeadLaws.{Led, made, ahead-of, far-led, segment-key, Joins, joins, joined, first-goes, leap-goes, far-goes}
+use Rattle.tally.proofs.NearLaws.{enough}
+use Rattle.pick.proofs.PeakLaws.{peak-none, peak-more, peak-is}
+use Rattle.pick.proofs.SceneLaws.{Scene, Heaviest, full-edge, plan-rows, fine-at, before-place, free-high, peak-heaviest, heaviest-in, key-most, weight-key, left-far}
+use Rattle.pick.proofs.LeadLaws.{Led, made, ahead-of, far-led, segment-key, Joins, joins, joined, fronts, first-goes, leap-goes, far-goes}
 
 -- two rows that count, where the sum is 1, are one
 pub one-row : (μ : Row → ℕ) (x y : Row) (xs : List Row) → In x xs → In y xs → sum μ xs ≤ 1 → 1 ≤ μ x → 1 ≤ μ y → x ≡ y
@@ -50,33 +50,24 @@ pub record Passing (r : Round) (fs : List ℕ) (z : ℕ) (l : Leader) (s e c k o
   pub led : Led r fs z (r .slot + e) l
 
 module _ (r : Round) (fs cs ks ls : List ℕ) (x : Reach) (s : Scene r fs x) (w : Tallied r fs cs ks ls) where
-  -- the rows of the plan fill the slots before the free bucket
-  pub full-edge : before r (with-flag r fs) (x .free) ≡ x .free
-  full-edge =
-      omega (
-        arith,
-        kept-counts r (s .fine) (top-of r) (x .over) (x .free) (omega (arith, s .time)) (enough r (s .time)) (s .reach .sweep) (with-flag r fs) (plan-rows r fs x s) (x .free) (omega arith),
-        near-edge r (s .fine) (with-flag r fs) (plan-rows r fs x s) (r .slot + x .free) (s .reach .near),
-      )
-
   pub far-peak : (top k : ℕ) → top ≡ top-of r → Greatest ks (x .free) top k → Peak (place r) (kept-key r fs) (length (r .rows)) (x .free) (suc (top-of r)) k
   far-peak top k d g =
       peak-is (place r) (kept-key r fs) (length (r .rows)) ks (x .free) (top-of r) k (w .kept) (subst (λ (v : ℕ). Greatest ks (x .free) v k) d g)
 
   pub pass-start : (top k : ℕ) → (x .free ≡ 0 → ⊥) → top ≡ top-of r → Greatest ks (x .free) top k →
-      Passing r fs (x .free) (made k (x .free) top 0) (x .free) (x .free) (x .free) 0 0
+      Passing r fs (x .free) (made k (x .free) (x .free) 0) (x .free) (x .free) (x .free) 0 0
   pass-start top k h d e =
       let p = far-peak top k d e in
       record {
         low = omega (arith, h);
         by = omega arith;
         near = omega arith;
-        count = sym full-edge;
-        edge = full-edge;
+        count = sym (full-edge r fs x s);
+        edge = full-edge r fs x s;
         gap = λ v a b. absurd (omega (arith, a, b));
         kept = peak-none (place r) (kept-key r fs) (length (r .rows)) (x .free);
         left = left-far r fs x s;
-        led = far-led r fs x s top k p;
+        led = far-led r fs x s k p;
       }
 
   module _ (l : Leader) (b e c k o : ℕ) (p : Passing r fs (x .free) l b e c k o) (h : 1 < b) where
@@ -219,7 +210,7 @@ module _ (r : Round) (fs cs ks ls : List ℕ) (x : Reach) (s : Scene r fs x) (w 
 
       pub pick-first : leader-score l ≤ score (k2 / 4194304) m → Picked r fs (x .free) (First k2)
       pick-first q =
-          first-goes r fs x s l e k2 (first-row .0) m (omega (arith, p .by, p .low)) (p .near) first-whole (first-row .1) least-here (p .led) q
+          first-goes r fs x s l e k2 (first-row .0) m (omega (arith, p .by, p .low)) (p .near) first-whole (first-row .1) least-here (fronts r fs x s (x .free) (r .slot + e) l (p .led)) q
 
       pub pick-leap : score (k2 / 4194304) m < leader-score l → Picked r fs (x .free) (leap-of l (x .free))
       pick-leap q =

@@ -1,76 +1,16 @@
 -- Greatest numbers of rows, by place and over places. Assumes nothing.
-use mathlib.Core.Path.{_≡_, refl, sym, ap, _∙_}
-use mathlib.Core.Logic.{_⊎_, inl, inr}
+use mathlib.Core.Path.{_≡_, refl, ap}
+use mathlib.Core.Logic.{inl, inr}
 use mathlib.Core.List.{List}
-use Prim.Native.Nat.{ℕ, zero, suc, _+_, _-_, _≤_, _<_, max}
+use Prim.Native.Nat.{ℕ, suc, _+_, _-_, _≤_, _<_, max}
 use native.Mathlib.Omega.{arith}
-use lib.ListN.{length, getD, set, replicate, length-set, length-replicate, getD-replicate}
-use Rattle.theory.specs.Tests.{leb?, ltb?, eqb?}
-use Rattle.pick.specs.Tally.{Holds, Tops}
+use lib.ListN.{getD}
+use Rattle.theory.specs.Tests.{leb?, eqb?}
+use Rattle.tally.specs.Tally.{Tops}
+use Rattle.pick.specs.Peak.{Peak}
 use Rattle.pick.specs.Lead.{Greatest}
-use Rattle.pick.proofs.NearLaws.{set?}
 
-pub holds-more : (at number : ℕ → ℕ) (n b x : ℕ) → Holds at number n b x → Holds at number (suc n) b x
-holds-more at number n b x h = record { row = h .row; below = omega (arith, h .below); place = h .place; is = h .is }
-
-pub zeros-at : (n b : ℕ) → getD {A = ℕ} (replicate n 0) b 0 ≡ 0
-zeros-at zero b = refl
-zeros-at (suc n) zero = refl
-zeros-at (suc n) (suc b) = zeros-at n b
-
--- TOPS grow by a row
-pub tops-start : (at number : ℕ → ℕ) (ks : List ℕ) → ks ≡ replicate 1025 0 → Tops at number 0 ks
-tops-start at number ks e =
-    record {
-      size = ap length e ∙ length-replicate {A = ℕ} 1025 0;
-      most = λ i h. absurd (omega (arith, h));
-      some = λ b h. absurd (omega (arith, h, ap (λ (l : List ℕ). getD l b 0) e, zeros-at 1025 b));
-    }
-
-pub tops-step : (at number : ℕ → ℕ) (n : ℕ) (ks : List ℕ) (b x : ℕ) → b ≡ at n → b ≤ 1024 → x ≡ max (getD ks b 0) (number n) → Tops at number n ks →
-    Tops at number (n + 1) (set ks b x)
-tops-step at number n ks b x e h d t =
-    record {
-      size = omega (arith, length-set ks b x, t .size);
-      most = λ i k. elim (set? ks b x (at i) (omega (arith, t .size, h))) [
-        | inl q ↦ elim (eqb? i n) [
-          | inl y ↦ omega (arith, q .1, d, ap number (y .1))
-          | inr y ↦ let z = y .1 in omega (arith, q .1, d, t .most i (omega (arith, k)), ap (λ (v : ℕ). getD ks v 0) (q .0))
-        ]
-        | inr q ↦ elim (eqb? i n) [
-          | inl y ↦ absurd (q .0 (e ∙ ap at (sym (y .1))))
-          | inr y ↦ let z = y .1 in omega (arith, q .1, t .most i (omega (arith, k)))
-        ]
-      ];
-      some = λ v k. elim (set? ks b x v (omega (arith, t .size, h))) [
-        | inl q ↦ rw (q .1) (elim (leb? (getD ks b 0) (number n)) [
-          | inl y ↦ record { row = n; below = omega arith; place = sym e ∙ q .0; is = omega (arith, d, y .1) }
-          | inr y ↦
-              let g = t .some b (omega (arith, y .1)) in
-              record { row = g .row; below = omega (arith, g .below); place = g .place ∙ q .0; is = omega (arith, g .is, d, y .1) }
-        ])
-        | inr q ↦
-            let g = t .some v (omega (arith, q .1, k)) in
-            record { row = g .row; below = omega (arith, g .below); place = g .place; is = g .is ∙ sym (q .1) }
-      ];
-    }
-
-pub tops-skip : (at number : ℕ → ℕ) (n : ℕ) (ks : List ℕ) → number n ≡ 0 → Tops at number n ks → Tops at number (n + 1) ks
-tops-skip at number n ks e t =
-    record {
-      size = t .size;
-      most = λ i k. elim (eqb? i n) [
-        | inl y ↦ omega (arith, e, ap number (y .1))
-        | inr y ↦ let z = y .1 in t .most i (omega (arith, k))
-      ];
-      some = λ v k. let g = t .some v k in record { row = g .row; below = omega (arith, g .below); place = g .place; is = g .is };
-    }
-
--- A PEAK: the greatest number of the rows placed from a up to before e
-pub record Peak (at number : ℕ → ℕ) (n a e x : ℕ) : Type 0 where
-  pub most : (i : ℕ) → i < n → a ≤ at i → at i < e → number i ≤ x
-  pub some : 1 ≤ x → (i : ℕ) × (i < n) × (a ≤ at i) × (at i < e) × (number i ≡ x)
-
+-- A PEAK, place by place
 pub peak-none : (at number : ℕ → ℕ) (n a : ℕ) → Peak at number n a a 0
 peak-none at number n a =
     record { most = λ i h k l. absurd (omega (arith, k, l)); some = λ h. absurd (omega (arith, h)) }
@@ -93,6 +33,33 @@ peak-more at number n a e x y ks h l t p d =
             let q = t .some (a - 1) (omega (arith, g .1)) in
             (q .row, q .below, omega (arith, q .place), omega (arith, q .place, h, l), omega (arith, q .is, d, g .1))
       ];
+    }
+
+-- and row by row
+pub peak-first : (at number : ℕ → ℕ) (a e : ℕ) → Peak at number 0 a e 0
+peak-first at number a e = record { most = λ i h. absurd (omega (arith, h)); some = λ h. absurd (omega (arith, h)) }
+
+pub peak-adds : (at number : ℕ → ℕ) (n a e x y : ℕ) → a ≤ at n → at n < e → y ≡ max x (number n) → Peak at number n a e x → Peak at number (n + 1) a e y
+peak-adds at number n a e x y h k d p =
+    record {
+      most = λ i l u v. elim (eqb? i n) [
+        | inl q ↦ omega (arith, ap number (q .1), d)
+        | inr q ↦ let z = q .1 in omega (arith, p .most i (omega (arith, l)) u v, d)
+      ];
+      some = λ l. elim (leb? (number n) x) [
+        | inl q ↦ let w = p .some (omega (arith, l, d, q .1)) in (w .0, omega (arith, w .1), w .2, w .3, omega (arith, w .4, d, q .1))
+        | inr q ↦ (n, omega arith, h, k, omega (arith, d, q .1))
+      ];
+    }
+
+pub peak-passes : (at number : ℕ → ℕ) (n a e x : ℕ) → (a ≤ at n → at n < e → ⊥) → Peak at number n a e x → Peak at number (n + 1) a e x
+peak-passes at number n a e x h p =
+    record {
+      most = λ i l u v. elim (eqb? i n) [
+        | inl q ↦ absurd (h (omega (arith, u, ap at (q .1))) (omega (arith, v, ap at (q .1))))
+        | inr q ↦ let z = q .1 in p .most i (omega (arith, l)) u v
+      ];
+      some = λ l. let w = p .some l in (w .0, omega (arith, w .1), w .2, w .3, w .4);
     }
 
 -- the greatest key at places from a to top is one

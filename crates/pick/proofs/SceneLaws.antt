@@ -1,7 +1,7 @@
 -- Rows by place and key: the heaviest of a stretch, and the heaviest left out. Assumes nothing.
-use mathlib.Core.Path.{_≡_, refl, sym, ap, _∙_, subst}
-use mathlib.Core.Logic.{_⊎_, inl, inr}
-use mathlib.Core.Bool.{Bool, true, false}
+use mathlib.Core.Path.{_≡_, sym, ap, _∙_}
+use mathlib.Core.Logic.{inl, inr}
+use mathlib.Core.Bool.{true, false}
 use mathlib.Core.List.{List}
 use Prim.Native.Nat.{ℕ, suc, _+_, _-_, _/_, _≤_, _<_, min}
 use native.Mathlib.Omega.{arith}
@@ -9,24 +9,24 @@ use lib.ListN.{length, getD}
 use Rattle.rules.specs.Rows.{Row, Round, blank, heavier, In}
 use Rattle.rules.specs.Plan.{in-plan}
 use Rattle.rules.specs.Table.{round-in}
-use Rattle.theory.specs.Tests.{either, leb?, ltb?, eqb?}
+use Rattle.theory.specs.Tests.{either, leb?, ltb?}
 use Rattle.theory.specs.All.{all-in}
 use Rattle.theory.specs.Full.{Fine, Row-fine}
 use Rattle.theory.specs.Keys.{key, key-weight, key-bound, getD-in}
-use Rattle.theory.specs.Count.{bucket, counts-all}
+use Rattle.theory.specs.Count.{bucket, counts-all, kept-counts}
 use Rattle.theory.specs.Index.{flag-in, each-chosen, each-row, at-flag, not-heavier-at}
 use Rattle.theory.specs.Members.{Rows}
-use Rattle.theory.specs.Near.{near-out}
+use Rattle.theory.specs.Near.{near-out, near-edge}
 use Rattle.theory.specs.Flags.{raised, with-flag, Chosen, chosen-rows}
 use Rattle.round.specs.declared.Round.{Round as Head}
-use Rattle.pick.specs.Rows.{Ready, at, key-at, top-of, place}
-use Rattle.pick.specs.Near.{before, Reaches}
-use Rattle.pick.specs.Tally.{kept-key, left-key}
+use Rattle.tally.specs.Rows.{Ready, at, key-at, top-of, place}
+use Rattle.tally.specs.Near.{before, Reaches}
+use Rattle.tally.specs.Tally.{kept-key, left-key}
+use Rattle.pick.specs.Peak.{Peak}
 use Rattle.pick.specs.Choice.{Heaviest-left, None-left}
-use Rattle.pick.specs.declared.near.Reach.{Reach}
-use Rattle.pick.proofs.RowLaws.{known}
-use Rattle.pick.proofs.NearLaws.{enough, place-by}
-use Rattle.pick.proofs.PeakLaws.{Peak}
+use Rattle.tally.specs.declared.near.Reach.{Reach}
+use Rattle.tally.proofs.RowLaws.{known}
+use Rattle.tally.proofs.NearLaws.{enough, place-by}
 
 -- THE SCENE of a pick: a sound, small round with a slot left, its plan's flags, and how far the plan is full
 pub record Scene (r : Round) (fs : List ℕ) (x : Reach) : Type 0 where
@@ -193,3 +193,12 @@ module _ (r : Round) (fs : List ℕ) (x : Reach) (s : Scene r fs x) where
         ];
         some = λ h. absurd (omega (arith, h));
       }
+
+  -- the rows of the plan fill the slots before the free bucket
+  pub full-edge : before r (with-flag r fs) (x .free) ≡ x .free
+  full-edge =
+      omega (
+        arith,
+        kept-counts r (s .fine) (top-of r) (x .over) (x .free) (omega (arith, s .time)) (enough r (s .time)) (s .reach .sweep) (with-flag r fs) (plan-rows) (x .free) (omega arith),
+        near-edge r (s .fine) (with-flag r fs) (plan-rows) (r .slot + x .free) (s .reach .near),
+      )

@@ -1,6 +1,6 @@
 -- What the pick says. Assumes nothing: these are definitions.
 use mathlib.Core.Path.{_≡_}
-use mathlib.Core.Bool.{Bool, true, false, cond}
+use mathlib.Core.Bool.{false, cond}
 use mathlib.Core.List.{List}
 use Prim.Native.Nat.{ℕ, _+_, _≤_, _<_}
 use lib.Dec.{leb, eqb}
@@ -10,7 +10,7 @@ use Rattle.rules.specs.Plan.{in-plan}
 use Rattle.theory.specs.Flags.{with-flag}
 use Rattle.theory.specs.Segments.{Segment}
 use Rattle.theory.specs.Lead.{Leads}
-use Rattle.pick.specs.Rows.{at, key-at}
+use Rattle.tally.specs.Rows.{at, key-at}
 use Rattle.pick.specs.declared.lead.Leader.{Leader}
 use Rattle.pick.specs.declared.choice.Pick.{Pick}
 use Rattle.pick.specs.declared.choice.Pick.the-variants.{First, Far, Kept, Swapped}

@@ -1,5 +1,5 @@
-pub mod Rows
-pub mod Near
-pub mod Tally
+pub mod Peak
+pub mod Stretch
 pub mod Lead
 pub mod Choice
+pub mod Whole

@@ -1,11 +1,11 @@
 // The pick: one pass over the segments, from the far rows back.
-ghost use Prim.Native.Nat.{ℕ, _≤_};
+ghost use Prim.Native.Nat.{_≤_};
 ghost use mathlib.Core.Path.{_≡_};
 ghost use Rattle.rules.specs.Table.{round-in};
 ghost use Rattle.theory.specs.Flags.{Chosen};
-ghost use Rattle.pick.specs.Rows.{Ready};
-ghost use Rattle.pick.specs.Near.{Reaches};
-ghost use Rattle.pick.specs.Tally.{Tallied};
+ghost use Rattle.tally.specs.Rows.{Ready};
+ghost use Rattle.tally.specs.Near.{Reaches};
+ghost use Rattle.tally.specs.Tally.{Tallied};
 ghost use Rattle.pick.specs.Choice.{leap-of, Picked};
 use crate::lead::Leader;
 use crate::lead::first_mark;
@@ -13,12 +13,12 @@ use crate::lead::leader_score;
 use crate::lead::peak_of;
 use crate::lead::score_of;
 use crate::lead::takes;
-use crate::near::Reach;
-use crate::rows::larger;
-use crate::rows::top_of;
-use crate::rows::weight_of;
-use crate::rows::wide;
 use round::Round;
+use tally::near::Reach;
+use tally::rows::larger;
+use tally::rows::top_of;
+use tally::rows::weight_of;
+use tally::rows::wide;
 
 // The key of the row that goes, and how; first and last are buckets, the ends of its segment.
 pub enum Pick {
@@ -80,11 +80,10 @@ pub fn choose(
     ensures { λ r. ⌜ Picked (round-in (now (table .entry))) (now (flags .entry)) (reach .free) r ⌝ }
 {
     let free = reach.free;
-    let top = top_of(round);
     let mut lead = Leader {
-        key: peak_of(kept, free, top),
+        key: peak_of(kept, free, top_of(round)),
         first: free,
-        last: top,
+        last: free,
         other: 0,
     };
     if free == 0 {

@@ -1,16 +1,16 @@
 // The row that leads among those due from a slot on, and its score.
 ghost use mathlib.Core.Path.{_≡_};
-ghost use Prim.Native.Nat.{ℕ, _+_, _-_, _≤_, min};
+ghost use Prim.Native.Nat.{_+_, _-_, _≤_, min};
 ghost use Rattle.rules.specs.Table.{round-in};
 ghost use Rattle.rules.specs.PlanM.{score};
 ghost use Rattle.theory.specs.Flags.{Chosen};
-ghost use Rattle.pick.specs.Rows.{Ready};
+ghost use Rattle.tally.specs.Rows.{Ready};
 ghost use Rattle.pick.specs.Lead.{Greatest, Fair, leader-score, takes-lead, Least-by, Alone};
-use crate::rows::due_at;
-use crate::rows::larger;
-use crate::rows::weight_at;
-use crate::rows::weight_of;
 use round::Round;
+use tally::rows::due_at;
+use tally::rows::larger;
+use tally::rows::weight_at;
+use tally::rows::weight_of;
 
 // Its key, the first and last bucket of its segment, and the greatest key of the rows left out from first on, 0 for none.
 // The key is 0 while there is no row; a far row has a first bucket where the plan isn't full.

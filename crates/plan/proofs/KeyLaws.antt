@@ -16,12 +16,10 @@ pub weight-read : (t : List ℕ) (i a r : ℕ) → a ≡ row-at i → r ≡ fiel
 weight-read t i a r e f = f ∙ ap (λ (z : ℕ). field (z + 6) 4 t) e
 
 -- THE KEY
-pub key-is : (w d i : ℕ) → (16777217 - w) * 4194304 + d * 1024 + i ≡ light-key w d i
+pub key-read : (t : List ℕ) (i w d r : ℕ) → w ≡ weight-in t i → d ≡ due-in t i → r ≡ ((16777217 - w) * 4096 + d) * 1024 + i →
+    r ≡ key-in t i
 unfolding light-key
-key-is w d i = omega arith
-
-pub key-read : (t : List ℕ) (i w d r : ℕ) → w ≡ weight-in t i → d ≡ due-in t i → r ≡ light-key w d i → r ≡ key-in t i
-key-read t i w d r e f g = g ∙ ap (λ (z : ℕ). light-key z d i) e ∙ ap (λ (z : ℕ). light-key (weight-in t i) z i) f
+key-read t i w d r e f g = omega arith
 
 pub row-in-key : (w d i : ℕ) → i < 1024 → light-key w d i % 1024 ≡ i
 unfolding light-key

@@ -1,9 +1,10 @@
 pub mod ArrayLaws
 pub mod HeapLaws
+pub mod MoveLaws
 pub mod KeyLaws
 pub mod ListLaws
 pub mod TableLaws
 pub mod TallyLaws
+pub mod FlagLaws
 pub mod SweepLaws
-pub mod HeapedLaws
 pub mod PlanLaws

@@ -1,25 +1,23 @@
 -- A sweep's certificate is one for the plan's rows. Assumes nothing.
-use mathlib.Core.Path.{_≡_, refl, sym, ap, ap₂, _∙_, subst}
-use mathlib.Core.Logic.{_⊎_, inl, inr}
-use mathlib.Core.Bool.{Bool, true, false, cond, true≢false}
+use mathlib.Core.Path.{_≡_, refl, sym, ap, ap₂, _∙_}
+use mathlib.Core.Logic.{inl, inr}
+use mathlib.Core.Bool.{Bool, true, false, cond}
 use mathlib.Core.List.{List, [], _∷_, _++_}
-use Prim.Native.Nat.{ℕ, zero, suc, _+_, _*_, _-_, _≤_, _<_, min}
+use Prim.Native.Nat.{ℕ, zero, suc, _+_, _-_, _≤_, _<_, min}
 use native.Mathlib.Omega.{arith}
-use lib.Dec.{ltb, eqb}
 use borrow.Author.Tests.{lt-ltb}
 use lib.ListN.{length, getD, take, replicate, length-replicate}
 use lib.Seq.{take-all}
 use Rattle.rules.specs.Rows.{Row, Round, heavier, chosen, All}
 use Rattle.rules.specs.Table.{round-in, table-refusal}
-use Rattle.rules.specs.Conditions.{slot-in, used-in, due-in, weight-in}
-use Rattle.rules.specs.Plan.{feasible, due-by}
-use Rattle.theory.specs.Tests.{either, leb?, ltb?, eqb?}
+use Rattle.rules.specs.Conditions.{slot-in, used-in}
+use Rattle.theory.specs.Tests.{leb?}
 use Rattle.theory.specs.Sum.{sum, sum-le}
 use Rattle.theory.specs.All.{all-map, all-in}
 use Rattle.theory.specs.Feas.{below, below?, num, below-yes, below-1, due-below, Feas, feas-made}
 use Rattle.theory.specs.Full.{Fine, Row-fine}
 use Rattle.theory.specs.Border.{within, many, within-yes}
-use Rattle.theory.specs.Unique.{Left-out, passed, Certified, within-below, all-within}
+use Rattle.theory.specs.Unique.{Left-out, passed, within-below, all-within}
 use Rattle.theory.specs.Keys.{light-key, getD-in, rows-light-key}
 use Rattle.theory.specs.Index.{chosen-next}
 use Rattle.theory.specs.Sane.{sound}
@@ -27,7 +25,7 @@ use Rattle.theory.specs.Soundness.{accepted-sound}
 use Rattle.theory.specs.Flags.{raised, length-raised, raised-at, Chosen}
 use Rattle.plan.specs.Keys.{key-in, ahead-in}
 use Rattle.plan.specs.Sweep.{kept?, tally, before, smaller, Barred, Kept}
-use Rattle.plan.proofs.TallyLaws.{tally-le, tally-most, before-yes, before-1, smaller?, smaller-1}
+use Rattle.plan.proofs.TallyLaws.{tally-le, tally-most, before-yes, smaller?, smaller-1}
 use Rattle.plan.proofs.TableLaws.{due-held, weight-held, rows-held, slot-held, few-rows}
 
 -- sums over the rows with a flag
@@ -82,6 +80,10 @@ module _ (t : List ℕ) (e : table-refusal t ≡ 0) (fs : List ℕ) (size : leng
   long : length fs ≡ length (round-in t .rows)
   long = size ∙ sym (rows-held t)
 
+  -- slots from the current one to the last
+  abbrev left : ℕ
+  left = suc (round-in t .last) - round-in t .slot
+
   -- a sum over the rows with a flag
   of-flags : (μ : Row → ℕ) → sum μ rs ≡ tally (λ j. μ (X j)) fs (length fs)
   of-flags μ = chosen-tally μ z fs (round-in t .rows) long ∙ ap (tally (λ j. μ (X j)) fs) (sym long)
@@ -101,7 +103,12 @@ module _ (t : List ℕ) (e : table-refusal t ≡ 0) (fs : List ℕ) (size : leng
   fits : Feas (round-in t) rs
   fits v a b =
       elim (leb? (v - round-in t .slot) (length fs)) [
-        | inl k ↦ omega (arith, of-flags (below 0 v), tally-le (λ j. below 0 v (X j)) (before (ahead-in t) (v - round-in t .slot)) fs (length fs) one, C .fits (v - round-in t .slot) (k .1))
+        | inl k ↦ omega (
+          arith,
+          of-flags (below 0 v),
+          tally-le (λ j. below 0 v (X j)) (before (ahead-in t) (v - round-in t .slot)) fs (length fs) one,
+          C .fits (v - round-in t .slot) (k .1),
+        )
         | inr k ↦ omega (arith, k .1, of-flags (below 0 v), tally-most (λ j. below 0 v (X j)) fs (length fs) (λ j. below-1 0 v (X j)))
       ]
     where
@@ -118,7 +125,8 @@ module _ (t : List ℕ) (e : table-refusal t ≡ 0) (fs : List ℕ) (size : leng
       let s = accepted-sound t e in
       let a : i < used-in t = omega (arith, size) in
       let b : j < used-in t = omega (arith, size) in
-      rows-light-key 1 (round-in t .next) (round-in t .rows) z i j (f .rising) (omega (arith, rows-held t, few-rows t e)) (omega (arith, long)) (omega (arith, long))
+      rows-light-key 1 (round-in t .next) (round-in t .rows) z i j (f .rising)
+      (omega (arith, rows-held t, few-rows t e)) (omega (arith, long)) (omega (arith, long))
       (omega (arith, due-held t z i a, s .dues-by i a, s .last-most)) (omega (arith, due-held t z j b, s .dues-by j b, s .last-most))
       (omega (arith, weight-held t z i a, s .weights-most i a)) (omega (arith, weight-held t z j b, s .weights-most j b))
       ∙ lt-ltb (light-key (X i .weight) (X i .due) i) (light-key (X j .weight) (X j .due) j) (omega (arith, key-held i a, key-held j b))
@@ -131,17 +139,21 @@ module _ (t : List ℕ) (e : table-refusal t ≡ 0) (fs : List ℕ) (size : leng
     abbrev v : ℕ
     v = round-in t .slot + B .at
 
+    -- 1 for a row that bars row j
+    abbrev low : ℕ → ℕ
+    low = smaller (key-in t) (ahead-in t) (key-in t j) (B .at)
+
     abbrev over : Row → Bool
     over y = heavier y (X j)
 
     at-by : B .at ≤ length fs
-    at-by = omega (arith, B .full, tally-most (smaller (key-in t) (ahead-in t) (key-in t j) (B .at)) fs (length fs) (smaller-1 (key-in t) (ahead-in t) (key-in t j) (B .at)))
+    at-by = omega (arith, B .full, tally-most (low) fs (length fs) (smaller-1 (key-in t) (ahead-in t) (key-in t j) (B .at)))
 
     filled : B .at ≤ many over v rs
     filled =
-        omega (arith, B .full, of-flags (within over v), tally-le (smaller (key-in t) (ahead-in t) (key-in t j) (B .at)) (λ i. within over v (X i)) fs (length fs) one)
+        omega (arith, B .full, of-flags (within over v), tally-le (low) (λ i. within over v (X i)) fs (length fs) one)
       where
-        one : (i : ℕ) → i < length fs → kept? fs i ≡ true → smaller (key-in t) (ahead-in t) (key-in t j) (B .at) i ≤ within over v (X i)
+        one : (i : ℕ) → i < length fs → kept? fs i ≡ true → low i ≤ within over v (X i)
         one i a _ = elim (smaller? (key-in t) (ahead-in t) (key-in t j) (B .at) i) [
           | inl k ↦ omega (
             arith,
@@ -161,23 +173,24 @@ module _ (t : List ℕ) (e : table-refusal t ≡ 0) (fs : List ℕ) (size : leng
         k .1,
         f .time,
         B .full,
-        tally-le (smaller (key-in t) (ahead-in t) (key-in t j) (B .at)) (before (ahead-in t) (suc (round-in t .last) - round-in t .slot)) fs (length fs) one,
-        C .fits (suc (round-in t .last) - round-in t .slot) (omega (arith, at-by, k .1)),
+        tally-le (low) (before (ahead-in t) left) fs (length fs) one,
+        C .fits left (omega (arith, at-by, k .1)),
       ))
     ]
       where
         one : (i : ℕ) → i < length fs → kept? fs i ≡ true →
-            smaller (key-in t) (ahead-in t) (key-in t j) (B .at) i ≤ before (ahead-in t) (suc (round-in t .last) - round-in t .slot) i
+            low i ≤ before (ahead-in t) left i
         one i a _ =
             let u : i < used-in t = omega (arith, size) in
             omega (
               arith,
               smaller-1 (key-in t) (ahead-in t) (key-in t j) (B .at) i,
-              before-yes (ahead-in t) (suc (round-in t .last) - round-in t .slot) i (omega (arith, ahead-is i a, due-from i a, due-by-last i u)),
+              before-yes (ahead-in t) left i (omega (arith, ahead-is i a, due-from i a, due-by-last i u)),
             )
           where
             due-by-last : (i : ℕ) → i < used-in t → X i .due ≤ round-in t .last
-            due-by-last i u = all-in (Row-fine (round-in t)) (X i) (round-in t .rows) (f .fine) (getD-in (round-in t .rows) z i (omega (arith, rows-held t))) .1
+            due-by-last i u =
+                all-in (Row-fine (round-in t)) (X i) (round-in t .rows) (f .fine) (getD-in (round-in t .rows) z i (omega (arith, rows-held t))) .1
 
     left-out : Left-out (round-in t) rs (X j)
     left-out =
@@ -194,7 +207,8 @@ module _ (t : List ℕ) (e : table-refusal t ≡ 0) (fs : List ℕ) (size : leng
             filled,
             sum-le (within over v) (below 0 v) (within-below over v) rs,
           );
-          heavy = all-map {Q = λ y. y .due ≤ v - 1 → over y ≡ true} (λ y (k : y .due < v → over y ≡ true) (l : y .due ≤ v - 1). k (omega (arith, l, B .past))) rs
+          heavy = all-map {Q = λ y. y .due ≤ v - 1 → over y ≡ true}
+              (λ y (k : y .due < v → over y ≡ true) (l : y .due ≤ v - 1). k (omega (arith, l, B .past))) rs
               (all-within over v rs (omega (arith, fits v (omega arith) ends, filled)));
         }
       where

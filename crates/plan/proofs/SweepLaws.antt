@@ -1,211 +1,230 @@
--- The sweep's steps on flags alone: a row joins, stays out, or takes the lightest one's place. Assumes nothing.
-use mathlib.Core.Path.{_≡_, refl, sym, ap, _∙_}
+-- The sweep's steps, on flags and heap as the code takes them. Assumes nothing.
+use mathlib.Core.Path.{_≡_, refl, sym, ap, _∙_, subst}
 use mathlib.Core.Logic.{_⊎_, inl, inr}
-use mathlib.Core.Bool.{Bool, true, false, true≢false, false≢true}
+use mathlib.Core.Bool.{true, false, cond, true≢false}
 use mathlib.Core.List.{List}
-use Prim.Native.Nat.{ℕ, suc, _+_, _≤_, _<_}
+use Prim.Native.Nat.{ℕ, zero, suc, _+_, _%_, _≤_, _<_}
 use native.Mathlib.Omega.{arith}
-use lib.ListN.{length, getD, set, length-set}
-use Rattle.theory.specs.Tests.{either, leb?, ltb?, eqb?}
-use Rattle.plan.specs.Lists.{Next}
-use Rattle.plan.specs.Sweep.{kept?, tally, before, smaller, Barred, Done, Waits, Mid}
-use Rattle.plan.proofs.TallyLaws.{kept-set?, tally-on, tally-off, tally-le, tally-none, before-yes, before-no, before-1, smaller-yes, smaller-no}
+use native.Mathlib.Numerals.{add-one}
+use lib.Dec.{eqb}
+use lib.ListN.{length, getD, set, replicate, length-set, length-replicate, getD-replicate}
+use Rattle.theory.specs.Tests.{ltb?, eqb?}
+use Rattle.rules.specs.Conditions.{due-in, weight-in}
+use Rattle.plan.specs.Keys.{key-in, ahead-in}
+use Rattle.plan.specs.Lists.{Next, Nexts}
+use Rattle.plan.specs.Heap.{heaped, Grown, Replaced}
+use Rattle.plan.specs.Sweep.{kept?, Flagged, Sweeping, Kept}
+use Rattle.plan.proofs.HeapLaws.{heaped-at, heaped-some, top-most}
+use Rattle.plan.proofs.KeyLaws.{row-in-key, ahead-by}
+use Rattle.plan.proofs.TallyLaws.{tally-on, tally-most, tally-none, tally-at, tally-some}
+use Rattle.plan.proofs.FlagLaws.{off, join, stay, sums, exchange, skip, onward, none-yet}
 
--- once every slot up to s is filled: a row due by then whose key no row kept reaches
-pub barred-full : (K S : ℕ → ℕ) (n : ℕ) (fs : List ℕ) (s j : ℕ) → S j ≤ s → suc s ≤ tally (λ _. 1) fs n →
-    ((i : ℕ) → i < n → kept? fs i ≡ true → (K i < K j) × (S i ≤ s)) → Barred K S n fs j
-barred-full K S n fs s j h full under =
-    record {
-      at = suc s;
-      past = omega arith;
-      full = omega (arith, tally-le (λ _. 1) (smaller K S (K j) (suc s)) fs n (λ i a b.
-          let u = under i a b in omega (arith, smaller-yes K S (K j) (suc s) i (u .0), before-yes S (suc s) i (omega (arith, u .1)))));
-    }
+-- 1 for one number alone
+unfoldable is : (v x : ℕ) → ℕ
+is v x = cond (eqb x v) 1 0
 
-module _ (K S : ℕ → ℕ) (n : ℕ) (fs : List ℕ) (s i count : ℕ) (M : Mid K S n fs s i count) (h : i < n) (here : S i ≡ s) where
-  pub off : kept? fs i ≡ false
-  off = M .new i h (inr (here, omega arith))
+is? : (v x : ℕ) → ((is v x ≡ 1) × (x ≡ v)) ⊎ ((is v x ≡ 0) × (x ≡ v → ⊥))
+unfolding is
+is? v x = elim (eqb? x v) [ inl a ↦ inl (rw (a .0), a .1) | inr a ↦ inr (rw (a .0), a .1) ]
 
-  inside : i < length fs
-  inside = omega (arith, M .size)
+is-1 : (v : ℕ) → is v v ≡ 1
+is-1 v = elim (is? v v) [ inl a ↦ a .0 | inr a ↦ absurd (a .1 refl) ]
 
-  pub kept-ahead : (j : ℕ) → j < n → kept? fs j ≡ true → S j ≤ s
-  kept-ahead j a e = elim (ltb? s (S j)) [ inl b ↦ absurd (true≢false (sym e ∙ M .new j a (inl (b .1)))) | inr b ↦ b .1 ]
+is-yes : (v x : ℕ) → 1 ≤ is v x → x ≡ v
+is-yes v x h = elim (is? v x) [ inl a ↦ a .1 | inr a ↦ absurd (omega arith) ]
 
-  -- before and after row i
-  later : (j : ℕ) → Waits S s (suc i) j → (j ≡ i → ⊥) × Waits S s i j
-  later j (inl a) = (λ e. omega (arith, here, ap S e), inl a)
-  later j (inr a) = (λ e. omega arith, inr (a .0, omega arith))
+-- other flags of the same rows
+pub flagged-as : (t fs gs : List ℕ) → Flagged t fs → length gs ≡ length fs → Flagged t gs
+flagged-as t fs gs F l =
+    record { used = l ∙ F .used; few = omega (arith, F .few); known = λ i h. F .known i (omega arith) }
 
-  earlier : (j : ℕ) → (j ≡ i → ⊥) → Done S s (suc i) j → Done S s i j
-  earlier j d (inl a) = inl a
-  earlier j d (inr a) = inr (a .0, elim (ltb? j i) [ inl b ↦ b .1 | inr b ↦ let c = b .1 in absurd (d (omega arith)) ])
+-- THE TOP is the key of the lightest row kept
+pub record Lightest (t fs : List ℕ) (top z : ℕ) : Type 0 where
+  pub in-rows : z < length fs
+  pub kept : kept? fs z ≡ true
+  pub key : key-in t z ≡ top
+  pub row : top % 1024 ≡ z
 
-  done-by : (j : ℕ) → Done S s (suc i) j → S j ≤ s
-  done-by j (inl a) = omega arith
-  done-by j (inr a) = omega arith
+module _ (t heap fs : List ℕ) (s a count : ℕ) (W : Sweeping t heap fs s a count) where
+  row-is : (j : ℕ) → j < length fs → key-in t j % 1024 ≡ j
+  row-is j h = row-in-key (weight-in t j) (due-in t j) j (omega (arith, W .flagged .few))
 
-  -- A PLACE IS FREE
-  pub join : count ≤ s → Mid K S n (set fs i 1) s (suc i) (count + 1)
-  join few =
+  top-key : 1 ≤ count → (z : ℕ) × Lightest t fs (getD heap 1 0) z
+  top-key h =
+      let v = getD heap 1 0 in
+      let p = heaped-at (is v) count heap 1 (omega arith) h in
+      let r = tally-some (λ j. is v (key-in t j)) fs (length fs) (omega (arith, p, is-1 v, W .keys (is v))) in
+      let e = is-yes v (key-in t (r .0)) (r .3) in
+      (r .0, record { in-rows = r .1; kept = r .2; key = e; row = sym (ap (λ (x : ℕ). x % 1024) e) ∙ row-is (r .0) (r .1) })
+
+  -- the row that the top names
+  pub top-row : 1 ≤ count → Lightest t fs (getD heap 1 0) (getD heap 1 0 % 1024)
+  top-row h = let r = top-key h in subst (Lightest t fs (getD heap 1 0)) (sym (r .1 .row)) (r .1)
+
+  under-top : (j : ℕ) → j < length fs → kept? fs j ≡ true → key-in t j ≤ getD heap 1 0
+  under-top j h e =
+      let v = key-in t j in
+      let p = tally-at (λ i. is v (key-in t i)) fs (length fs) j h e in
+      let r = heaped-some (is v) count heap (omega (arith, p, is-1 v, W .keys (is v))) in
+      let q = is-yes v (getD heap (r .0) 0) (r .3) in
+      omega (arith, q, top-most count heap (W .ordered) (r .0) (r .0) (omega arith) (r .1) (r .2))
+
+  -- different rows have different keys
+  differ : (i j : ℕ) → i < length fs → j < length fs → key-in t i ≡ key-in t j → i ≡ j
+  differ i j h k e = sym (row-is i h) ∙ ap (λ (x : ℕ). x % 1024) e ∙ row-is j k
+
+  pub count-by : count ≤ length fs
+  count-by = omega (arith, W .mid .all, tally-most (λ _. 1) fs (length fs) (λ j. omega arith))
+
+-- a row that is not kept yet leaves room for it
+pub count-under : (t heap fs : List ℕ) (s i count : ℕ) → Sweeping t heap fs s i count → i < length fs → ahead-in t i ≡ s → count < length fs
+count-under t heap fs s i count W h here =
+    omega (
+      arith,
+      W .mid .all,
+      tally-on (λ _. 1) fs (length fs) i h h (off (key-in t) (ahead-in t) (length fs) fs s i count (W .mid) h here),
+      tally-most (λ _. 1) (set fs i 1) (length fs) (λ j. omega arith),
+    )
+
+-- ONE ROW, with its key
+module _ (t heap fs : List ℕ) (s i count k : ℕ) (W : Sweeping t heap fs s i count) (h : i < length fs) (here : ahead-in t i ≡ s)
+    (is-key : k ≡ key-in t i) where
+  not-kept : kept? fs i ≡ false
+  not-kept = off (key-in t) (ahead-in t) (length fs) fs s i count (W .mid) h here
+
+  pub joined : (u : List ℕ) → count ≤ s → Grown count k heap u → Sweeping t u (set fs i 1) s (suc i) (count + 1)
+  joined u free G =
       record {
-        size = length-set fs i 1 ∙ M .size;
-        new = λ j a w. let l = later j w in elim (kept-set? fs i 1 j inside) [
-          | inl b ↦ absurd (l .0 (b .0))
-          | inr b ↦ b .1 ∙ M .new j a (l .1)
-        ];
-        all = omega (arith, tally-on (λ _. 1) fs n i h inside off, M .all);
-        few = omega arith;
-        fits = λ e a. omega (arith, tally-on (before S e) fs n i h inside off, M .fits e a, before-no S e i (omega (arith, here)));
-        out = λ j a d e. elim (kept-set? fs i 1 j inside) [
-          | inl b ↦ absurd (false≢true (sym e ∙ b .1))
-          | inr b ↦
-              let z = M .out j a (earlier j (b .0) d) (sym (b .1) ∙ e) in
-              record { at = z .at; past = z .past; full = omega (arith, z .full, tally-on (smaller K S (K j) (z .at)) fs n i h inside off) }
-        ];
+        flagged = flagged-as t fs (set fs i 1) (W .flagged) (length-set fs i 1);
+        mid = rw (length-set fs i 1) (join (key-in t) (ahead-in t) (length fs) fs s i count (W .mid) h here free);
+        ordered = rw add-one (G .heap);
+        keys = λ μ. rw (add-one, length-set fs i 1)
+            (omega (arith, G .keys μ, W .keys μ, ap μ is-key, tally-on (λ j. μ (key-in t j)) fs (length fs) i h h not-kept));
       }
 
-  -- NO PLACE IS FREE, and no row kept is lighter
-  pub stay : suc s ≤ count → ((j : ℕ) → j < n → kept? fs j ≡ true → K j < K i) → Mid K S n fs s (suc i) count
-  stay full under =
+  pub stayed : s < count → getD heap 1 0 ≤ k → Sweeping t heap fs s (suc i) count
+  stayed full above =
       record {
-        size = M .size;
-        new = λ j a w. M .new j a (later j w .1);
-        all = M .all;
-        few = M .few;
-        fits = M .fits;
-        out = λ j a d e. elim (eqb? j i) [
-          | inl b ↦ let q : j ≡ i = b .1 in rw q (barred-full K S n fs s i (omega (arith, here)) (omega (arith, M .all)) (λ k c f. (under k c f, kept-ahead k c f)))
-          | inr b ↦ M .out j a (earlier j (b .1) d) e
-        ];
+        flagged = W .flagged;
+        mid = stay (key-in t) (ahead-in t) (length fs) fs s i count (W .mid) h here full under;
+        ordered = W .ordered;
+        keys = W .keys;
       }
+    where
+      under : (j : ℕ) → j < length fs → kept? fs j ≡ true → key-in t j < key-in t i
+      under j a e = elim (ltb? (key-in t j) (key-in t i)) [
+        | inl b ↦ b .1
+        | inr b ↦
+            let q : key-in t j ≡ key-in t i = omega (arith, b .1, under-top t heap fs s i count W j a e, above, is-key) in
+            absurd (true≢false (sym e ∙ ap (kept? fs) (differ t heap fs s i count W j i a h q) ∙ not-kept))
+      ]
 
-  -- THE LIGHTEST, row z, leaves for row i
-  module _ (full : suc s ≤ count) (z : ℕ) (hz : z < n) (on : kept? fs z ≡ true) (most : (j : ℕ) → j < n → kept? fs j ≡ true → (j ≡ z) ⊎ (K j < K z)) (over : K i < K z) where
-    abbrev ms : List ℕ
-    ms = set fs z 0
+  pub exchanged : (u : List ℕ) (z : ℕ) → s < count → k < getD heap 1 0 → z ≡ getD heap 1 0 % 1024 → Replaced count k heap u →
+      Sweeping t u (set (set fs z 0) i 1) s (suc i) count
+  exchanged u z full over e R =
+      record {
+        flagged = flagged-as t fs (set (set fs z 0) i 1) (W .flagged) long;
+        mid = rw long (exchange (key-in t) (ahead-in t) (length fs) fs s i count (W .mid) h here full z (L .in-rows) (L .kept) most heavier);
+        ordered = R .heap;
+        keys = λ μ. rw long (omega (
+          arith,
+          R .keys μ,
+          W .keys μ,
+          ap μ is-key,
+          ap μ (L .key),
+          sums (key-in t) (ahead-in t) (length fs) fs s i count (W .mid) h here full z (L .in-rows) (L .kept) most heavier (λ j. μ (key-in t j)),
+        ));
+      }
+    where
+      L : Lightest t fs (getD heap 1 0) z
+      L = subst (Lightest t fs (getD heap 1 0)) (sym e) (top-row t heap fs s i count W (omega arith))
 
-    abbrev ns : List ℕ
-    ns = set ms i 1
+      heavier : key-in t i < key-in t z
+      heavier = omega (arith, L .key, over, is-key)
 
-    other : i ≡ z → ⊥
-    other e = true≢false (sym on ∙ sym (ap (kept? fs) e) ∙ off)
+      most : (j : ℕ) → j < length fs → kept? fs j ≡ true → (j ≡ z) ⊎ (key-in t j < key-in t z)
+      most j a f = elim (ltb? (key-in t j) (key-in t z)) [
+        | inl b ↦ inr (b .1)
+        | inr b ↦ inl (differ t heap fs s i count W j z a (L .in-rows) (omega (arith, b .1, L .key, under-top t heap fs s i count W j a f)))
+      ]
 
-    in-fs : z < length fs
-    in-fs = omega (arith, M .size)
+      long : length (set (set fs z 0) i 1) ≡ length fs
+      long = length-set (set fs z 0) i 1 ∙ length-set fs z 0
 
-    in-ms : i < length ms
-    in-ms = omega (arith, M .size, length-set fs z 0)
-
-    ms-off : kept? ms i ≡ false
-    ms-off = elim (kept-set? fs z 0 i in-fs) [ inl a ↦ absurd (other (a .0)) | inr a ↦ a .1 ∙ off ]
-
-    -- what a sum loses and gains
-    pub sums : (f : ℕ → ℕ) → tally f ns n + f z ≡ tally f fs n + f i
-    sums f = omega (arith, tally-off f fs n z hz in-fs on, tally-on f ms n i h in-ms ms-off)
-
-    data At (j : ℕ) : Type 0 where
-      came : j ≡ i → kept? ns j ≡ true → At j
-      gone : j ≡ z → kept? ns j ≡ false → At j
-      old : (j ≡ i → ⊥) → (j ≡ z → ⊥) → kept? ns j ≡ kept? fs j → At j
-
-    at? : (j : ℕ) → At j
-    at? j = elim (kept-set? ms i 1 j in-ms) [
-      | inl a ↦ came (a .0) (a .1)
-      | inr a ↦ elim (kept-set? fs z 0 j in-fs) [ inl b ↦ gone (b .0) (a .1 ∙ b .1) | inr b ↦ old (a .0) (b .0) (a .1 ∙ b .1) ]
-    ]
-
-    -- the rows kept now
-    now-kept : (j : ℕ) → j < n → kept? ns j ≡ true → (K j < K z) × (S j ≤ s)
-    now-kept j a e = elim (at? j) [
-      | came b c ↦ (omega (arith, ap K b), omega (arith, here, ap S b))
-      | gone b c ↦ absurd (true≢false (sym e ∙ c))
-      | old b c d ↦ (elim (most j a (sym d ∙ e)) [ inl f ↦ absurd (c f) | inr f ↦ f ], kept-ahead j a (sym d ∙ e))
-    ]
-
-    all-ns : tally (λ _. 1) ns n ≡ count
-    all-ns = omega (arith, sums (λ _. 1), M .all)
-
-    barred-now : (j : ℕ) → K z ≤ K j → S j ≤ s → Barred K S n ns j
-    barred-now j g e = barred-full K S n ns s j e (omega (arith, all-ns)) (λ k a b. let u = now-kept k a b in (omega (arith, u .0), u .1))
-
-    barred-on : (j : ℕ) → S j ≤ s → Barred K S n fs j → Barred K S n ns j
-    barred-on j e d = elim (leb? (K j) (K z)) [
-      | inl a ↦ record { at = d .at; past = d .past; full = omega (arith, d .full, sums (smaller K S (K j) (d .at)), smaller-no K S (K j) (d .at) z (a .1)) }
-      | inr a ↦ barred-now j (omega (arith, a .1)) e
-    ]
-
-    pub exchange : Mid K S n (set (set fs z 0) i 1) s (suc i) count
-    exchange =
-        record {
-          size = length-set ms i 1 ∙ length-set fs z 0 ∙ M .size;
-          new = λ j a w. let l = later j w in elim (at? j) [
-            | came b c ↦ absurd (l .0 b)
-            | gone b c ↦ c
-            | old b c d ↦ d ∙ M .new j a (l .1)
-          ];
-          all = all-ns;
-          few = M .few;
-          fits = λ e a. omega (arith, M .fits e a, sums (before S e), before-no S e i (omega (arith, here)));
-          out = λ j a d e. elim (at? j) [
-            | came b c ↦ absurd (true≢false (sym c ∙ e))
-            | gone b c ↦ barred-now j (omega (arith, ap K b)) (done-by j d)
-            | old b c f ↦ barred-on j (done-by j d) (M .out j a (earlier j b d) (sym f ∙ e))
-          ];
-        }
-
--- ON TO THE NEXT ROW of the list, and to the next list
-pub skip : (K S : ℕ → ℕ) (n : ℕ) (fs : List ℕ) (s a c count : ℕ) → Mid K S n fs s a count → Next S n s a c → Mid K S n fs s c count
-skip K S n fs s a c count M N =
+-- ON TO THE NEXT ROW, the next list, and the end
+pub next-row : (t heap fs : List ℕ) (s a c count : ℕ) → Sweeping t heap fs s a count → Next (ahead-in t) (length fs) s a c →
+    Sweeping t heap fs s c count
+next-row t heap fs s a c count W N =
     record {
-      size = M .size;
-      new = λ j h w. M .new j h (wider j w);
-      all = M .all;
-      few = M .few;
-      fits = M .fits;
-      out = λ j h d. M .out j h (narrower j h d);
+      flagged = W .flagged;
+      mid = skip (key-in t) (ahead-in t) (length fs) fs s a c count (W .mid) N;
+      ordered = W .ordered;
+      keys = W .keys;
+    }
+
+pub next-list : (t heap fs : List ℕ) (s a count : ℕ) → Sweeping t heap fs s a count → length fs ≤ a → Sweeping t heap fs (suc s) 0 count
+next-list t heap fs s a count W h =
+    record {
+      flagged = W .flagged;
+      mid = onward (key-in t) (ahead-in t) (length fs) fs s a count (W .mid) h;
+      ordered = W .ordered;
+      keys = W .keys;
+    }
+
+pub next-ahead : (t heap fs : List ℕ) (s count : ℕ) → Sweeping t heap fs (suc s) 0 count → Sweeping t heap fs (s + 1) 0 count
+next-ahead t heap fs s count W = rw add-one W
+
+pub none-swept : (t heap fs : List ℕ) → Flagged t fs → heap ≡ replicate 1026 1 → fs ≡ replicate (length fs) 0 → Sweeping t heap fs 0 0 0
+unfolding heaped
+none-swept t heap fs F g e =
+    record {
+      flagged = F;
+      mid = none-yet (key-in t) (ahead-in t) (length fs) fs refl off;
+      ordered = record {
+        room = ap length g ∙ length-replicate 1026 one;
+        order = λ q a b. absurd (omega arith);
+        some = λ q a b. absurd (omega arith);
+        free = λ q a. omega (arith, ap (λ (xs : List ℕ). getD xs q 0) g, none-over 1026 q);
+      };
+      keys = λ μ. sym (tally-none (λ j. μ (key-in t j)) fs (length fs) off);
     }
   where
-    wider : (j : ℕ) → Waits S s c j → Waits S s a j
-    wider j (inl w) = inl w
-    wider j (inr w) = inr (w .0, omega (arith, N .from))
-    narrower : (j : ℕ) → j < n → Done S s c j → Done S s a j
-    narrower j h (inl d) = inl d
-    narrower j h (inr d) = elim (ltb? j a) [ inl k ↦ inr (d .0, k .1) | inr k ↦ absurd (N .gap j (k .1) (d .1) h (d .0)) ]
+    one : ℕ
+    one = 1
 
-pub onward : (K S : ℕ → ℕ) (n : ℕ) (fs : List ℕ) (s a count : ℕ) → Mid K S n fs s a count → n ≤ a → Mid K S n fs (suc s) 0 count
-onward K S n fs s a count M h =
-    record {
-      size = M .size;
-      new = λ j k w. M .new j k (inl (ahead j w));
-      all = M .all;
-      few = omega (arith, M .few);
-      fits = λ e k. elim (leb? e s) [
-        | inl b ↦ M .fits e (b .1)
-        | inr b ↦ omega (arith, b .1, M .all, M .few, tally-le (before S e) (λ _. 1) fs n (λ j c d. before-1 S e j))
-      ];
-      out = λ j k d. M .out j k (by j k d);
-    }
-  where
-    ahead : (j : ℕ) → Waits S (suc s) 0 j → s < S j
-    ahead j (inl w) = omega arith
-    ahead j (inr w) = omega arith
-    by : (j : ℕ) → j < n → Done S (suc s) 0 j → Done S s a j
-    by j k (inl d) = elim (ltb? (S j) s) [ inl b ↦ inl (b .1) | inr b ↦ inr (omega (arith, b .1), omega arith) ]
-    by j k (inr d) = absurd (omega arith)
+    none-over : (n q : ℕ) → getD (replicate n 1) q 0 ≤ 1
+    none-over zero q = omega arith
+    none-over (suc n) zero = omega arith
+    none-over (suc n) (suc q) = none-over n q
 
--- NOTHING KEPT YET
-pub none-yet : (K S : ℕ → ℕ) (n : ℕ) (fs : List ℕ) → length fs ≡ n → ((j : ℕ) → j < n → kept? fs j ≡ false) → Mid K S n fs 0 0 0
-none-yet K S n fs l h =
+    off : (j : ℕ) → j < length fs → kept? fs j ≡ false
+    off j h = ap (λ (xs : List ℕ). kept? xs j) e ∙ ap (λ (z : ℕ). eqb z 1) (getD-replicate (length fs) j 0 0 h)
+
+pub all-swept : (t heap fs : List ℕ) (s count : ℕ) → Sweeping t heap fs s 0 count → length fs < s → Kept t fs
+all-swept t heap fs s count W h =
     record {
-      size = l;
-      new = λ j a w. h j a;
-      all = tally-none (λ _. 1) fs n h;
-      few = omega arith;
-      fits = λ e a. omega (arith, tally-none (before S e) fs n h);
-      out = λ j a d. absurd (none j d);
+      fits = λ e a. W .mid .fits e (omega arith);
+      out = λ j a e. W .mid .out j a (inl (omega (arith, ahead-by t j, W .flagged .used))) e;
     }
-  where
-    none : (j : ℕ) → Done S 0 0 j → ⊥
-    none j (inl a) = omega arith
-    none j (inr a) = omega arith
+
+-- IN THE MIDST OF A LIST: row is the next one of it
+pub record Listing (t : List ℕ) (n : ℕ) (heap fs : List ℕ) (s row count : ℕ) : Type 0 where
+  pub size : length fs ≡ n
+  pub here : row < n → ahead-in t row ≡ s
+  pub swept : Sweeping t heap fs s row count
+
+pub list-start : (t heap fs : List ℕ) (s start count : ℕ) → Sweeping t heap fs s 0 count → Next (ahead-in t) (length fs) s 0 start →
+    Listing t (length fs) heap fs s start count
+list-start t heap fs s start count W N = record { size = refl; here = N .here; swept = next-row t heap fs s 0 start count W N }
+
+pub list-more : (t : List ℕ) (n : ℕ) (heap fs u gs next : List ℕ) (s row c count kept : ℕ) → Listing t n heap fs s row kept → row < n →
+    length gs ≡ length fs → Sweeping t u gs s (suc row) count → Nexts (ahead-in t) n 0 next → c ≡ getD next row 0 → Listing t n u gs s c count
+list-more t n heap fs u gs next s row c count kept L h l W X e =
+    let z = L .here h in
+    let m : length gs ≡ n = l ∙ L .size in
+    let N : Next (ahead-in t) n s (suc row) c = (rw (z, ← e) at (X row (omega arith) h)) in
+    record { size = m; here = N .here; swept = next-row t u gs s (suc row) c count W (rw m N) }
+
+pub list-end : (t : List ℕ) (n : ℕ) (heap fs : List ℕ) (s row count : ℕ) → Listing t n heap fs s row count → n ≤ row →
+    Sweeping t heap fs (suc s) 0 count
+list-end t n heap fs s row count L h = next-list t heap fs s row count (L .swept) (omega (arith, L .size))

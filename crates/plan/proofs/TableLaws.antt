@@ -1,15 +1,15 @@
 -- A sound table's rows by their places. Assumes nothing.
 use mathlib.Core.Path.{_≡_, refl, sym, ap, _∙_}
 use mathlib.Core.List.{List}
-use Prim.Native.Nat.{ℕ, zero, suc, _+_, _*_, _-_, _/_, _≤_, _<_}
+use Prim.Native.Nat.{ℕ, zero, suc, _+_, _≤_, _<_}
 use native.Mathlib.Omega.{arith}
 use lib.ListN.{length, getD, drop}
-use Rattle.rules.specs.Rows.{Row, Round, row, round}
-use Rattle.rules.specs.Table.{rows-in, rows-of, round-in, table-refusal}
+use Rattle.rules.specs.Rows.{Row, row, round}
+use Rattle.rules.specs.Table.{rows-in, round-in, table-refusal}
 use Rattle.rules.specs.Conditions.{slot-in, used-in, row-at, due-in, weight-in}
 use Rattle.theory.specs.Clauses.{rows-count, length-long, accepted-length}
 use Rattle.theory.specs.Soundness.{row-in, row-there, row-next, accepted-sound}
-use Rattle.plan.specs.Keys.{Row-known, Rows-known}
+use Rattle.plan.specs.Keys.{Rows-known}
 use Rattle.plan.specs.Sweep.{Flagged}
 
 rows-there : (t : List ℕ) (z : Row) (k i j : ℕ) → j < k → getD (rows-in k (drop (row-at i) t)) j z ≡ row-in t (i + j)

@@ -1,10 +1,11 @@
 -- An exported call's promise from that of the call behind it, for arguments that are equal numbers. Assumes nothing.
 use mathlib.Core.Path.{_≡_, ap, _∙_}
 use mathlib.Core.List.{List}
-use Prim.Native.Nat.{ℕ}
-use Rattle.rules.specs.Calls.{Reply, opening, taking}
+use Prim.Native.Nat.{ℕ, _+_, _*_}
+use native.Mathlib.Omega.{arith}
+use Rattle.rules.specs.Calls.{Reply, opening, taking, sending, marking, frame, kept-blank, answer, substitute-answer}
 use Rattle.calls.specs.Says.{Says}
-use Rattle.station.specs.Packing.{pack, Exports}
+use Rattle.station.specs.Packing.{pack-out, pack, Exports}
 
 pub opening-exported : (l m n : ℕ) (a : Reply) (t z : List ℕ) → m ≡ l → n ≡ pack a → Says (opening m) a t z → Exports (opening l) n t z
 opening-exported l m n a t z e f s = let x : Exports (opening m) n t z = (f ∙ ap pack (s .0), s .1) in rw e at x
@@ -12,3 +13,21 @@ opening-exported l m n a t z e f s = let x : Exports (opening m) n t z = (f ∙ 
 pub taking-exported : (d w d′ w′ n : ℕ) (a : Reply) (t z : List ℕ) → d′ ≡ d → w′ ≡ w → n ≡ pack a → Says (taking d′ w′) a t z → Exports (taking d w) n t z
 taking-exported d w d′ w′ n a t z e g f s =
     let x : Exports (taking d′ w′) n t z = (f ∙ ap pack (s .0), s .1) in rw (e, g) at x
+
+pub sending-exported : (n : ℕ) (a : Reply) (t z : List ℕ) → n ≡ pack a → Says sending a t z → Exports sending n t z
+sending-exported n a t z f s = (f ∙ ap pack (s .0), s .1)
+
+pub marking-exported : (s u n : ℕ) (a : Reply) (t : List ℕ) → u ≡ s → n ≡ pack a → a ≡ answer (marking u) t → n ≡ pack (answer (marking s) t)
+marking-exported s u n a t e f g = f ∙ ap pack (g ∙ ap (λ (v : ℕ). answer (marking v) t) e)
+
+pub substitute-exported : (k u n : ℕ) (a : Reply) (t : List ℕ) → u ≡ k → n ≡ pack a → a ≡ substitute-answer u t → n ≡ pack (substitute-answer k t)
+substitute-exported k u n a t e f g = f ∙ ap pack (g ∙ ap (λ (v : ℕ). substitute-answer v t) e)
+
+-- a ticket with what went out
+pub frame-packed : (k n : ℕ) → n ≡ 256 * k + 1 * 4294967296 → n ≡ pack-out (frame k)
+unfolding pack-out
+frame-packed k n e = omega (arith, e)
+
+pub blank-packed : (k n : ℕ) → n ≡ 256 * k + 2 * 4294967296 → n ≡ pack-out (kept-blank k)
+unfolding pack-out
+blank-packed k n e = omega (arith, e)

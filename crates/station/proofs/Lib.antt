@@ -1,3 +1,4 @@
 pub mod Exported
 pub mod Unpack
 pub mod Fitting
+pub mod Amounts

@@ -30,6 +30,15 @@ pack (step (leap o)) = pack-out o + leap-place
 pack (amount n) = value-place * n
 pack (blank-due s) = out-place * s
 
+-- an amount that fits behind the refusal's bits
+abbrev pub Small : Reply → Type 0
+Small (refused n) = Unit {0}
+Small done = Unit {0}
+Small (ticket k) = Unit {0}
+Small (step s) = Unit {0}
+Small (amount n) = n ≤ 17179869184
+Small (blank-due s) = Unit {0}
+
 -- what an exported call promises: the packed reply whole, and every byte of the table
 abbrev pub Exports : Call → (packed : ℕ) → (entry exit : List ℕ) → Type 0
 Exports c n t z = (n ≡ pack (answer c t)) × (z ≡ left c t)

@@ -1,11 +1,21 @@
 // The C boundary: each call over numbers and the lent table, its reply packed into one number by docs/REPLIES.md.
-ghost use Rattle.rules.specs.Calls.{opening, taking};
-ghost use Rattle.station.specs.Packing.{Exports};
+ghost use mathlib.Core.Path.{_≡_};
+ghost use Rattle.rules.specs.Calls.{opening, taking, sending, marking, totalling, answer, substitute-answer};
+ghost use Rattle.station.specs.Packing.{pack, Exports};
+use crate::packing::pack_marked;
 use crate::packing::pack_opened;
+use crate::packing::pack_sent;
+use crate::packing::pack_substituted;
 use crate::packing::pack_taken;
+use crate::packing::pack_totalled;
+use calls::marking::mark_of;
 use calls::opening::open_round;
+use calls::sending::send_slot;
+use calls::substituting::substitute_of;
 use calls::taking::take_frame;
+use calls::totalling::plan_total;
 use round::Slot;
+use round::Ticket;
 use round::Weight;
 
 mod packing; // packing.rt: replies as numbers
@@ -22,4 +32,33 @@ pub extern "C" fn lirvedd_take(due: u32, weight: u32, table: &mut [u8]) -> u64
     ensures { λ r. ⌜ Exports (taking due weight) r (now (table .entry)) (now (table .exit)) ⌝ }
 {
     pack_taken(take_frame(Slot(due), Weight(weight), table))
+}
+
+#[no_mangle]
+pub extern "C" fn lirvedd_send(table: &mut [u8]) -> u64
+    ensures { λ r. ⌜ Exports sending r (now (table .entry)) (now (table .exit)) ⌝ }
+{
+    pack_sent(send_slot(table))
+}
+
+// The calls below only read the table.
+#[no_mangle]
+pub extern "C" fn lirvedd_mark(slot: u32, table: &[u8]) -> u64
+    ensures { λ r. ⌜ r ≡ pack (answer (marking slot) (now (table .entry))) ⌝ }
+{
+    pack_marked(mark_of(Slot(slot), table))
+}
+
+#[no_mangle]
+pub extern "C" fn lirvedd_total(table: &[u8]) -> u64
+    ensures { λ r. ⌜ r ≡ pack (answer totalling (now (table .entry))) ⌝ }
+{
+    pack_totalled(plan_total(table))
+}
+
+#[no_mangle]
+pub extern "C" fn lirvedd_substitute(ticket: u32, table: &[u8]) -> u64
+    ensures { λ r. ⌜ r ≡ pack (substitute-answer ticket (now (table .entry))) ⌝ }
+{
+    pack_substituted(substitute_of(Ticket(ticket), table))
 }

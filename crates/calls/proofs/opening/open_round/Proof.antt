@@ -37,7 +37,7 @@ new-requires : tie.Need-new-requires
 new-requires c κs = search needs
 
 clear-requires : tie.Need-clear-requires
-clear-requires c κs = head-fits (c .before .before .before .before .before .before .before .before .before .args .last .0) (c .before .before .before .before .before .before .before .before .before .args .table .now) (good (c .before .before .before .before .before .before))
+clear-requires c κs = omega (arith, head-fits (c .before .before .before .before .before .before .before .before .before .args .last .0) (c .before .before .before .before .before .before .before .before .before .args .table .now) (good (c .before .before .before .before .before .before)))
 
 write-head-requires : tie.Need-write-head-requires
 write-head-requires c κs = (

@@ -3,7 +3,7 @@ use borrow.Author.Needs.{needs}
 use mathlib.Core.Path.{subst}
 use Rattle.rules.specs.Calls.{taking}
 use Rattle.round.specs.Judge.{Judge-says}
-use Rattle.calls.proofs.Outcomes.{says-refused, taking-table}
+use Rattle.calls.proofs.Outcomes.{says-refused, judges, by-table}
 use Rattle.calls.proofs.taking.take_frame.Statement.{statement}
 use Rattle.calls.proofs.taking.take_frame.Tie as tie
 
@@ -27,7 +27,7 @@ returns c =
     let s = c .before .before .before .before .before .before in
     let h = subst (Judge-says (s .args .table .now)) (c .before .n .given .1) (c .before .before .before .judge .ensures) in
     says-refused (taking (s .args .due .0) (s .args .weight .0)) (s .args .table .now) _
-    (taking-table (s .args .due .0) (s .args .weight .0) (s .args .table .now) _ (h .0) (h .1)) (h .1)
+    (by-table (taking (s .args .due .0) (s .args .weight .0)) (s .args .table .now) _ (judges (s .args .due .0) (s .args .weight .0) 0 .0) (h .0) (h .1)) (h .1)
 
 same-length-2 : tie.Need-same-length-2
 same-length-2 c = search needs

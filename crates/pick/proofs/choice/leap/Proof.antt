@@ -1,18 +1,14 @@
+-- `pick::choice::leap` meets its contract: by the tests. Assumes nothing.
 use borrow.Author.Tests.{le-leb, lt-leb, eq-eqb, ne-eqb}
 use Rattle.pick.proofs.choice.leap.Statement.{statement}
 use Rattle.pick.proofs.choice.leap.Tie as tie
-use Rattle.pick.proofs.choice.leap.Reads as reads
-use Rattle.pick.proofs.choice.leap.Lts as lts
 
--- src/choice.rt:52:9
 returns : tie.Need-returns
 returns c = simp (le-leb _ _ (c .if1 .taken))
 
--- src/choice.rt:55:9
 returns-2 : tie.Need-returns-2
 returns-2 c = simp (lt-leb _ _ (c .before .before .if1 .left), eq-eqb _ _ (c .if2 .taken))
 
--- src/choice.rt:48:1
 returns-3 : tie.Need-returns-3
 returns-3 c = simp (lt-leb _ _ (c .before .before .if1 .left), ne-eqb _ _ (c .if2 .left))
 

@@ -1,50 +1,45 @@
-use Rattle.plan.proofs.TableLaws.{few-rows, rows-known, flagged}
-use Rattle.plan.proofs.PlanLaws.{cleared, chosen-kept}
-use Rattle.plan.proofs.ListLaws.{firsts-of, nexts-of}
+-- `choose_rows`: the sweep's certificate is one for the plan. Assumes nothing.
 use mathlib.Core.Path.{_≡_, refl, _∙_}
 use native.Mathlib.Omega.{arith}
 use lib.ListN.{length}
 use borrow.Author.Needs.{needs}
+use Rattle.plan.proofs.ListLaws.{lists-of}
+use Rattle.plan.proofs.PlanLaws.{cleared, chosen-kept}
+use Rattle.plan.proofs.TableLaws.{few-rows, rows-known, flagged}
 use Rattle.plan.proofs.choose.choose_rows.Statement.{statement}
 use Rattle.plan.proofs.choose.choose_rows.Tie as tie
-use Rattle.plan.proofs.choose.choose_rows.Reads as reads
-use Rattle.plan.proofs.choose.choose_rows.Lts as lts
-use Rattle.plan.proofs.lists.link.Reads as link-reads
-use Rattle.plan.proofs.sweep.sweep.Reads as sweep-reads
-use Rattle.round.proofs.zeros.clear.Reads as clear-reads
 
--- src/choose.rt:19:5
 link-requires : tie.Need-link-requires
-link-requires c κs = (omega (arith, few-rows _ (c .before .before .before .before .pre .0), c .before .before .before .before .pre .1), λ i h. rows-known _ (c .before .before .before .before .pre .0) i (omega (arith, c .before .before .before .before .pre .1)), c .before .before .before .before .pre .1, c .before .before .before .before .pre .2, refl, refl)
+link-requires c κs =
+    let p = c .before .before .before .before .pre in
+    (λ i h. rows-known _ (p .0) i (omega (arith, p .1)), omega (arith, few-rows _ (p .0), p .1), p .1, p .2, refl, refl)
 
--- src/choose.rt:22:5
 clear-requires : tie.Need-clear-requires
 clear-requires c κs = search needs
 
--- src/choose.rt:23:5
 sweep-requires : tie.Need-sweep-requires
 sweep-requires c κs =
-    let p = c .before .before .before .before .before .before .before .before .before .before .before .before .before .pre in
-    let z = cleared (c .before .before .before .before .before .before .before .before .before .before .before .before .before .args .flags .now) (c .before .before .before .before .before .before .clear .last .0) (c .before .before .before .before .before .before .clear .ensures) in
-    let l : length (c .before .before .before .before .before .before .clear .last .0) ≡ c .before .before .before .before .before .before .before .before .before .before .before .before .before .args .used = z .0 ∙ p .3 in
-    (
-      flagged _ (p .0) (c .before .before .before .before .before .before .clear .last .0) (l ∙ p .1),
-      firsts-of _ _ _ (c .before .before .before .before .before .before .before .before .link .last .1 .0) l (c .before .before .before .before .before .before .before .before .link .ensures .0),
-      nexts-of _ _ _ (c .before .before .before .before .before .before .before .before .link .last .1 .1 .0) l (c .before .before .before .before .before .before .before .before .link .ensures .1),
+    let s = c .before .before .before .before .before .before .before .before .before .before .before .before .before in
+    let l = c .before .before .before .before .before .before .before .before .link in
+    let z = c .before .before .before .before .before .before .clear in
+    let w = cleared (s .args .flags .now) (z .last .0) (z .ensures) in
+    let n : length (z .last .0) ≡ s .args .used = w .0 ∙ s .pre .3 in (
+      flagged _ (s .pre .0) (z .last .0) (n ∙ s .pre .1),
+      lists-of _ _ _ (l .last .1 .0) (l .last .1 .1 .0) n (l .ensures),
       refl,
-      z .1,
+      w .1,
     )
 
--- src/choose.rt:13:1
 same-length : tie.Need-same-length
 same-length c = search needs
 
--- src/choose.rt:13:1
 returns : tie.Need-returns
 returns c =
-    let p = c .before .before .before .before .before .before .before .before .before .before .before .before .before .before .before .before .pre in
-    let z = cleared (c .before .before .before .before .before .before .before .before .before .before .before .before .before .before .before .before .args .flags .now) (c .before .before .before .before .before .before .before .before .before .clear .last .0) (c .before .before .before .before .before .before .before .before .before .clear .ensures) in
-    chosen-kept _ (p .0) (c .before .before .sweep .last .1 .1 .0) (omega (arith, z .0, p .3, p .1)) (c .before .before .sweep .ensures)
+    let s = c .before .before .before .before .before .before .before .before .before .before .before .before .before .before .before .before in
+    let z = c .before .before .before .before .before .before .before .before .before .clear in
+    let w = cleared (s .args .flags .now) (z .last .0) (z .ensures) in
+    let r = c .before .before .sweep in
+    chosen-kept _ (s .pre .0) (r .last .1 .1 .0) (omega (arith, w .0, s .pre .3, s .pre .1)) (r .ensures)
 
 pub choose-rows-spec : {M : Type 1} → statement M
 choose-rows-spec =

@@ -1,17 +1,13 @@
-use Rattle.plan.proofs.HeapedLaws.{none-swept, next-ahead, all-swept}
-use Rattle.plan.proofs.ListLaws.{nexts-of, start-of}
-use Rattle.plan.specs.Sweep.{Sweeping}
+-- `sweep`: the loop has every list before this one done. Assumes nothing.
 use mathlib.Core.Path.{_≡_, refl}
 use Prim.Native.Nat.{suc, _-_, _≤_}
-use native.Mathlib.Omega.{arith}
 use lib.ListN.{length}
 use borrow.Author.Needs.{needs}
+use Rattle.plan.specs.Sweep.{Sweeping}
+use Rattle.plan.proofs.ListLaws.{nexts-of, start-of}
+use Rattle.plan.proofs.SweepLaws.{none-swept, next-ahead, all-swept}
 use Rattle.plan.proofs.sweep.sweep.Statement.{statement}
 use Rattle.plan.proofs.sweep.sweep.Tie as tie
-use Rattle.plan.proofs.sweep.sweep.Reads as reads
-use Rattle.plan.proofs.sweep.sweep.Lts as lts
-use Rattle.plan.proofs.sweep.admit_list.Reads as admit-list-reads
-use Rattle.plan.proofs.sweep.wide.Reads as wide-reads
 
 abbrev Inv-loop : tie.InvT-loop
 Inv-loop table heap₀ flags₀ first next ahead₀ count₀ heap flags ahead count = (length flags ≡ length flags₀) × (ahead ≤ suc (length flags₀)) × Sweeping table heap flags ahead 0 count
@@ -19,43 +15,39 @@ Inv-loop table heap₀ flags₀ first next ahead₀ count₀ heap flags ahead co
 abbrev μ-loop : tie.MeasureT-loop
 μ-loop table heap₀ flags₀ first next ahead₀ count₀ heap flags ahead count = suc (length flags₀) - ahead
 
--- src/sweep.rt:62:5
 loop-holds : tie.Need-loop-holds Inv-loop μ-loop
-loop-holds c = (refl, search needs, none-swept _ _ _ (c .before .before .pre .0) (c .before .before .pre .3) (c .before .before .pre .4))
+loop-holds c = (refl, search needs, none-swept _ _ _ (c .before .before .pre .0) (c .before .before .pre .2) (c .before .before .pre .3))
 
--- src/sweep.rt:63:59
 mul-wide : tie.Need-mul-wide Inv-loop μ-loop
 mul-wide c = search needs
 
--- src/sweep.rt:63:59
 element-copy-out-wide : tie.Need-element-copy-out-wide Inv-loop μ-loop
 element-copy-out-wide c = search needs
 
--- src/sweep.rt:63:54
 wide-requires : tie.Need-wide-requires Inv-loop μ-loop
 wide-requires c κs = search needs
 
--- src/sweep.rt:63:9
 admit-list-requires : tie.Need-admit-list-requires Inv-loop μ-loop
-admit-list-requires c κs = (nexts-of _ _ _ (c .before .before .before .before .before .before .before .before .args .next .now) (c .before .before .before .before .before .loop .inv .0) (c .before .before .before .before .before .before .before .before .pre .2), start-of _ _ _ (c .before .before .before .before .before .before .before .before .args .first .now) _ _ (c .before .before .before .before .before .loop .inv .0) (c .before .before .before .before .before .before .before .before .pre .1) (search needs) (c .wide .ensures), c .before .before .before .before .before .loop .inv .2)
+admit-list-requires c κs =
+    let s = c .before .before .before .before .before .before .before .before in
+    let l = c .before .before .before .before .before .loop .inv in (
+      nexts-of _ _ _ (s .args .next .now) (l .0) (s .pre .1 .1),
+      start-of _ _ _ (s .args .first .now) _ _ (l .0) (s .pre .1 .0) (search needs) (c .wide .ensures),
+      l .2,
+    )
 
--- src/sweep.rt:64:9
 add-ahead : tie.Need-add-ahead Inv-loop μ-loop
 add-ahead c = search needs
 
--- src/sweep.rt:62:5
 loop-less : tie.Need-loop-less Inv-loop μ-loop
 loop-less c = search needs
 
--- src/sweep.rt:62:5
 loop-again : tie.Need-loop-again Inv-loop μ-loop
 loop-again c = (search needs, search needs, next-ahead _ _ _ _ _ (c .before .before .admit-list .ensures))
 
--- src/sweep.rt:56:1
 same-length : tie.Need-same-length Inv-loop μ-loop
 same-length c = search needs
 
--- src/sweep.rt:56:1
 returns : tie.Need-returns Inv-loop μ-loop
 returns c = all-swept _ _ _ _ _ (c .before .loop .inv .2) (search needs)
 

@@ -1,0 +1,30 @@
+/* The calls to measure, of whichever archive this is linked with. */
+#ifndef CALLS_H
+#define CALLS_H
+
+#include "tables.h"
+
+/* SOUND is a taking of weight 0: refusal 6, given once the table was found sound. */
+enum call { SOUND, OPEN, TAKE, SEND, MARK, TOTAL, SUBSTITUTE, CALLS };
+
+extern const char *const call_names[CALLS];
+
+/* Whether the archive has it. */
+int has_call(enum call call);
+
+/* Whether its work depends on due slots and weights. */
+int has_shapes(enum call call);
+
+/* What a call works on. */
+struct input {
+    struct table table;
+    uint32_t argument; /* the slot of a mark, the ticket of a substitute */
+};
+
+/* Tables drawn for each cell, and the number of the one drawn here. */
+#define DRAWS 4
+void draw_input(struct input *input, enum call call, enum shape shape, uint32_t rows, uint32_t slots, uint32_t number);
+
+uint64_t do_call(enum call call, struct input *input);
+
+#endif

@@ -1,0 +1,48 @@
+#include "cells.h"
+
+#include <stdio.h>
+
+#define LEAST_CHAIN 4
+
+static const uint32_t rows_tried[] = {1, 16, 128, 1024};
+static const uint32_t slots_tried[] = {1024, 4096};
+
+static void shapes_of(struct cell cell, void (*measure)(const struct cell *cell))
+{
+    if (!has_shapes(cell.call)) {
+        cell.shape = HALFOUT;
+        measure(&cell);
+        return;
+    }
+    for (int shape = 0; shape < SHAPES; shape++) {
+        cell.shape = (enum shape)shape;
+        if (cell.shape != CHAIN || cell.rows >= LEAST_CHAIN) {
+            measure(&cell);
+        }
+    }
+}
+
+void for_each_cell(int quick, void (*measure)(const struct cell *cell))
+{
+    for (int call = 0; call < CALLS; call++) {
+        for (int at = 0; at < 8 && has_call((enum call)call); at++) {
+            const uint32_t rows = rows_tried[at / 2], slots = slots_tried[at % 2];
+            if (!quick || (slots == 1024 && (rows == 16 || rows == 1024))) {
+                shapes_of((struct cell){(enum call)call, HALFOUT, rows, slots}, measure);
+            }
+        }
+    }
+}
+
+const char *cell_name(const struct cell *cell)
+{
+    static char name[80];
+    const char *shape = has_shapes(cell->call) ? shape_names[cell->shape] : "-";
+    snprintf(name, sizeof name, "%s %s %u %u", call_names[cell->call], shape, cell->rows, cell->slots);
+    return name;
+}
+
+void draw_cell(struct input *input, const struct cell *cell, uint32_t number)
+{
+    draw_input(input, cell->call, cell->shape, cell->rows, cell->slots, number);
+}

@@ -1,0 +1,29 @@
+/* Tables to measure on, from a seed. */
+#ifndef TABLES_H
+#define TABLES_H
+
+#include <stddef.h>
+#include <stdint.h>
+
+#define HEAD_SIZE 16
+#define ROW_SIZE 24
+#define MOST_ROWS 1024
+#define MOST_SIZE (HEAD_SIZE + ROW_SIZE * MOST_ROWS)
+
+/* How due slots and weights are drawn; README.md says it in words. */
+enum shape { INPLAN, HALFOUT, ASC2X, FEWDUE, EQUAL, SPREAD, CHAIN, SHAPES };
+
+extern const char *const shape_names[SHAPES];
+
+struct table {
+    size_t length;
+    uint8_t bytes[MOST_SIZE];
+};
+
+/* A sound table of so many rows at slot 0 of so many slots, all rows in use but the `unused` last. */
+void draw_table(struct table *table, enum shape shape, uint32_t rows, uint32_t unused, uint32_t slots, uint64_t seed);
+
+/* The ticket of the heaviest row, which is in every plan. */
+uint32_t heaviest_ticket(const struct table *table);
+
+#endif

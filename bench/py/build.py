@@ -1,0 +1,65 @@
+"""Builds the two archives and the measuring program over each. All that is built goes below target/bench."""
+import os
+import shutil
+import subprocess
+from pathlib import Path
+
+BENCH = Path(__file__).resolve().parent.parent
+ROOT = BENCH.parent
+TARGET = ROOT / "target" / "bench"
+LIBRARY = ROOT / "target" / "staticlib" / "libstation.a"
+CALLS = {"open", "take", "send", "mark", "total", "substitute"}
+
+
+class Failed(Exception):
+    """Something could not be built or run."""
+
+
+def said(*words, **options):
+    """What a command prints; a failure tells all that it said."""
+    words = [str(word) for word in words]
+    try:
+        ended = subprocess.run(words, capture_output=True, text=True, check=False, **options)
+    except OSError as error:
+        raise Failed(f"{words[0]}: {error.strerror}") from error
+    if ended.returncode != 0:
+        raise Failed(f"{' '.join(words)}\n{ended.stdout}{ended.stderr}")
+    return ended.stdout
+
+
+def library(instead=None):
+    """The library's archive, built by rt where it is on the path, or another one in its place."""
+    if instead is None and shutil.which("rt"):
+        said("rt", "staticlib", "station", cwd=ROOT)
+    archive = instead or LIBRARY
+    if not archive.is_file():
+        raise Failed(f"no archive {archive}")
+    return archive
+
+
+def tuned():
+    """The archive of bench/rust."""
+    target = TARGET / "cargo"
+    manifest = BENCH / "rust" / "Cargo.toml"
+    flags = {"CARGO_TARGET_DIR": str(target), "RUSTFLAGS": "-C target-cpu=x86-64"}
+    said("cargo", "build", "--offline", "--release", "--manifest-path", manifest, env=os.environ | flags)
+    return target / "release" / "libtuned.a"
+
+
+def calls_of(archive):
+    """The calls whose symbols the archive defines. (nm would hand objects with LLVM's bitcode to a plugin.)"""
+    listed = said("readelf", "--symbols", "--wide", archive)
+    parts = (line.split() for line in listed.splitlines() if " lirvedd_" in line)
+    symbols = {words[7] for words in parts if words[4] == "GLOBAL" and words[6] != "UND"}
+    return {call for call in CALLS if f"lirvedd_{call}" in symbols}
+
+
+def program(name, archive, calls):
+    """The measuring program linked with an archive. Everything is bound at its start, so that no call pays for that."""
+    TARGET.mkdir(parents=True, exist_ok=True)
+    made = TARGET / f"measure_{name}"
+    sources = sorted((BENCH / "c").glob("*.c"))
+    has = [f"-DHAS_{call.upper()}" for call in sorted(calls)]
+    strict = ["-std=gnu11", "-O2", "-Wall", "-Wextra", "-Werror"]
+    said("gcc", *strict, *has, *sources, archive, "-Wl,-z,now", "-lgcc_s", "-o", made)
+    return made

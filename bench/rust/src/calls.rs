@@ -1,0 +1,52 @@
+//! Opening and taking. Every call returns its packed reply.
+
+use crate::sound::{judge, LENGTH};
+use crate::table::{is_length, rows, rows_mut, set, MOST_LAST, MOST_WEIGHT, TICKET_LIMIT};
+
+pub use crate::questions::{mark, total};
+pub use crate::send::send;
+pub use crate::substitute::substitute;
+
+const LAST_TOO_LATE: u64 = 4;
+const BAD_WEIGHT: u64 = 6;
+pub(crate) const BAD_SLOT: u64 = 7;
+const NO_TICKET_LEFT: u64 = 8;
+const TABLE_FULL: u64 = 9;
+
+pub fn open(last: u32, table: &mut [u8]) -> u64 {
+    if !is_length(table.len()) {
+        return LENGTH;
+    }
+    if last > MOST_LAST {
+        return LAST_TOO_LATE;
+    }
+    table.fill(0);
+    table[2..4].copy_from_slice(&(last as u16).to_le_bytes());
+    table[4] = 1;
+    0
+}
+
+pub fn take(due: u32, weight: u32, table: &mut [u8]) -> u64 {
+    let head = match judge(table, |_, _| ()) {
+        Ok(head) => head,
+        Err(refusal) => return refusal,
+    };
+    if weight.wrapping_sub(1) >= MOST_WEIGHT {
+        return BAD_WEIGHT;
+    }
+    if due < head.slot || due > head.last {
+        return BAD_SLOT;
+    }
+    if head.next == TICKET_LIMIT {
+        return NO_TICKET_LEFT;
+    }
+    if head.used == rows(table).len() {
+        return TABLE_FULL;
+    }
+    let row = &mut rows_mut(table)[head.used];
+    row[0..4].copy_from_slice(&head.next.to_le_bytes());
+    set(row, due, weight);
+    table[4..8].copy_from_slice(&(head.next + 1).to_le_bytes());
+    table[8..10].copy_from_slice(&(head.used as u16 + 1).to_le_bytes());
+    u64::from(head.next) << 8
+}

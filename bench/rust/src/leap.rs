@@ -1,0 +1,73 @@
+//! A leap's changes beside p's leaving. Marks are those before the slot.
+
+use crate::plan::{ahead_in, place_in, weight_in, Plan};
+use crate::segments::{Pick, Segments};
+use crate::table::{set, Row, KIND};
+
+/// Whether p's row stays, as a kept blank.
+pub fn leap<const N: usize>(
+    rows: &mut [Row],
+    slot: u32,
+    plan: &Plan<N>,
+    segments: &mut Segments<N>,
+    pick: &Pick,
+) -> bool {
+    let own = pick.segment;
+    if pick.substitute == 0 {
+        let mark = marks(segments, own);
+        let row = &mut rows[usize::from(plan.index[place_in(pick.key)])];
+        set(row, slot + u32::from(segments.end[own + 1]) + 1, mark);
+        row[KIND] = 1;
+        return true;
+    }
+    let due = ahead_in(pick.substitute);
+    let later = segments.end[..=own]
+        .iter()
+        .rposition(|end| usize::from(*end) >= due);
+    let last = later.unwrap_or(0);
+    let mark = marks(segments, last);
+    shift(rows, slot, plan, segments, last, own);
+    let row = &mut rows[usize::from(plan.index[place_in(pick.substitute)])];
+    set(row, slot + due as u32, mark);
+    false
+}
+
+/// Turns each segment's lightest weight into its mark, from the earliest to this one, whose mark is returned.
+#[inline(always)]
+fn marks<const N: usize>(segments: &mut Segments<N>, last: usize) -> u32 {
+    let mut mark = u32::MAX;
+    for lightest in segments.lightest[last..segments.len].iter_mut().rev() {
+        mark = mark.min(*lightest);
+        *lightest = mark;
+    }
+    mark
+}
+
+/// The members that take the place of the one before them are those heavier than all of later segments: each is due
+/// by the end of the segment of the next such one, or of p's.
+#[inline(always)]
+fn shift<const N: usize>(
+    rows: &mut [Row],
+    slot: u32,
+    plan: &Plan<N>,
+    segments: &Segments<N>,
+    last: usize,
+    own: usize,
+) {
+    let mut moved = 0;
+    for at in last..=own {
+        let key = plan.keys[usize::from(segments.heaviest[at]) % N];
+        if key > moved || at == own {
+            if moved != 0 {
+                let row = &mut rows[usize::from(plan.index[place_in(moved)])];
+                let weight = weight_in(moved) as u32;
+                set(
+                    row,
+                    slot + u32::from(segments.end[at]),
+                    weight.max(segments.lightest[at]),
+                );
+            }
+            moved = key;
+        }
+    }
+}

@@ -1,0 +1,117 @@
+//! Sending a slot.
+
+use crate::close::close_up;
+use crate::count::{Counts, Load};
+use crate::easy;
+use crate::leap::leap;
+use crate::plan::{place_in, Plan};
+use crate::segments::{score, Segments};
+use crate::sound::judge;
+use crate::table::{
+    due, rows_mut, ticket, weight, Head, Row, KIND, MIDDLE, MIDDLE_ROWS, MOST_ROWS, SMALL,
+    SMALL_ROWS,
+};
+
+/// The heaviest row met so far; among equals the first.
+#[derive(Clone, Copy)]
+pub struct Heaviest {
+    pub weight: u32,
+    pub due: u32,
+    pub index: usize,
+}
+
+impl Heaviest {
+    pub const NONE: Heaviest = Heaviest {
+        weight: 0,
+        due: 0,
+        index: 0,
+    };
+
+    #[inline(always)]
+    pub fn see(&mut self, row: &Row, index: usize) {
+        let (weight, due) = (weight(row), due(row));
+        if weight >= self.weight && (weight > self.weight || due < self.due) {
+            *self = Heaviest { weight, due, index };
+        }
+    }
+}
+
+/// What a sending does beside the changes of a leap.
+pub struct Step {
+    pub reply: u64,
+    pub index: usize,
+    /// Whether the row sent leaves; otherwise it stays as a kept blank.
+    pub leaves: bool,
+}
+
+impl Step {
+    #[inline(always)]
+    pub fn of(rows: &[Row], index: usize, leap: bool) -> Step {
+        let row = &rows[index];
+        let out = 1 + u64::from(row[KIND]) + if leap { 4 } else { 0 };
+        Step {
+            reply: out << 32 | u64::from(ticket(row)) << 8,
+            index,
+            leaves: true,
+        }
+    }
+}
+
+pub fn send(table: &mut [u8]) -> u64 {
+    if table.len() <= SMALL {
+        send_in::<SMALL_ROWS>(table)
+    } else if table.len() <= MIDDLE {
+        send_in::<MIDDLE_ROWS>(table)
+    } else {
+        send_in::<MOST_ROWS>(table)
+    }
+}
+
+#[inline(never)]
+fn send_in<const N: usize>(table: &mut [u8]) -> u64 {
+    let mut counts = Counts::<N>::none();
+    let head = match judge(table, |ahead, _| counts.add(ahead)) {
+        Ok(head) => head,
+        Err(refusal) => return refusal,
+    };
+    if head.used == 0 {
+        next_slot(table, head, 0);
+        return 0;
+    }
+    let due_now = counts.at(0);
+    let load = counts.load(head.used);
+    let rows = rows_mut(table);
+    let used = &mut rows[..head.used];
+    let step = match load.left_out {
+        0 => easy::step(used, head.slot, &counts, load.busy),
+        _ => crowded(used, head.slot, &mut counts, &load),
+    };
+    let kept = close_up(rows, head, due_now, step.leaves.then_some(step.index));
+    next_slot(table, head, kept);
+    step.reply
+}
+
+fn next_slot(table: &mut [u8], head: Head, used: usize) {
+    table[0..2].copy_from_slice(&(head.slot as u16 + 1).to_le_bytes());
+    table[8..10].copy_from_slice(&(used as u16).to_le_bytes());
+}
+
+/// With rows left out.
+fn crowded<const N: usize>(
+    rows: &mut [Row],
+    slot: u32,
+    counts: &mut Counts<N>,
+    load: &Load,
+) -> Step {
+    let mut late = Heaviest::NONE;
+    let plan = Plan::of(rows, slot, counts, load, |row, index| late.see(row, index));
+    let (mut segments, pick) = Segments::of(&plan, load.busy);
+    if score(u64::from(late.weight), 0) > pick.score {
+        return Step::of(rows, late.index, true);
+    }
+    let is_leap = pick.segment + 1 < segments.len;
+    let index = usize::from(plan.index[place_in(pick.key)]);
+    let mut step = Step::of(rows, index, is_leap);
+    step.leaves = !(is_leap && leap(rows, slot, &plan, &mut segments, &pick));
+    step
+}

@@ -1,0 +1,78 @@
+//! Refusals 2, 3 and 5: the table's length, its soundness, and a round that is over.
+
+use crate::table::{
+    is_length, rows, weight, word, Head, Row, MOST_LAST, MOST_WEIGHT, TICKET_LIMIT,
+};
+
+pub const LENGTH: u64 = 2;
+pub const NOT_SOUND: u64 = 3;
+pub const OVER: u64 = 5;
+
+/// The head of a table that these three let through. `each` sees every used row: how far ahead it is due, and its
+/// weight; on a table that is not sound these may be any numbers.
+#[inline(always)]
+pub fn judge(table: &[u8], each: impl FnMut(usize, u32)) -> Result<Head, u64> {
+    if !is_length(table.len()) {
+        return Err(LENGTH);
+    }
+    let rows = rows(table);
+    let Some(head) = head(table, rows.len()) else {
+        return Err(NOT_SOUND);
+    };
+    let (used, unused) = rows.split_at(head.used);
+    if !used_are_sound(used, head, each) || !are_zero(unused) {
+        return Err(NOT_SOUND);
+    }
+    if head.slot > head.last {
+        return Err(OVER);
+    }
+    Ok(head)
+}
+
+/// The head's second word is the rows in use and six zero bytes: one comparison judges all.
+#[inline(always)]
+fn head(table: &[u8], rows: usize) -> Option<Head> {
+    let first = word(table, 0);
+    let used = word(table, 8);
+    let head = Head {
+        slot: first as u32 & 0xFFFF,
+        last: first as u32 >> 16,
+        next: (first >> 32) as u32,
+        used: used as usize,
+    };
+    let next = head.next.wrapping_sub(1) < TICKET_LIMIT;
+    let sound = used <= rows as u64 && head.last <= MOST_LAST && head.slot <= head.last + 1 && next;
+    sound.then_some(head)
+}
+
+/// No branch but the loop's: what every row must have is counted, and bits that no row may have are gathered.
+#[inline(always)]
+fn used_are_sound(used: &[Row], head: Head, mut each: impl FnMut(usize, u32)) -> bool {
+    let slot = u64::from(head.slot) << 48;
+    let slots_left = u64::from(head.last + 1 - head.slot) << 48;
+    let (mut rising, mut timely) = (0, 0);
+    let (mut weights, mut seconds, mut thirds) = (0, 0, 0);
+    let mut previous = 0;
+    for row in used {
+        let first = word(row, 0);
+        rising += usize::from(previous < first as u32);
+        previous = first as u32;
+        // The due slot in the top two bytes, above the ticket.
+        let ahead = (first << 16).wrapping_sub(slot);
+        timely += usize::from(ahead < slots_left);
+        let weight = weight(row);
+        weights |= weight.wrapping_sub(1);
+        seconds |= word(row, 8);
+        thirds |= word(row, 16);
+        each((ahead >> 48) as usize, weight);
+    }
+    // The second word is the weight's upper half, the kind and five zero bytes.
+    let zeros = seconds >> 17 | thirds | u64::from(weights / MOST_WEIGHT);
+    zeros == 0 && rising == used.len() && timely == used.len() && previous < head.next
+}
+
+#[inline(always)]
+fn are_zero(unused: &[Row]) -> bool {
+    let gather = |all, row: &Row| all | word(row, 0) | word(row, 8) | word(row, 16);
+    unused.iter().fold(0, gather) == 0
+}

@@ -1,0 +1,57 @@
+-- `calls::substituting::substitute_flagged` meets its contract. Assumes nothing.
+use Rattle.marks.specs.Substitute.{Substitutes}
+use Rattle.tally.proofs.RowLaws.{known}
+use Rattle.rules.specs.Table.{round-in}
+use Prim.Native.Nat.{ℕ}
+use Rattle.calls.proofs.Standing.{flag-there, stands-outside, stands-row, stands-blank}
+use mathlib.Core.Path.{_≡_, sym, ap, subst, _∙_}
+use native.Mathlib.Omega.{arith}
+use borrow.Author.Needs.{needs}
+use Rattle.calls.proofs.substituting.substitute_flagged.Statement.{statement}
+use Rattle.calls.proofs.substituting.substitute_flagged.Tie as tie
+
+shared-slice-read-if1 : tie.Need-shared-slice-read-if1
+shared-slice-read-if1 c = flag-there (c .before .before .before .args .table .now) (c .before .before .before .args .round) (c .before .before .before .pre .0) (c .before .before .before .args .flags .now) (c .before .before .before .pre .2) (c .before .before .before .args .row) (c .before .before .before .pre .1)
+
+returns : tie.Need-returns
+returns c = stands-outside (c .before .before .before .before .args .table .now) (c .before .before .before .before .args .round) (c .before .before .before .before .pre .0) (c .before .before .before .before .args .flags .now) (c .before .before .before .before .pre .2) (c .before .before .before .before .args .row) (c .before .before .before .before .pre .1) (λ z. omega (arith, z))
+
+substitute-at-requires : tie.Need-substitute-at-requires
+substitute-at-requires c κs = search needs
+
+enum-known-j : tie.Need-enum-known-j
+enum-known-j c = search needs
+
+ticket-at-requires : tie.Need-ticket-at-requires
+ticket-at-requires c κs =
+    let s = c .before .before .before .before .before .before .before .before in
+    let h = subst (Substitutes (round-in (s .args .table .now)) (s .args .row)) (c .before .j .given .1) (c .before .before .before .substitute-at .ensures) in
+    (s .pre .0, omega (arith, h .0, known (s .args .table .now) (s .args .round) (s .pre .0) .used))
+
+enum-known-slot : tie.Need-enum-known-slot
+enum-known-slot c = search needs
+
+returns-2 : tie.Need-returns-2
+returns-2 c =
+    let s = c .before .before .before .before .before .before .before .before .before in
+    let h = subst (Substitutes (round-in (s .args .table .now)) (s .args .row)) (c .before .before .j .given .1) (c .before .before .before .before .substitute-at .ensures) in
+    stands-row (c .before .before .before .before .before .before .before .before .before .args .table .now) (c .before .before .before .before .before .before .before .before .before .args .round) (c .before .before .before .before .before .before .before .before .before .pre .0) (c .before .before .before .before .before .before .before .before .before .args .flags .now) (c .before .before .before .before .before .before .before .before .before .pre .2) (c .before .before .before .before .before .before .before .before .before .args .row) (c .before .before .before .before .before .before .before .before .before .pre .1) (omega arith) _ _ h (c .ticket-at .ensures)
+
+returns-3 : tie.Need-returns-3
+returns-3 c =
+    let s = c .before .before .before .before .before .before .before .before in
+    let h = subst (Substitutes (round-in (s .args .table .now)) (s .args .row)) (c .before .slot .given .1) (c .before .before .before .substitute-at .ensures) in
+    stands-blank (c .before .before .before .before .before .before .before .before .args .table .now) (c .before .before .before .before .before .before .before .before .args .round) (c .before .before .before .before .before .before .before .before .pre .0) (c .before .before .before .before .before .before .before .before .args .flags .now) (c .before .before .before .before .before .before .before .before .pre .2) (c .before .before .before .before .before .before .before .before .args .row) (c .before .before .before .before .before .before .before .before .pre .1) (omega arith) _ h
+
+pub substitute-flagged-spec : {M : Type 1} → statement M
+substitute-flagged-spec =
+    tie.close
+    (tie.spec
+    shared-slice-read-if1
+    returns
+    substitute-at-requires
+    enum-known-j
+    ticket-at-requires
+    enum-known-slot
+    returns-2
+    returns-3)

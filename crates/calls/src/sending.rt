@@ -1,0 +1,74 @@
+// Sending a slot: refusals 2, 3 and 5.
+ghost use mathlib.Core.Path.{_≡_};
+ghost use Rattle.rules.specs.Table.{table-refusal};
+ghost use Rattle.rules.specs.Calls.{sending};
+ghost use Rattle.round.specs.Head.{Head-of};
+ghost use Rattle.leap.specs.Send.{went-out, went-step};
+ghost use Rattle.calls.specs.Steps.{of-out, of-step, of-sent};
+ghost use Rattle.calls.specs.Says.{Says};
+use leap::send::Went;
+use round::Round;
+use round::Ticket;
+use round::sound::Judged;
+use round::sound::judge;
+use sender::send_sound;
+
+// What went out; a kept blank goes out as an empty slot.
+pub enum Out {
+    Silence,
+    Frame(Ticket),
+    KeptBlank(Ticket),
+}
+
+pub enum Step {
+    Ordinary(Out),
+    Leap(Out),
+}
+
+pub enum Sent {
+    Went(Step),
+    Refused(u32),
+}
+
+pub fn send_slot(table: &mut [u8]) -> Sent
+    ensures { λ r. ⌜ Says sending (of-sent r) (now (table .entry)) (now (table .exit)) ⌝ }
+{
+    match judge(table) {
+        Judged::Refused(n) => Sent::Refused(n),
+        Judged::Sound(round) => send_in(table, round),
+    }
+}
+
+// The same on a sound table.
+fn send_in(table: &mut [u8], round: Round) -> Sent
+    requires { ⌜ (table-refusal (now table) ≡ 0) × Head-of (now table) round ⌝ }
+    ensures { λ r. ⌜ Says sending (of-sent r) (now (table .entry)) (now (table .exit)) ⌝ }
+{
+    if round.last.0 < round.slot.0 {
+        return Sent::Refused(5);
+    }
+    Sent::Went(step_of(send_sound(table, round)))
+}
+
+fn step_of(went: Went) -> Step
+    ensures { λ r. ⌜ of-step r ≡ went-step went ⌝ }
+{
+    let out = out_of(went);
+    if went.leap {
+        return Step::Leap(out);
+    }
+    Step::Ordinary(out)
+}
+
+fn out_of(went: Went) -> Out
+    ensures { λ r. ⌜ of-out r ≡ went-out went ⌝ }
+{
+    let ticket = went.ticket;
+    if ticket.0 == 0 {
+        return Out::Silence;
+    }
+    if went.kind == 0 {
+        return Out::Frame(ticket);
+    }
+    Out::KeptBlank(ticket)
+}

@@ -1,0 +1,56 @@
+-- Bytes copied within a list to a place that is no later. Assumes nothing.
+use mathlib.Core.Path.{_≡_, sym, ap, ap₂, _∙_}
+use mathlib.Core.List.{List, _++_, append-assoc}
+use Prim.Native.Nat.{ℕ, suc, _+_, _-_, _≤_, _<_}
+use native.Mathlib.Omega.{arith}
+use lib.ListN.{length, getD, set, take, drop, length-drop}
+use lib.Seq.{take-add, drop-drop, paste, paste-zero, paste-suc, take-paste, drop-paste, getD-drop}
+
+-- one byte more
+copied-more : (t u : List ℕ) (a b j : ℕ) → a ≤ b → b + j < length t → u ≡ paste t a (drop b t) j →
+    set u (a + j) (getD t (b + j) 0) ≡ paste t a (drop b t) (suc j)
+copied-more t u a b j h k e =
+    ap₂ (λ (bs : List ℕ) (v : ℕ). set bs (a + j) v) e (sym (getD-drop b t j 0))
+    ∙ paste-suc t a (drop b t) j 0 (omega arith) (omega (arith, length-drop b t))
+
+-- EIGHT BYTES as the code stores them
+pub copied8 : (t : List ℕ) (a b : ℕ) → a ≤ b → b + 8 ≤ length t →
+    set (set (set (set (set (set (set (set t a (getD t b 0)) (a + 1) (getD t (b + 1) 0)) (a + 2) (getD t (b + 2) 0)) (a + 3) (getD t (b + 3) 0))
+    (a + 4) (getD t (b + 4) 0)) (a + 5) (getD t (b + 5) 0)) (a + 6) (getD t (b + 6) 0)) (a + 7) (getD t (b + 7) 0)
+    ≡ paste t a (drop b t) 8
+copied8 t a b h k =
+    let p : a + 0 ≡ a = omega arith in
+    let q : b + 0 ≡ b = omega arith in
+    let first : set t a (getD t b 0) ≡ paste t a (drop b t) 1 =
+    ap₂ (λ (m n : ℕ). set t m (getD t n 0)) (sym p) (sym q) ∙ copied-more t t a b 0 h (omega arith) (paste-zero t a (drop b t)) in
+    more 7 _ (omega arith) (more 6 _ (omega arith) (more 5 _ (omega arith) (more 4 _ (omega arith) (more 3 _ (omega arith) (more 2 _ (omega arith) (more 1 _ (omega arith) first))))))
+  where
+    more : (j : ℕ) (u : List ℕ) → j < 8 → u ≡ paste t a (drop b t) j → set u (a + j) (getD t (b + j) 0) ≡ paste t a (drop b t) (suc j)
+    more j u l e = copied-more t u a b j h (omega arith) e
+
+-- what is copied first doesn't touch what is copied next
+pub paste-next : (t u : List ℕ) (a b m n : ℕ) → a ≤ b → b + (m + n) ≤ length t → u ≡ paste t a (drop b t) m →
+    paste u (a + m) (drop (b + m) u) n ≡ paste t a (drop b t) (m + n)
+paste-next t u a b m n h k e =
+    let s = drop b t in
+    let l : m ≤ length s = omega (arith, length-drop b t) in
+    let front : take (a + m) u ≡ take a t ++ take m s = ap (take (a + m)) e ∙ take-paste t a s m (omega arith) l in
+    let e1 : a + m + (b - a) ≡ b + m = omega arith in
+    let e2 : a + m + n ≡ a + (m + n) = omega arith in
+    let from : drop (b + m) u ≡ drop m s = ap (λ (x : ℕ). drop x u) (sym e1) ∙ behind (b - a) ∙ ap (λ (x : ℕ). drop x t) e1 ∙ sym (drop-drop m b t) in
+    ap₂ (λ (xs ys : List ℕ). xs ++ ys ++ drop (a + m + n) u) front (ap (take n) from)
+    ∙ ap (λ (zs : List ℕ). (take a t ++ take m s) ++ take n (drop m s) ++ zs) (behind n ∙ ap (λ (x : ℕ). drop x t) e2)
+    ∙ ap (λ (zs : List ℕ). zs ++ drop (a + (m + n)) t) (append-assoc (take a t) (take m s) (take n (drop m s)) ∙ ap (λ (ys : List ℕ). take a t ++ ys) (sym (take-add m n s)))
+  where
+    behind : (x : ℕ) → drop (a + m + x) u ≡ drop (a + m + x) t
+    behind x =
+        ap (drop (a + m + x)) e
+        ∙ sym (drop-drop x (a + m) (paste t a (drop b t) m))
+        ∙ ap (drop x) (drop-paste t a (drop b t) m (omega arith) (omega (arith, length-drop b t)))
+        ∙ drop-drop x (a + m) t
+
+-- A ROW as three words
+pub copied-row : (t u v w : List ℕ) (a b : ℕ) → a ≤ b → b + 24 ≤ length t → u ≡ paste t a (drop b t) 8 →
+    v ≡ paste u (a + 8) (drop (b + 8) u) 8 → w ≡ paste v (a + 16) (drop (b + 16) v) 8 → w ≡ paste t a (drop b t) 24
+copied-row t u v w a b h k e f g =
+    g ∙ paste-next t v a b 16 8 h k (f ∙ paste-next t u a b 8 8 h (omega arith) e)

@@ -1,0 +1,4 @@
+pub mod CopyLaws
+pub mod WriteLaws
+pub mod HeadLaws
+pub mod CloseLaws

@@ -1,0 +1,64 @@
+-- `closing::close::close_up` meets its contract. Assumes nothing.
+use mathlib.Core.Path.{sym}
+use native.Mathlib.Omega.{arith}
+use borrow.Author.Needs.{needs}
+use lib.Seq.{length-take-le}
+use Rattle.closing.proofs.HeadLaws.{head-used, table-room, slot-small}
+use Rattle.closing.proofs.CloseLaws.{kept-few, closed-written}
+use Rattle.closing.proofs.close.close_up.Statement.{statement}
+use Rattle.closing.proofs.close.close_up.Tie as tie
+
+add-slot : tie.Need-add-slot
+add-slot c = omega (arith, slot-small (c .before .before .pre .0) (c .before .before .pre .1))
+
+close-rows-requires : tie.Need-close-rows-requires
+close-rows-requires c κs = (c .before .before .before .pre .0, head-used (c .before .before .before .pre .1))
+
+row-at-requires : tie.Need-row-at-requires
+row-at-requires c κs = table-room (c .before .before .before .before .before .before .args .table .now) (c .before .before .before .before .before .before .pre .0) (head-used (c .before .before .before .before .before .before .pre .1)) .0
+
+row-at-requires-2 : tie.Need-row-at-requires-2
+row-at-requires-2 c κs = omega (arith, kept-few (c .before .before .before .close-rows .ensures) (c .before .before .before .before .before .before .before .pre .0) (c .before .before .before .before .before .before .before .pre .1))
+
+slice-relend-prefix-clear : tie.Need-slice-relend-prefix-clear
+slice-relend-prefix-clear c = omega (arith, kept-few (c .before .before .before .before .close-rows .ensures) (c .before .before .before .before .before .before .before .before .pre .0) (c .before .before .before .before .before .before .before .before .pre .1), c .before .row-at .ensures)
+
+slice-aggregate-clear : tie.Need-slice-aggregate-clear
+slice-aggregate-clear c = sym (length-take-le _ _ (omega (arith, kept-few (c .before .before .before .before .before .close-rows .ensures) (c .before .before .before .before .before .before .before .before .before .pre .0) (c .before .before .before .before .before .before .before .before .before .pre .1), c .before .before .row-at .ensures)))
+
+clear-requires : tie.Need-clear-requires
+clear-requires c κs =
+    let k = kept-few (c .before .before .before .before .before .close-rows .ensures) (c .before .before .before .before .before .before .before .before .before .pre .0) (c .before .before .before .before .before .before .before .before .before .pre .1) in
+    omega (arith, k, length-take-le (c .before .before .row-at .result) (c .before .before .before .before .before .close-rows .last .0) (omega (arith, k, c .before .before .row-at .ensures)), c .before .before .row-at .ensures, c .before .row-at2 .ensures)
+
+write2-requires : tie.Need-write2-requires
+write2-requires c κs = search needs
+
+cast-write2 : tie.Need-cast-write2
+cast-write2 c = omega (arith, kept-few (c .before .before .before .before .before .before .before .before .before .before .before .before .before .close-rows .ensures) (c .before .before .before .before .before .before .before .before .before .before .before .before .before .before .before .before .before .pre .0) (c .before .before .before .before .before .before .before .before .before .before .before .before .before .before .before .before .before .pre .1))
+
+write2-requires-2 : tie.Need-write2-requires-2
+write2-requires-2 c κs = search needs
+
+same-length : tie.Need-same-length
+same-length c = search needs
+
+returns : tie.Need-returns
+returns c = closed-written (c .before .before .before .before .before .before .before .before .before .before .before .before .before .before .before .before .before .before .before .before .pre .0) (c .before .before .before .before .before .before .before .before .before .before .before .before .before .before .before .before .before .before .before .before .pre .1) (c .before .before .before .before .before .before .before .before .before .before .before .before .before .before .before .before .close-rows .ensures) (c .before .before .before .before .before .before .before .before .before .before .before .before .row-at2 .ensures) (c .before .before .before .before .before .before .before .before .before .before .before .before .before .row-at .ensures) (c .before .before .before .before .before .before .before .before .before .before .clear .ensures) (c .before .before .before .before .before .before .write2 .ensures) (c .before .before .write22 .ensures)
+
+pub close-up-spec : {M : Type 1} → statement M
+close-up-spec =
+    tie.close
+    (tie.spec
+    add-slot
+    close-rows-requires
+    row-at-requires
+    row-at-requires-2
+    slice-relend-prefix-clear
+    slice-aggregate-clear
+    clear-requires
+    write2-requires
+    cast-write2
+    write2-requires-2
+    same-length
+    returns)

@@ -1,0 +1,38 @@
+-- `closing::write::write_shift` meets its contract. Assumes nothing.
+use borrow.Author.Needs.{needs}
+use Rattle.closing.proofs.WriteLaws.{shift-stored}
+use Rattle.closing.proofs.write.write_shift.Statement.{statement}
+use Rattle.closing.proofs.write.write_shift.Tie as tie
+
+row-at-requires : tie.Need-row-at-requires
+row-at-requires c κs = search needs
+
+add-write2 : tie.Need-add-write2
+add-write2 c = search needs
+
+write2-requires : tie.Need-write2-requires
+write2-requires c κs = search needs
+
+add-write4 : tie.Need-add-write4
+add-write4 c = search needs
+
+write4-requires : tie.Need-write4-requires
+write4-requires c κs = search needs
+
+same-length : tie.Need-same-length
+same-length c = search needs
+
+returns : tie.Need-returns
+returns c = shift-stored (c .before .before .before .before .before .before .before .before .before .before .args .table .now) _ _ _ (c .before .before .before .before .before .before .before .before .before .before .args .row) (c .before .before .before .before .before .before .before .before .before .before .args .due .0) (c .before .before .before .before .before .before .before .before .before .before .args .weight .0) (c .before .before .before .before .before .before .before .before .row-at .ensures) (c .before .before .before .before .before .before .write2 .ensures) (c .before .before .write4 .ensures)
+
+pub write-shift-spec : {M : Type 1} → statement M
+write-shift-spec =
+    tie.close
+    (tie.spec
+    row-at-requires
+    add-write2
+    write2-requires
+    add-write4
+    write4-requires
+    same-length
+    returns)

@@ -1,0 +1,24 @@
+-- `closing::write::write_weight` meets its contract. Assumes nothing.
+use borrow.Author.Needs.{needs}
+use Rattle.closing.proofs.WriteLaws.{weight-stored}
+use Rattle.closing.proofs.write.write_weight.Statement.{statement}
+use Rattle.closing.proofs.write.write_weight.Tie as tie
+
+row-at-requires : tie.Need-row-at-requires
+row-at-requires c κs = search needs
+
+add-write4 : tie.Need-add-write4
+add-write4 c = search needs
+
+write4-requires : tie.Need-write4-requires
+write4-requires c κs = search needs
+
+same-length : tie.Need-same-length
+same-length c = search needs
+
+returns : tie.Need-returns
+returns c = weight-stored (c .before .before .before .before .before .before .args .table .now) _ _ (c .before .before .before .before .before .before .args .row) (c .before .before .before .before .before .before .args .weight .0) (c .before .before .before .row-at .ensures) (c .before .before .write4 .ensures)
+
+pub write-weight-spec : {M : Type 1} → statement M
+write-weight-spec =
+    tie.close (tie.spec row-at-requires add-write4 write4-requires same-length returns)

@@ -1,0 +1,42 @@
+// A row's numbers written in place; its ticket and what is not named stay.
+ghost use mathlib.Core.Path.{_≡_};
+ghost use mathlib.Core.List.{[], _∷_, _++_};
+ghost use Prim.Native.Nat.{suc, _+_, _≤_, _<_};
+ghost use lib.ListN.{length};
+ghost use lib.Seq.{sets};
+ghost use Rattle.rules.specs.Conditions.{row-at};
+ghost use Rattle.rules.specs.Table.{low};
+use round::Round;
+use round::Slot;
+use round::Weight;
+use round::bytes::write2;
+use round::bytes::write4;
+use round::rows::row_at;
+
+// A shifted row: its due slot and weight.
+pub fn write_shift(table: &mut [u8], row: usize, due: Slot, weight: Weight)
+    requires { ⌜ (row < 1024) × (row-at (suc row) ≤ length (now table)) ⌝ }
+    ensures { λ _. ⌜ now (table .exit) ≡ sets (now (table .entry)) (row-at row + 4) (low 2 (due .0) ++ low 4 (weight .0)) ⌝ }
+{
+    let at = row_at(row);
+    write2(table, at + Round::DUE_AT, due.0);
+    write4(table, at + Round::WEIGHT_AT, weight.0);
+}
+
+// The substitute: its weight.
+pub fn write_weight(table: &mut [u8], row: usize, weight: Weight)
+    requires { ⌜ (row < 1024) × (row-at (suc row) ≤ length (now table)) ⌝ }
+    ensures { λ _. ⌜ now (table .exit) ≡ sets (now (table .entry)) (row-at row + 6) (low 4 (weight .0)) ⌝ }
+{
+    write4(table, row_at(row) + Round::WEIGHT_AT, weight.0);
+}
+
+// A kept blank: its due slot, weight and kind.
+pub fn write_kept(table: &mut [u8], row: usize, due: Slot, weight: Weight)
+    requires { ⌜ (row < 1024) × (row-at (suc row) ≤ length (now table)) ⌝ }
+    ensures { λ _. ⌜ now (table .exit) ≡ sets (now (table .entry)) (row-at row + 4) ((low 2 (due .0) ++ low 4 (weight .0)) ++ (1 ∷ [])) ⌝ }
+{
+    write_shift(table, row, due, weight);
+    let kind = row_at(row) + Round::KIND_AT;
+    table[kind] = 1;
+}

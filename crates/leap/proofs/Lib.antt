@@ -1,0 +1,3 @@
+pub mod StandLaws
+pub mod SendLaws
+pub mod SwapLaws

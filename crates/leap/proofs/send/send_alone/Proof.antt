@@ -1,0 +1,24 @@
+-- `leap::send::send_alone` meets its contract. Assumes nothing.
+use borrow.Author.Needs.{needs}
+use Rattle.leap.proofs.SendLaws.{alone-row, alone-says}
+use Rattle.leap.proofs.send.send_alone.Statement.{statement}
+use Rattle.leap.proofs.send.send_alone.Tie as tie
+
+row-of-requires : tie.Need-row-of-requires
+row-of-requires c κs = search needs
+
+went-of-requires : tie.Need-went-of-requires
+went-of-requires c κs = alone-row (c .before .before .before .pre) (c .row-of .ensures)
+
+close-up-requires : tie.Need-close-up-requires
+close-up-requires c κs = (c .before .before .before .before .before .before .pre .ready .sound, c .before .before .before .before .before .before .pre .ready .head)
+
+same-length : tie.Need-same-length
+same-length c = search needs
+
+returns : tie.Need-returns
+returns c = alone-says (c .before .before .before .before .before .before .before .before .before .pre) (c .before .before .before .before .before .before .row-of .ensures) (c .before .before .before .before .before .went-of .ensures) (c .before .before .close-up .ensures)
+
+pub send-alone-spec : {M : Type 1} → statement M
+send-alone-spec =
+    tie.close (tie.spec row-of-requires went-of-requires close-up-requires same-length returns)

@@ -1,0 +1,17 @@
+-- `leap::send::send_silence` meets its contract. Assumes nothing.
+use borrow.Author.Needs.{needs}
+use Rattle.leap.proofs.SendLaws.{silence-says}
+use Rattle.leap.proofs.send.send_silence.Statement.{statement}
+use Rattle.leap.proofs.send.send_silence.Tie as tie
+
+close-up-requires : tie.Need-close-up-requires
+close-up-requires c κs = search needs
+
+same-length : tie.Need-same-length
+same-length c = search needs
+
+returns : tie.Need-returns
+returns c = silence-says (c .before .before .before .before .before .args .table .now) (c .before .before .before .before .before .args .round) (c .before .before .before .before .before .pre .0) (c .before .before .before .before .before .pre .1) _ (c .before .before .close-up .ensures)
+
+pub send-silence-spec : {M : Type 1} → statement M
+send-silence-spec = tie.close (tie.spec close-up-requires same-length returns)

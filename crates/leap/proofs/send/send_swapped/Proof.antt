@@ -1,0 +1,63 @@
+-- `leap::send::send_swapped` meets its contract. Assumes nothing.
+use native.Mathlib.Omega.{arith}
+use borrow.Author.Needs.{needs}
+use Rattle.leap.proofs.SwapLaws.{swap-row, swap-ahead, swap-walk, to-small, swap-chained, swap-there, swap-stood, swap-says}
+use Rattle.leap.proofs.send.send_swapped.Statement.{statement}
+use Rattle.leap.proofs.send.send_swapped.Tie as tie
+
+row-of-requires : tie.Need-row-of-requires
+row-of-requires c κs = search needs
+
+went-of-requires : tie.Need-went-of-requires
+went-of-requires c κs = swap-row (c .before .before .before .before .pre) (c .row-of .ensures)
+
+ahead-of-requires : tie.Need-ahead-of-requires
+ahead-of-requires c κs = swap-ahead (c .before .before .before .before .before .before .pre)
+
+stretch-of-requires : tie.Need-stretch-of-requires
+stretch-of-requires c κs = swap-walk (c .before .before .before .before .before .before .before .pre) (c .ahead-of .ensures)
+
+marks-by-requires : tie.Need-marks-by-requires
+marks-by-requires c κs = (c .before .before .before .before .before .before .before .before .before .before .pre .goes .ready, c .before .before .before .before .before .before .before .before .before .before .pre .goes .chosen, c .before .before .before .before .before .before .before .before .before .before .pre .size, to-small (c .before .before .before .before .before .before .before .before .before .before .pre) (c .before .before .before .ahead-of .ensures) (c .before .before .stretch-of .ensures))
+
+shift-chain-requires : tie.Need-shift-chain-requires
+shift-chain-requires c κs = swap-chained (c .before .before .before .before .before .before .before .before .before .before .before .before .before .pre) (c .before .before .before .before .before .before .ahead-of .ensures) (c .before .before .before .before .before .stretch-of .ensures) (c .before .before .marks-by .ensures)
+
+row-of-requires-2 : tie.Need-row-of-requires-2
+row-of-requires-2 c κs = search needs
+
+mul-t29 : tie.Need-mul-t29
+mul-t29 c = omega (arith, to-small (c .before .before .before .before .before .before .before .before .before .before .before .before .before .before .before .before .before .before .pre) (c .before .before .before .before .before .before .before .before .before .before .before .ahead-of .ensures) (c .before .before .before .before .before .before .before .before .before .before .stretch-of .ensures))
+
+element-copy-out-t32 : tie.Need-element-copy-out-t32
+element-copy-out-t32 c = omega (arith, to-small (c .before .before .before .before .before .before .before .before .before .before .before .before .before .before .before .before .before .before .pre) (c .before .before .before .before .before .before .before .before .before .before .before .ahead-of .ensures) (c .before .before .before .before .before .before .before .before .before .before .stretch-of .ensures))
+
+write-weight-requires : tie.Need-write-weight-requires
+write-weight-requires c κs = swap-there (c .before .before .before .before .before .before .before .before .before .before .before .before .before .before .before .before .before .before .before .pre) (c .before .before .before .before .before .before .before .before .before .before .before .before .ahead-of .ensures) (c .before .before .before .before .before .before .before .before .before .before .before .stretch-of .ensures) (c .before .before .before .before .before .before .before .before .marks-by .ensures) (c .before .before .before .before .before .shift-chain .ensures) (c .before .row-of2 .ensures)
+
+close-up-requires : tie.Need-close-up-requires
+close-up-requires c κs = let s = swap-stood (c .before .before .before .before .before .before .before .before .before .before .before .before .before .before .before .before .before .before .before .before .before .before .before .pre) (c .before .before .before .before .before .before .before .before .before .before .before .before .before .before .before .before .ahead-of .ensures) (c .before .before .before .before .before .before .before .before .before .before .before .before .before .before .before .stretch-of .ensures) (c .before .before .before .before .before .before .before .before .before .before .before .before .marks-by .ensures) (c .before .before .before .before .before .before .before .before .before .shift-chain .ensures) (c .before .before .before .before .before .row-of2 .ensures) (c .before .before .before .write-weight .ensures) in (s .sound, s .head)
+
+same-length : tie.Need-same-length
+same-length c = search needs
+
+returns : tie.Need-returns
+returns c = swap-says (c .before .before .before .before .before .before .before .before .before .before .before .before .before .before .before .before .before .before .before .before .before .before .before .before .before .before .pre) (c .before .before .before .before .before .before .before .before .before .before .before .before .before .before .before .before .before .before .before .ahead-of .ensures) (c .before .before .before .before .before .before .before .before .before .before .before .before .before .before .before .before .before .before .stretch-of .ensures) (c .before .before .before .before .before .before .before .before .before .before .before .before .before .before .before .marks-by .ensures) (c .before .before .before .before .before .before .before .before .before .before .before .before .shift-chain .ensures) (c .before .before .before .before .before .before .before .before .row-of2 .ensures) (c .before .before .before .before .before .before .write-weight .ensures) (c .before .before .before .before .before .before .before .before .before .before .before .before .before .before .before .before .before .before .before .before .before .before .row-of .ensures) (c .before .before .before .before .before .before .before .before .before .before .before .before .before .before .before .before .before .before .before .before .before .went-of .ensures) (c .before .before .close-up .ensures)
+
+pub send-swapped-spec : {M : Type 1} → statement M
+send-swapped-spec =
+    tie.close
+    (tie.spec
+    row-of-requires
+    went-of-requires
+    ahead-of-requires
+    stretch-of-requires
+    marks-by-requires
+    shift-chain-requires
+    row-of-requires-2
+    mul-t29
+    element-copy-out-t32
+    write-weight-requires
+    close-up-requires
+    same-length
+    returns)

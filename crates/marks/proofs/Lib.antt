@@ -1,0 +1,7 @@
+pub mod TotalLaws
+pub mod WindowLaws
+pub mod BackLaws
+pub mod SpanLaws
+pub mod KeepLaws
+pub mod MarkLaws
+pub mod SubstituteLaws

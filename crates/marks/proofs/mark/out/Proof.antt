@@ -1,0 +1,13 @@
+-- `marks::mark::out` meets its contract. Assumes nothing.
+use borrow.Author.Tests.{eq-eqb, ne-eqb}
+use Rattle.marks.proofs.mark.out.Statement.{statement}
+use Rattle.marks.proofs.mark.out.Tie as tie
+
+returns : tie.Need-returns
+returns c = simp (eq-eqb _ _ (c .if1 .taken))
+
+returns-2 : tie.Need-returns-2
+returns-2 c = simp (ne-eqb _ _ (c .if1 .left))
+
+pub out-spec : {M : Type 1} → statement M
+out-spec = tie.close (tie.spec returns returns-2)

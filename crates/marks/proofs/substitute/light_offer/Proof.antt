@@ -1,0 +1,20 @@
+-- `marks::substitute::light_offer` meets its contract. Assumes nothing.
+use borrow.Author.Tests.{eq-eqb, ne-eqb, lt-ltb, le-ltb}
+use borrow.Author.Needs.{needs}
+use Rattle.marks.proofs.substitute.light_offer.Statement.{statement}
+use Rattle.marks.proofs.substitute.light_offer.Tie as tie
+
+returns : tie.Need-returns
+returns c = simp (ne-eqb _ _ (c .if1 .taken))
+
+returns-2 : tie.Need-returns-2
+returns-2 c = simp (eq-eqb _ _ (c .before .if1 .left), lt-ltb _ _ (c .if2 .taken))
+
+sub-result : tie.Need-sub-result
+sub-result c = search needs
+
+returns-3 : tie.Need-returns-3
+returns-3 c = simp (eq-eqb _ _ (c .before .if1 .left), le-ltb _ _ (c .if2 .left))
+
+pub light-offer-spec : {M : Type 1} → statement M
+light-offer-spec = tie.close (tie.spec returns returns-2 sub-result returns-3)

@@ -1,0 +1,34 @@
+-- `shifting::chain::pass_end` meets its contract. Assumes nothing.
+use borrow.Author.Needs.{needs}
+use Rattle.shifting.proofs.LinkLaws.{ended-keeps, ended-takes, ended-still, ended-moved}
+use Rattle.shifting.proofs.chain.pass_end.Statement.{statement}
+use Rattle.shifting.proofs.chain.pass_end.Tie as tie
+
+returns : tie.Need-returns
+returns c = (ended-keeps (c .before .before .before .args .links) (c .before .before .before .args .bucket) (c .if1 .taken), ended-still (c .before .before .before .args .slot .0) (c .before .before .before .args .marks .now) (c .before .before .before .args .links) (c .before .before .before .args .table .now) (c .if1 .taken))
+
+mul-shift-link : tie.Need-mul-shift-link
+mul-shift-link c = search needs
+
+element-copy-out-shift-link : tie.Need-element-copy-out-shift-link
+element-copy-out-shift-link c = search needs
+
+shift-link-requires : tie.Need-shift-link-requires
+shift-link-requires c κs = search needs
+
+same-length : tie.Need-same-length
+same-length c = search needs
+
+returns-2 : tie.Need-returns-2
+returns-2 c = (ended-takes (c .before .before .before .before .before .before .before .before .args .links) (c .before .before .before .before .before .before .before .before .args .bucket) (c .before .before .before .before .before .if1 .left), ended-moved (c .before .before .before .before .before .before .before .before .args .slot .0) (c .before .before .before .before .before .before .before .before .args .marks .now) (c .before .before .before .before .before .before .before .before .args .links) (c .before .before .before .before .before .before .before .before .args .table .now) _ (c .before .before .before .before .before .if1 .left) (c .before .before .shift-link .ensures))
+
+pub pass-end-spec : {M : Type 1} → statement M
+pass-end-spec =
+    tie.close
+    (tie.spec
+    returns
+    mul-shift-link
+    element-copy-out-shift-link
+    shift-link-requires
+    same-length
+    returns-2)

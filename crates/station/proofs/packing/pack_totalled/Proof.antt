@@ -1,0 +1,34 @@
+-- `station::packing::pack_totalled` meets its contract. Assumes nothing.
+use Rattle.calls.specs.Asking.{of-totalled}
+use Rattle.station.specs.Packing.{pack, Small}
+use Prim.Native.Nat.{ℕ, _≤_}
+use native.Mathlib.Omega.{arith}
+use mathlib.Core.Path.{sym, ap, subst, _∙_}
+use borrow.Author.Needs.{needs}
+use Rattle.station.proofs.packing.pack_totalled.Statement.{statement}
+use Rattle.station.proofs.packing.pack_totalled.Tie as tie
+
+enum-known-reply : tie.Need-enum-known-reply
+enum-known-reply c = search needs
+
+mul-result : tie.Need-mul-result
+mul-result c = let h : c .before .reply .given .0 .0 ≤ 17179869184 = subst (λ x. Small (of-totalled x)) (c .before .reply .given .1) (c .before .before .before .pre) in omega arith
+
+enum-known-reply-2 : tie.Need-enum-known-reply-2
+enum-known-reply-2 c = search needs
+
+cast-result : tie.Need-cast-result
+cast-result c = search needs
+
+returns : tie.Need-returns
+unfolding pack
+returns c = sym (ap (λ x. pack (of-totalled x)) (c .before .reply .given .1))
+
+returns-2 : tie.Need-returns-2
+unfolding pack
+returns-2 c = sym (ap (λ x. pack (of-totalled x)) (c .before .reply2 .given .1))
+
+pub pack-totalled-spec : {M : Type 1} → statement M
+pack-totalled-spec =
+    tie.close
+    (tie.spec enum-known-reply mul-result enum-known-reply-2 cast-result returns returns-2)

@@ -1,0 +1,4 @@
+pub mod RowLaws
+pub mod NearLaws
+pub mod TopLaws
+pub mod TallyLaws

@@ -6,3 +6,5 @@ pub mod Opened
 pub mod TakingNumber
 pub mod Taken
 pub mod Readings
+pub mod ListFilled
+pub mod Listings

@@ -5,3 +5,4 @@ pub mod sending; // sending.rt: sending a slot
 pub mod marking; // marking.rt: the mark of a slot
 pub mod totalling; // totalling.rt: the plan's total
 pub mod substituting; // substituting.rt: the substitute of a ticket
+pub mod listing; // listing.rt: listing the plan

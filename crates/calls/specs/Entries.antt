@@ -1,0 +1,22 @@
+-- Listing: an entry's numbers, the reply enum's number and values of document 01, and what the call promises. Assumes nothing: these are definitions.
+use mathlib.Core.Path.{_≡_}
+use mathlib.Core.List.{List}
+use Prim.Native.Nat.{ℕ}
+use lib.ListN.{length}
+use Rattle.rules.specs.Rows.{Row}
+use Rattle.rules.specs.Calls.{Reply, refused, amount, list-answer, list-left}
+use Rattle.calls.specs.declared.listing.Entry.{Entry}
+use Rattle.calls.specs.declared.listing.Listed.{Listed}
+use Rattle.calls.specs.declared.listing.Listed.the-variants as listed
+
+-- a row's numbers as an entry; its kind is not listed
+abbrev pub entry : Row → Entry
+entry x = record { ticket = record { 0 = x .ticket }; due = record { 0 = x .due }; weight = record { 0 = x .weight } }
+
+abbrev pub of-listed : Listed → Reply
+of-listed (listed.Count n) = amount n
+of-listed (listed.Refused n) = refused n
+
+-- the reply, and every entry of the lent list, are the rules'
+abbrev pub Lists : Reply → (table : List ℕ) → (before after : List Entry) → Type 0
+Lists a t es zs = (a ≡ list-answer t (length es)) × (zs ≡ list-left entry t es)

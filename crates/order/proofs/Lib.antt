@@ -1,0 +1,4 @@
+pub mod KeyLaws
+pub mod GatherLaws
+pub mod DrainLaws
+pub mod OrderLaws

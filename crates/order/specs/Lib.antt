@@ -1,0 +1,4 @@
+pub mod Keys
+pub mod Gather
+pub mod Drain
+pub mod Ordered

@@ -83,5 +83,6 @@ accepted-says t h room o k d fit =
   where
     n : Known t h
     n = known t h k
+
     f : list-refusal t room ≡ 0
     f = list-fits t room (k .sound) (n .time) (omega (arith, d .count))

@@ -92,13 +92,13 @@ module _ {t : List ℕ} {h : Head} {leaps : Bool} {k : ℕ} (a : Leaves-alone t 
   pub alone-row : Ready t h × (j < h .used)
   alone-row = (a .ready, named-used (a .ready) (a .row) k (a .below) (a .key) e)
 
-  pub alone-says : {v : List ℕ} {w : Went} → Went-of (at (round-in t) j) leaps w → v ≡ closed-up (w .ticket .0) t → Sent-says t v w
-  alone-says {v} {w} d q =
+  pub alone-says : {v : List ℕ} {w : Went} {g : ℕ} → Went-of (at (round-in t) j) leaps w → v ≡ closed-up g t → g ≡ w .ticket .0 → Sent-says t v w
+  alone-says {v} {w} {g} d q f =
       let r = round-in t in
       let i : j ≡ a .row = e ∙ named-row (a .ready) (a .row) k (a .below) (a .key) in
       let d2 : Went-of (at r (a .row)) leaps w = subst (λ (n : ℕ). Went-of (at r n) leaps w) i d in
       sent-says t h (a .ready) (at r (a .row)) leaps (at r (a .row) .ticket) (r .rows) v w (a .sends)
-      (alone-closed t v (at r (a .row) .ticket) (q ∙ ap (λ (n : ℕ). closed-up n t) (d2 .ticket))) d2
+      (alone-closed t v (at r (a .row) .ticket) (q ∙ ap (λ (n : ℕ). closed-up n t) (f ∙ d2 .ticket))) d2
 
 module _ {t : List ℕ} {h : Head} {fs : List ℕ} {x : Reach} {pk : Pick} (w : Goes-by t h fs x pk) where
   pub going-scene : Scene (round-in t) fs x
@@ -223,8 +223,8 @@ module _ {t : List ℕ} {h : Head} {fs : List ℕ} {x : Reach} {o b e : ℕ} (g 
         ∙ ap (λ (bs : List ℕ). sets bs (row-at i + 4) ((low 2 (r .slot + b) ++ low 4 m) ++ (1 ∷ []))) (self-table t (g .ready .sound))
         ∙ sym (table-kept r (r .rows) 1 i (z .fine .rising) l (r .slot + b) m))
 
-    pub kept-says : {u v : List ℕ} {w : Went} → u ≡ sets t (row-at j + 4) ((low 2 (h .slot .0 + b) ++ low 4 m) ++ (1 ∷ [])) → Went-of (at r j) true w → v ≡ closed-up 0 u → Sent-says t v w
-    kept-says {u} {v} {w} a d s =
+    pub kept-says : {u v : List ℕ} {w : Went} {n : ℕ} → u ≡ sets t (row-at j + 4) ((low 2 (h .slot .0 + b) ++ low 4 m) ++ (1 ∷ [])) → Went-of (at r j) true w → v ≡ closed-up n u → n ≡ 0 → Sent-says t v w
+    kept-says {u} {v} {w} a d s z =
         sent-says t h (g .ready) (at r i) true 0 (changed (at r i .ticket) (row (at r i .ticket) (r .slot + b) m 1) (r .rows)) v w kept-sends
-        (stood-closed t h (changed (at r i .ticket) (row (at r i .ticket) (r .slot + b) m 1) (r .rows)) u v 0 (kept-stood a) s)
+        (stood-closed t h (changed (at r i .ticket) (row (at r i .ticket) (r .slot + b) m 1) (r .rows)) u v 0 (kept-stood a) (s ∙ ap (λ (n : ℕ). closed-up n u) z))
         (subst (λ (n : ℕ). Went-of (at r n) true w) (f ∙ named-row (g .ready) i o (p .leading .below) (p .leading .key)) d)

@@ -95,9 +95,6 @@ module _ {t : List ℕ} {h : Head} {fs : List ℕ} {x : Reach} {cs ks ms₀ : Li
   pub swap-ahead : h .slot .0 ≤ due-named oo
   swap-ahead = omega (arith, due-is, y-fine .0, known t h (nt .goes .ready) .slot)
 
-  e-near : e < x .free
-  e-near = omega (arith, p .within .near)
-
   counts-upto : (s : ℕ) → s ≤ x .free → upto s cs ≡ num 0 (r .slot + s) rs
   counts-upto s l =
       upto-is r rs cs (nt .counts) s (omega (arith, l, free-high r fs x sc))
@@ -226,19 +223,20 @@ module _ {t : List ℕ} {h : Head} {fs : List ℕ} {x : Reach} {cs ks ms₀ : Li
           (fit-moves r z rs the-rows (r .slot + e) (r .slot + to) (s .links) (r .rows) (s .chain) (omega arith) (omega (arith, p .within .near, near-z .by)) (fit-self r z))
           refl (y-fine .0, y-fine .1, omega (arith, w .2, light .weight), omega (arith, w .3, light .weight)) (all-in Kind y (r .rows) (z .size .kinds) y-in)
 
-      pub swap-stood : {v : List ℕ} → v ≡ sets u (row-at j + 6) (low 4 mk) → Stood t h ys v
-      swap-stood {v} w =
+      pub swap-stood : {v : List ℕ} {n : ℕ} → v ≡ sets u (row-at j + 6) (low 4 n) → n ≡ mk → Stood t h ys v
+      swap-stood {v} {n} w g =
           let i = q .row in
           stood t h ys v k fits
           (w
+          ∙ ap (λ (n : ℕ). sets u (row-at j + 6) (low 4 n)) g
           ∙ ap₂ (λ (n : ℕ) (bs : List ℕ). sets bs (row-at n + 6) (low 4 mk)) (jo ∙ named-row k i oo (q .below) (q .key)) (s .bytes)
           ∙ sym (table-weight r xs 1 i (rising-moves r 1 (r .next) (r .slot + e) (s .links) (r .rows) (sc .fine .rising)) (omega (arith, q .below, xs-long)) mk)
           ∙ ap (λ (z : Row). table (having r (changed (z .ticket) (row (z .ticket) (z .due) mk (z .kind)) xs))) y-there)
 
-      pub swap-says : {v l : List ℕ} {w : Went} {n : ℕ} → v ≡ sets u (row-at j + 6) (low 4 mk) → n ≡ row-named o → Went-of (at r n) true w → l ≡ closed-up (w .ticket .0) v →
-          Sent-says t l w
-      swap-says {v} {l} {w} a1 a2 z a3 =
+      pub swap-says : {v l : List ℕ} {w : Went} {n a b : ℕ} → v ≡ sets u (row-at j + 6) (low 4 a) → a ≡ mk → n ≡ row-named o → Went-of (at r n) true w →
+          l ≡ closed-up b v → b ≡ w .ticket .0 → Sent-says t l w
+      swap-says {v} {l} {w} a1 a4 a2 z a3 a5 =
           let i = p .row in
           let z2 : Went-of (at r i) true w = subst (λ (n : ℕ). Went-of (at r n) true w) (a2 ∙ named-row k i o (p .leading .below) (p .leading .key)) z in
           sent-says t h k (at r i) true (at r i .ticket) ys l w swap-sends
-          (stood-closed t h ys v l (at r i .ticket) (swap-stood a1) (a3 ∙ ap (λ (n : ℕ). closed-up n v) (z2 .ticket))) z2
+          (stood-closed t h ys v l (at r i .ticket) (swap-stood a1 a4) (a3 ∙ ap (λ (n : ℕ). closed-up n v) (a5 ∙ z2 .ticket))) z2

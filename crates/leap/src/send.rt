@@ -86,7 +86,7 @@ fn send_kept(
     let slot = round.slot.0;
     let mark = least_by(table, flags, round, slot + last as u32);
     write_kept(table, row, Slot(slot + first as u32), Weight(mark));
-    close_up(table, round, Ticket(0));
+    close_up(table, round, Ticket(0)); // no ticket goes
     went
 }
 
@@ -116,13 +116,13 @@ fn send_swapped(
     ensures { λ r. ⌜ Sent-says (now (table .entry)) (now (table .exit)) r ⌝ }
 {
     let went = went_of(table, round, row_of(key), true);
-    let gone = went.ticket;
+    let sent = went.ticket;
     let bucket = ahead_of(other, round.slot.0);
     let to = stretch_of(counts, reach.free, bucket).last;
     marks_by(table, flags, round, marks, to);
     shift_chain(table, flags, counts, kept, marks, round, reach, last, to);
     write_weight(table, row_of(other), Weight(marks[to]));
-    close_up(table, round, gone);
+    close_up(table, round, sent);
     went
 }
 

@@ -1,5 +1,5 @@
 -- The pass back, as the code makes it on a sound table. Assumes nothing.
-use mathlib.Core.Path.{_≡_, sym, ap, _∙_, subst}
+use mathlib.Core.Path.{_≡_, sym, ap, _∙_, subst, ap₂}
 use mathlib.Core.List.{List}
 use Prim.Native.Nat.{ℕ, suc, _+_, _-_, _≤_}
 use native.Mathlib.Omega.{arith}
@@ -63,8 +63,8 @@ module _ {t : List ℕ} {h : Head} {fs : List ℕ} {x : Reach} {cs ks ms : List 
         rw (a, b ∙ ap (λ (v : ℕ). passed-bytes v cs ks ms l s u) (head-known .slot))
         (linking-step r fs x the-scene to (w .near) cs ks ms (w .counts) (w .kept) (w .marks) s l u i q)
 
-    pub shift-end : {v : List ℕ} → s ≡ from → v ≡ linked (h .slot .0) (l .waiting) from (getD ms from 0) u →
+    pub shift-end : {v : List ℕ} {m : ℕ} → s ≡ from → v ≡ linked (h .slot .0) (l .waiting) from m u → m ≡ getD ms from 0 →
         Shifts r (with-flag r fs) (r .slot + from) (r .slot + to) v
-    shift-end e a =
-        rw (a ∙ ap (λ (y : ℕ). linked y (l .waiting) from (getD ms from 0) u) (head-known .slot))
+    shift-end {v} {m} e a d =
+        rw (a ∙ ap₂ (λ (y n : ℕ). linked y (l .waiting) from n u) (head-known .slot) d)
         (linking-end r fs x the-scene to (w .near) ms (w .marks) from (w .begin) (w .order) (w .first) l u (subst (λ (y : ℕ). Linking r fs to y l u) e q))

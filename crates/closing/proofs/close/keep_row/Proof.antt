@@ -1,3 +1,4 @@
+use native.Mathlib.Omega.{arith}
 -- `closing::close::keep_row` meets its contract. Assumes nothing.
 use mathlib.Core.Logic.{inl, inr}
 use mathlib.Core.Path.{refl, sym, _∙_}
@@ -25,7 +26,12 @@ same-length : tie.Need-same-length
 same-length c = search needs
 
 returns : tie.Need-returns
-returns c = inl (sym (c .before .before .before .before .before .before .before .row-stays .ensures) ∙ c .before .before .before .before .before .before .if1 .taken, refl, kept-copied (c .before .before .before .before .before .before .before .before .before .before .args .table .now) _ (c .before .before .before .before .before .before .before .before .before .before .args .row) (c .before .before .before .before .before .before .before .before .before .before .args .kept) _ _ (c .before .before .before .before .row-at .ensures) (c .before .before .before .row-at2 .ensures) (c .before .before .copy-row .ensures))
+returns c =
+    inl (
+      sym (c .before .before .before .before .before .before .before .row-stays .ensures) ∙ c .before .before .before .before .before .before .if1 .taken,
+      refl,
+      kept-copied (c .before .before .before .before .before .before .before .before .before .before .args .table .now) _ (c .before .before .before .before .before .before .before .before .before .before .args .row) (c .before .before .before .before .before .before .before .before .before .before .args .kept) (c .before .before .before .before .row-at .result) (c .before .before .before .row-at2 .result) (omega (arith, c .before .before .before .before .row-at .ensures)) (omega (arith, c .before .before .before .row-at2 .ensures)) (c .before .before .copy-row .ensures),
+    )
 
 same-length-2 : tie.Need-same-length-2
 same-length-2 c = search needs

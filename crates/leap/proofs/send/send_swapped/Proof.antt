@@ -36,13 +36,13 @@ write-weight-requires : tie.Need-write-weight-requires
 write-weight-requires c κs = swap-there (c .before .before .before .before .before .before .before .before .before .before .before .before .before .before .before .before .before .before .before .pre) (c .before .before .before .before .before .before .before .before .before .before .before .before .ahead-of .ensures) (c .before .before .before .before .before .before .before .before .before .before .before .stretch-of .ensures) (c .before .before .before .before .before .before .before .before .marks-by .ensures) (c .before .before .before .before .before .shift-chain .ensures) (c .before .row-of2 .ensures)
 
 close-up-requires : tie.Need-close-up-requires
-close-up-requires c κs = let s = swap-stood (c .before .before .before .before .before .before .before .before .before .before .before .before .before .before .before .before .before .before .before .before .before .before .before .pre) (c .before .before .before .before .before .before .before .before .before .before .before .before .before .before .before .before .ahead-of .ensures) (c .before .before .before .before .before .before .before .before .before .before .before .before .before .before .before .stretch-of .ensures) (c .before .before .before .before .before .before .before .before .before .before .before .before .marks-by .ensures) (c .before .before .before .before .before .before .before .before .before .shift-chain .ensures) (c .before .before .before .before .before .row-of2 .ensures) (c .before .before .before .write-weight .ensures) in (s .sound, s .head)
+close-up-requires c κs = let s = swap-stood (c .before .before .before .before .before .before .before .before .before .before .before .before .before .before .before .before .before .before .before .before .before .before .before .pre) (c .before .before .before .before .before .before .before .before .before .before .before .before .before .before .before .before .ahead-of .ensures) (c .before .before .before .before .before .before .before .before .before .before .before .before .before .before .before .stretch-of .ensures) (c .before .before .before .before .before .before .before .before .before .before .before .before .marks-by .ensures) (c .before .before .before .before .before .before .before .before .before .shift-chain .ensures) (c .before .before .before .before .before .row-of2 .ensures) (c .before .before .before .write-weight .ensures) (search needs) in (s .sound, s .head)
 
 same-length : tie.Need-same-length
 same-length c = search needs
 
 returns : tie.Need-returns
-returns c = swap-says (c .before .before .before .before .before .before .before .before .before .before .before .before .before .before .before .before .before .before .before .before .before .before .before .before .before .before .pre) (c .before .before .before .before .before .before .before .before .before .before .before .before .before .before .before .before .before .before .before .ahead-of .ensures) (c .before .before .before .before .before .before .before .before .before .before .before .before .before .before .before .before .before .before .stretch-of .ensures) (c .before .before .before .before .before .before .before .before .before .before .before .before .before .before .before .marks-by .ensures) (c .before .before .before .before .before .before .before .before .before .before .before .before .shift-chain .ensures) (c .before .before .before .before .before .before .before .before .row-of2 .ensures) (c .before .before .before .before .before .before .write-weight .ensures) (c .before .before .before .before .before .before .before .before .before .before .before .before .before .before .before .before .before .before .before .before .before .before .row-of .ensures) (c .before .before .before .before .before .before .before .before .before .before .before .before .before .before .before .before .before .before .before .before .before .went-of .ensures) (c .before .before .close-up .ensures)
+returns c = swap-says (c .before .before .before .before .before .before .before .before .before .before .before .before .before .before .before .before .before .before .before .before .before .before .before .before .before .before .pre) (c .before .before .before .before .before .before .before .before .before .before .before .before .before .before .before .before .before .before .before .ahead-of .ensures) (c .before .before .before .before .before .before .before .before .before .before .before .before .before .before .before .before .before .before .stretch-of .ensures) (c .before .before .before .before .before .before .before .before .before .before .before .before .before .before .before .marks-by .ensures) (c .before .before .before .before .before .before .before .before .before .before .before .before .shift-chain .ensures) (c .before .before .before .before .before .before .before .before .row-of2 .ensures) (c .before .before .before .before .before .before .write-weight .ensures) (search needs) (c .before .before .before .before .before .before .before .before .before .before .before .before .before .before .before .before .before .before .before .before .before .before .row-of .ensures) (c .before .before .before .before .before .before .before .before .before .before .before .before .before .before .before .before .before .before .before .before .before .went-of .ensures) (c .before .before .close-up .ensures) (search needs)
 
 pub send-swapped-spec : {M : Type 1} → statement M
 send-swapped-spec =

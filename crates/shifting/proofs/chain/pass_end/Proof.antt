@@ -1,3 +1,4 @@
+use native.Mathlib.Omega.{arith}
 -- `shifting::chain::pass_end` meets its contract. Assumes nothing.
 use borrow.Author.Needs.{needs}
 use Rattle.shifting.proofs.LinkLaws.{ended-keeps, ended-takes, ended-still, ended-moved}
@@ -5,7 +6,7 @@ use Rattle.shifting.proofs.chain.pass_end.Statement.{statement}
 use Rattle.shifting.proofs.chain.pass_end.Tie as tie
 
 returns : tie.Need-returns
-returns c = (ended-keeps (c .before .before .before .args .links) (c .before .before .before .args .bucket) (c .if1 .taken), ended-still (c .before .before .before .args .slot .0) (c .before .before .before .args .marks .now) (c .before .before .before .args .links) (c .before .before .before .args .table .now) (c .if1 .taken))
+returns c = (ended-keeps (c .before .before .before .args .links) (c .before .before .before .args .bucket) (search needs), ended-still (c .before .before .before .args .slot .0) (c .before .before .before .args .marks .now) (c .before .before .before .args .links) (c .before .before .before .args .table .now) (search needs))
 
 mul-shift-link : tie.Need-mul-shift-link
 mul-shift-link c = search needs
@@ -20,7 +21,7 @@ same-length : tie.Need-same-length
 same-length c = search needs
 
 returns-2 : tie.Need-returns-2
-returns-2 c = (ended-takes (c .before .before .before .before .before .before .before .before .args .links) (c .before .before .before .before .before .before .before .before .args .bucket) (c .before .before .before .before .before .if1 .left), ended-moved (c .before .before .before .before .before .before .before .before .args .slot .0) (c .before .before .before .before .before .before .before .before .args .marks .now) (c .before .before .before .before .before .before .before .before .args .links) (c .before .before .before .before .before .before .before .before .args .table .now) _ (c .before .before .before .before .before .if1 .left) (c .before .before .shift-link .ensures))
+returns-2 c = (ended-takes (c .before .before .before .before .before .before .before .before .args .links) (c .before .before .before .before .before .before .before .before .args .bucket) (search needs), ended-moved (c .before .before .before .before .before .before .before .before .args .slot .0) (c .before .before .before .before .before .before .before .before .args .marks .now) (c .before .before .before .before .before .before .before .before .args .links) (c .before .before .before .before .before .before .before .before .args .table .now) _ (search needs) (c .before .before .shift-link .ensures))
 
 pub pass-end-spec : {M : Type 1} → statement M
 pass-end-spec =

@@ -45,7 +45,7 @@ same-length : tie.Need-same-length Inv-loop μ-loop
 same-length c = let e = shift-long (c .before .before .before .before .before .before .before .before .before .pre) (c .before .before .before .before .before .before .loop .inv .1) in search needs
 
 returns : tie.Need-returns Inv-loop μ-loop
-returns c = shift-end (c .before .before .before .before .before .before .before .before .before .pre) (c .before .before .before .before .before .before .loop .inv .1) (omega (arith, c .before .before .before .before .before .before .loop .inv .0)) (c .before .before .shift-link .ensures)
+returns c = shift-end (c .before .before .before .before .before .before .before .before .before .pre) (c .before .before .before .before .before .before .loop .inv .1) (omega (arith, c .before .before .before .before .before .before .loop .inv .0)) (c .before .before .shift-link .ensures) (search needs)
 
 pub shift-chain-spec : {M : Type 1} → statement M
 shift-chain-spec =

@@ -6,7 +6,7 @@ use Rattle.shifting.proofs.chain.shift_link.Statement.{statement}
 use Rattle.shifting.proofs.chain.shift_link.Tie as tie
 
 returns : tie.Need-returns
-returns c = linked-none _ _ _ _ _ (c .if1 .taken)
+returns c = linked-none (c .before .before .args .slot .0) (c .before .before .args .key) (c .before .before .args .end) (c .before .before .args .mark) (c .before .before .args .table .now) (search needs)
 
 cast-due : tie.Need-cast-due
 cast-due c = search needs

@@ -31,7 +31,7 @@ returns c =
       c .before .read8 .ensures,
       c .read82 .ensures,
     )
-    (row-is _ _ _ _ _ (c .before .before .before .before .before .before .before .before .before .before .pre))
+    (search (row-is, c .before .before .before .before .before .before .before .before .before .before .pre))
 
 pub row-is-sound-spec : {M : Type 1} → statement M
 row-is-sound-spec =

@@ -1,7 +1,6 @@
 -- `round::sound::judge` meets its contract: each answer from what the tests on the way have shown. Assumes nothing.
 use mathlib.Core.Bool.{true}
-use mathlib.Core.Path.{_≡_, sym, ap, _∙_}
-use Prim.Native.Nat.{ℕ}
+use mathlib.Core.Path.{_≡_, sym, _∙_}
 use native.Mathlib.Omega.{arith}
 use lib.ListN.{length, drop}
 use borrow.Author.Needs.{needs}
@@ -28,8 +27,7 @@ fit c = rows-fit (read (c .before .before)) (head c)
 
 unused : (c : tie.After-zeros-from) →
     zeros (drop (row-at (c .before .before .before .before .before .before .read-head .result .used)) (c .before .before .before .before .before .before .before .before .before .before .args .table .now)) ≡ c .zeros-from .result
-unused c =
-    ap (λ (n : ℕ). zeros (drop n (c .before .before .before .before .before .before .before .before .before .before .args .table .now))) (sym (c .before .row-at .ensures)) ∙ sym (c .zeros-from .ensures)
+unused c = cc (c .before .row-at .ensures, c .zeros-from .ensures)
 
 length-is-good-requires : tie.Need-length-is-good-requires
 length-is-good-requires c κs = search needs
@@ -53,7 +51,7 @@ returns-3 : tie.Need-returns-3
 returns-3 c = refused-3 (read (c .before .before .before .before)) (rw (head (c .before .before), sym (c .before .rows-are-sound .ensures) ∙ not-true _ (c .if3 .taken)))
 
 row-at-requires : tie.Need-row-at-requires
-row-at-requires c κs = fit (c .before .before) .few
+row-at-requires c κs = omega (arith, fit (c .before .before) .few)
 
 zeros-from-requires : tie.Need-zeros-from-requires
 zeros-from-requires c κs = omega (arith, fit (c .before .before .before) .within, fit (c .before .before .before) .whole)

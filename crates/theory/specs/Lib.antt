@@ -55,3 +55,4 @@ pub mod Stays
 pub mod Digits
 pub mod Lines
 pub mod Flags
+pub mod PlayedOut

@@ -3,9 +3,9 @@ use mathlib.Core.Path.{_≡_, refl, ap, _∙_}
 use Prim.Native.Nat.{ℕ, _+_, _*_, _/_, _%_, _≤_, _<_}
 use native.Mathlib.Omega.{arith}
 use borrow.Author.Tests.{eq-eqb, ne-eqb}
-use Rattle.rules.specs.Calls.{Call, opening, taking, sending, marking, totalling, Out, silence, frame, kept-blank, ordinary, leap, Reply, refused, done, ticket, step, amount}
-use Rattle.station.specs.Packing.{pack-out, pack, out-in, step-in, accepted-in, unpack, value-place, out-place, leap-place, Fits-out, silence-fits, frame-fits, blank-fits}
-use Rattle.station.specs.Packing.{Fits, refusal-fits, opening-fits, taking-fits, ordinary-fits, leap-fits, mark-fits, total-fits, Unpacks}
+use Rattle.rules.specs.Calls.{Call, opening, taking, sending, marking, totalling, Out, silence, frame, kept-blank, ordinary, leap, Reply, refused, done, ticket, step, amount, blank-due}
+use Rattle.station.specs.Packing.{pack-out, pack, out-in, step-in, accepted-in, unpack, unpack-substitute, value-place, out-place, leap-place, Fits-out, silence-fits, frame-fits, blank-fits}
+use Rattle.station.specs.Packing.{refusal-fits, opening-fits, taking-fits, ordinary-fits, leap-fits, mark-fits, total-fits, Unpacks, Fits-substitute, refusal-stands, row-stands, blank-stands}
 
 -- a multiple of 2^8 is no refusal
 pub unpack-accepted : (c : Call) (n : ℕ) → n % 256 ≡ 0 → unpack c n ≡ accepted-in c n
@@ -64,3 +64,13 @@ unpacks sending (step (ordinary o)) (ordinary-fits f) = ordinary-back o f
 unpacks sending (step (leap o)) (leap-fits f) = leap-back o f
 unpacks (marking s) (amount n) (mark-fits h) = unpack-accepted (marking s) (256 * n) (omega arith) ∙ ap amount (omega arith)
 unpacks totalling (amount n) (total-fits h) = unpack-accepted totalling (256 * n) (omega arith) ∙ ap amount (omega arith)
+
+pub substitute-unpacks : (a : Reply) → Fits-substitute a → unpack-substitute (pack a) ≡ a
+unfolding unpack-substitute pack
+substitute-unpacks (refused n) (refusal-stands h k) = rw (ne-eqb (n % 256) 0 (λ z. omega (arith, z)))
+substitute-unpacks (ticket k) (row-stands h i) =
+    let e : 256 * k / 256 % 16777216 ≡ k = omega arith in
+    rw (eq-eqb (256 * k % 256) 0 (omega arith), e, ne-eqb k 0 (λ z. omega (arith, z)))
+substitute-unpacks (blank-due s) (blank-stands h) =
+    let e : 4294967296 * s / 4294967296 ≡ s = omega arith in
+    rw (eq-eqb (4294967296 * s % 256) 0 (omega arith), eq-eqb (4294967296 * s / 256 % 16777216) 0 (omega arith), e)

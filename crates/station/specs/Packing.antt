@@ -4,7 +4,7 @@ use mathlib.Core.Bool.{cond}
 use mathlib.Core.List.{List}
 use Prim.Native.Nat.{ℕ, zero, suc, _+_, _*_, _/_, _%_, _≤_, _<_}
 use lib.Dec.{eqb}
-use Rattle.rules.specs.Calls.{Call, opening, taking, sending, marking, totalling, Out, silence, frame, kept-blank, Step, ordinary, leap, Reply, refused, done, ticket, step, amount, blank-due, answer, left}
+use Rattle.rules.specs.Calls.{Call, opening, taking, sending, marking, totalling, Out, silence, frame, kept-blank, Step, ordinary, leap, Reply, refused, done, ticket, step, amount, blank-due, answer, left, substitute-answer}
 
 -- places: the refusal's number below 2^8, a ticket or an amount from there on, what went out from 2^32, a leap at 2^34
 abbrev pub value-place : ℕ
@@ -63,6 +63,12 @@ accepted-in totalling n = amount (n / value-place)
 unfoldable pub unpack : Call → ℕ → Reply
 unpack c n = cond (eqb (n % value-place) 0) (accepted-in c n) (refused n)
 
+-- a substitute: a blank where the ticket's place is 0, as no ticket is
+unfoldable pub unpack-substitute : ℕ → Reply
+unpack-substitute n =
+    let k = n / value-place % 16777216 in
+    cond (eqb (n % value-place) 0) (cond (eqb k 0) (blank-due (n / out-place)) (ticket k)) (refused n)
+
 -- THE BOUNDS of each call's replies
 pub data Fits-out : Out → Type 0 where
   silence-fits : Fits-out silence
@@ -78,9 +84,20 @@ pub data Fits : Call → Reply → Type 0 where
   mark-fits : {s n : ℕ} → n ≤ 16777216 → Fits (marking s) (amount n)
   total-fits : {n : ℕ} → n ≤ 17179869184 → Fits totalling (amount n)
 
+pub data Fits-substitute : Reply → Type 0 where
+  refusal-stands : {n : ℕ} → 1 ≤ n → n < value-place → Fits-substitute (refused n)
+  row-stands : {k : ℕ} → 1 ≤ k → k < 16777216 → Fits-substitute (ticket k)
+  blank-stands : {s : ℕ} → s < 65536 → Fits-substitute (blank-due s)
+
 -- OWED: within them unpacking undoes packing, and what an exported call answers is within them
 unfoldable pub Unpacks : Type 0
 Unpacks = (c : Call) (a : Reply) → Fits c a → unpack c (pack a) ≡ a
 
 unfoldable pub Answers-fit : Call → Type 0
 Answers-fit c = (t : List ℕ) → Fits c (answer c t)
+
+-- so every exported call's reply on any table is read back from its number
+unfoldable pub Replies-back : Type 0
+Replies-back =
+    ((c : Call) (t : List ℕ) → unpack c (pack (answer c t)) ≡ answer c t)
+    × ((k : ℕ) (t : List ℕ) → unpack-substitute (pack (substitute-answer k t)) ≡ substitute-answer k t)

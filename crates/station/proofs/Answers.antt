@@ -1,0 +1,104 @@
+-- What every exported call answers on any table is within the packing's bounds, so it is read back whole. Assumes nothing.
+use mathlib.Core.Logic.{inl, inr}
+use mathlib.Core.Bool.{Bool, true, false, _||_, cond}
+use mathlib.Core.List.{List, [], _∷_}
+use mathlib.Core.Option.{Option, none, some}
+use Prim.Native.Nat.{ℕ, _<_}
+use native.Mathlib.Omega.{arith}
+use lib.Dec.{eqb, ltb}
+use Rattle.rules.specs.Rows.{Row, Round, All}
+use Rattle.rules.specs.Plan.{plan, best, substitute, in-plan}
+use Rattle.rules.specs.Steps.{is-ordinary}
+use Rattle.rules.specs.Table.{round-in, table-refusal}
+use Rattle.rules.specs.Calls.{Call, opening, taking, sending, marking, totalling, Out, silence, frame, kept-blank, ordinary, leap, refused, ticket, step, blank-due, first, send-refusal, mark-refusal, table-first, round-refusal, refusal, out-of, says, answer, with-ticket, stand-in, substitute-answer}
+use Rattle.theory.specs.Tests.{eqb?, pick, positive}
+use Rattle.theory.specs.All.{all-of-in}
+use Rattle.theory.specs.Sane.{Sane, sound}
+use Rattle.station.specs.Packing.{Fits-out, silence-fits, frame-fits, blank-fits, Fits, ordinary-fits, leap-fits, mark-fits, total-fits, Answers-fit, Unpacks, Fits-substitute, refusal-stands, row-stands, blank-stands, Replies-back}
+use Rattle.station.proofs.Unpack.{unpacks, substitute-unpacks}
+use Rattle.station.proofs.Fitting.{small-or, small-first, small-table, answers-fit, first-none, opening-answers, taking-answers}
+use Rattle.station.proofs.Amounts.{total-most, mark-most}
+use Rattle.station.proofs.Within.{Within, best-within, substitute-within}
+
+-- A SENDING
+out-fits : (p : Row) → p .ticket < 16777216 → Fits-out (out-of p)
+unfolding out-of
+out-fits p h =
+    pick Fits-out (eqb (p .ticket) 0) silence _ (λ _. silence-fits)
+    (λ _. pick Fits-out (eqb (p .kind) 0) (frame (p .ticket)) (kept-blank (p .ticket)) (λ _. frame-fits h) (λ _. blank-fits h))
+
+step-fits : (b : Bool) (o : Out) → Fits-out o → Fits sending (step (cond b (ordinary o) (leap o)))
+step-fits true o f = ordinary-fits f
+step-fits false o f = leap-fits f
+
+small-send : (r : Round) → send-refusal r < 256
+unfolding send-refusal
+small-send r = small-or (ltb (r .last) (r .slot)) 5 0 (omega arith) (omega arith)
+
+pub sending-answers : Answers-fit sending
+unfolding Answers-fit refusal table-first round-refusal says
+sending-answers t =
+    answers-fit sending t (small-first _ _ (small-table t) (small-send (round-in t)))
+    (λ e. let s = sound t (first-none (table-refusal t) (send-refusal (round-in t)) e .0) .sane in
+    step-fits (is-ordinary (round-in t)) _ (out-fits (best (round-in t) (plan (round-in t))) (best-within (round-in t) s .0)))
+
+-- A MARK, a total
+small-mark : (r : Round) (s : ℕ) → mark-refusal r s < 256
+unfolding mark-refusal
+small-mark r s =
+    small-or (ltb (r .last) (r .slot)) 5 _ (omega arith)
+    (small-or (ltb s (r .slot) || ltb (r .last) s) 7 0 (omega arith) (omega arith))
+
+pub marking-answers : (s : ℕ) → Answers-fit (marking s)
+unfolding Answers-fit refusal table-first round-refusal says
+marking-answers s t =
+    answers-fit (marking s) t (small-first _ _ (small-table t) (small-mark (round-in t) s)) (λ _. mark-fits (mark-most (round-in t) s))
+
+pub totalling-answers : Answers-fit totalling
+unfolding Answers-fit refusal table-first round-refusal says
+totalling-answers t =
+    answers-fit totalling t (small-first _ _ (small-table t) (small-send (round-in t)))
+    (λ e. let s = sound t (first-none (table-refusal t) (send-refusal (round-in t)) e .0) .sane in
+    total-fits (total-most (round-in t) (s .fine) (omega (arith, s .size .long, s .size .room))))
+
+-- A SUBSTITUTE
+row-fits : (s : Row) → Within s → Fits-substitute (cond (eqb (s .ticket) 0) (blank-due (s .due)) (ticket (s .ticket)))
+row-fits s w = elim (eqb? (s .ticket) 0) [
+  | inl e ↦ rw (e .0) (blank-stands (w .1))
+  | inr e ↦ rw (e .0) (row-stands (positive (s .ticket) (e .1)) (w .0))
+]
+
+found-fits : (Q : Option Row → Type 0) (k : ℕ) (xs : List Row) → Q none → All (λ x. Q (some x)) xs → Q (with-ticket k xs)
+unfolding with-ticket
+found-fits Q k [] n a = n
+found-fits Q k (x ∷ xs) n a = pick Q (eqb (x .ticket) k) (some x) (with-ticket k xs) (λ _. a .0) (λ _. found-fits Q k xs n (a .1))
+
+stand-in-fits : (r : Round) → Sane r → (k : ℕ) → Fits-substitute (stand-in r (with-ticket k (r .rows)))
+unfolding stand-in
+stand-in-fits r s k =
+    found-fits (λ o. Fits-substitute (stand-in r o)) k (r .rows) (refusal-stands (omega arith) (omega arith))
+    (all-of-in (λ x. Fits-substitute (stand-in r (some x))) (r .rows) (λ x i.
+    pick Fits-substitute (in-plan x (plan r)) _ (refused 11)
+    (λ _. row-fits (substitute r (plan r) x) (substitute-within r s x i))
+    (λ _. refusal-stands (omega arith) (omega arith))))
+
+pub substitute-answers : (k : ℕ) (t : List ℕ) → Fits-substitute (substitute-answer k t)
+unfolding substitute-answer
+substitute-answers k t =
+    let n = first (table-refusal t) (send-refusal (round-in t)) in
+    elim (eqb? n 0) [
+      | inl e ↦ rw (e .0) (stand-in-fits (round-in t) (sound t (first-none (table-refusal t) (send-refusal (round-in t)) (e .1) .0) .sane) k)
+      | inr e ↦ rw (e .0) (refusal-stands {n = n} (positive n (e .1)) (small-first _ _ (small-table t) (small-send (round-in t))))
+    ]
+
+-- ALL SIX
+pub all-answers : (c : Call) → Answers-fit c
+all-answers (opening l) = opening-answers l
+all-answers (taking d w) = taking-answers d w
+all-answers sending = sending-answers
+all-answers (marking s) = marking-answers s
+all-answers totalling = totalling-answers
+
+pub replies-back : Replies-back
+unfolding Replies-back Answers-fit Unpacks
+replies-back = (λ c t. unpacks c (answer c t) (all-answers c t), λ k t. substitute-unpacks (substitute-answer k t) (substitute-answers k t))

@@ -1,0 +1,53 @@
+-- The rows of a sound round, its plan, its pick and its substitutes are within the packing's places: tickets of 24 bits, due slots of 16.
+-- Assumes nothing.
+use mathlib.Core.List.{List, [], _∷_}
+use Prim.Native.Nat.{ℕ, suc, _≤_, _<_}
+use native.Mathlib.Omega.{arith}
+use lib.Dec.{leb}
+use Rattle.rules.specs.Rows.{Row, Round, blank, All, In}
+use Rattle.rules.specs.Plan.{plan, first-end, segment-start, substitute, best}
+use Rattle.theory.specs.Tests.{pick}
+use Rattle.theory.specs.All.{all-in}
+use Rattle.theory.specs.Full.{Rising, Row-fine, plan-all}
+use Rattle.theory.specs.Back.{rising-le, outside-all, lightest-all, best-from-all}
+use Rattle.theory.specs.Tights.{segment-from-tight}
+use Rattle.theory.specs.Sane.{Sane}
+
+abbrev pub Within : Row → Type 0
+Within x = (x .ticket < 16777216) × (x .due < 65536)
+
+pub blank-within : (s : ℕ) → s < 65536 → Within (blank s)
+unfolding blank
+blank-within s h = (omega arith, h)
+
+pub some-within : (r : Round) (a : ℕ) (xs : List Row) → r .last ≤ 4095 → r .next ≤ 16777216 → All (Row-fine r) xs → Rising a (r .next) xs → All Within xs
+some-within r a [] h i f u = tt
+some-within r a (x ∷ xs) h i f u = (
+  (omega (arith, i, rising-le (suc (x .ticket)) (r .next) xs (u .1)), omega (arith, h, f .0 .1)),
+  some-within r (suc (x .ticket)) xs h i (f .1) (u .1),
+)
+
+module _ (r : Round) (s : Sane r) where
+  pub rows-within : All Within (r .rows)
+  rows-within = some-within r 1 (r .rows) (s .size .last) (s .size .next) (s .fine .fine) (s .fine .rising)
+
+  pub plan-within : All Within (plan r)
+  plan-within = plan-all Within r rows-within (λ d h k. blank-within d (omega (arith, k, s .size .last)))
+
+  best-of : (ps : List Row) → All Within ps → Within (best r ps)
+  unfolding best
+  best-of [] a = blank-within (r .slot) (omega (arith, s .fine .time, s .size .last))
+  best-of (p ∷ ps) a = best-from-all Within r (p ∷ ps) ps p (a .0) (a .1)
+
+  pub best-within : Within (best r (plan r))
+  best-within = best-of (plan r) plan-within
+
+  pub substitute-within : (p : Row) → In p (r .rows) → Within (substitute r (plan r) p)
+  unfolding substitute
+  substitute-within p i =
+      let d = all-in (Row-fine r) p (r .rows) (s .fine .fine) i in
+      let b = segment-start r (plan r) (p .due) in
+      let z = segment-from-tight r (s .fine) (p .due) (d .0) (d .1) .1 in
+      pick Within (leb (p .due) (first-end r (plan r))) _ _
+      (λ _. lightest-all Within (first-end r (plan r)) (plan r) p (all-in Within p (r .rows) rows-within i) plan-within)
+      (λ _. outside-all Within b (plan r) (r .rows) (blank b) (blank-within b (omega (arith, z, d .1, s .size .last))) rows-within)

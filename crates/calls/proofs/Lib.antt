@@ -8,3 +8,4 @@ pub mod Taken
 pub mod Readings
 pub mod ListFilled
 pub mod Listings
+pub mod EntriesFit

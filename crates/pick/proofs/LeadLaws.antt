@@ -6,10 +6,10 @@ use mathlib.Core.List.{List}
 use Prim.Native.Nat.{ℕ, suc, _+_, _-_, _/_, _≤_, _<_}
 use native.Mathlib.Omega.{arith}
 use lib.ListN.{length}
-use borrow.Author.Tests.{le-leb, lt-leb, eq-eqb, ne-eqb}
+use borrow.Author.Tests.{leb-true, leb-false, le-leb, lt-leb, eq-eqb, ne-eqb}
 use Rattle.rules.specs.Rows.{Row, Round, blank, heavier, In}
 use Rattle.rules.specs.PlanM.{score}
-use Rattle.theory.specs.Tests.{leb?, ltb?, eqb?}
+use Rattle.theory.specs.Tests.{either, ltb?, eqb?}
 use Rattle.theory.specs.Keys.{key, getD-in}
 use Rattle.theory.specs.Score.{score-of}
 use Rattle.theory.specs.Near.{far-score}
@@ -77,9 +77,9 @@ takes? l n h = elim (eqb? (n .other) (l .other)) [
     | inl a ↦ inl (rw (e .0, a .0), omega (arith, ap (λ (v : ℕ). v / 4194304) (e .1), a .1))
     | inr a ↦ inr (rw (e .0, a .0), omega (arith, ap (λ (v : ℕ). v / 4194304) (e .1), h (a .1)))
   ]
-  | inr e ↦ elim (leb? (leader-score l) (leader-score n)) [
-    | inl a ↦ inl (rw (e .0, a .0), a .1)
-    | inr a ↦ inr (rw (e .0, a .0), a .1)
+  | inr e ↦ elim (either (takes-lead l n)) [
+    | inl a ↦ inl (a, omega (arith, leb-true, rw (e .0) at a))
+    | inr a ↦ inr (a, omega (arith, leb-false, rw (e .0) at a))
   ]
 ]
 

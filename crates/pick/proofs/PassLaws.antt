@@ -8,7 +8,7 @@ use native.Mathlib.Omega.{arith}
 use lib.ListN.{length, getD}
 use Rattle.rules.specs.Rows.{Row, Round, In}
 use Rattle.rules.specs.PlanM.{score}
-use Rattle.theory.specs.Tests.{eqb?}
+use Rattle.theory.specs.Tests.{eqb?, leb?}
 use Rattle.theory.specs.Sum.{sum}
 use Rattle.theory.specs.Feas.{below, below-yes}
 use Rattle.theory.specs.Change.{in-sum}
@@ -20,7 +20,7 @@ use Rattle.tally.specs.Near.{before}
 use Rattle.tally.specs.Tally.{kept-key, left-key, Tallied}
 use Rattle.pick.specs.Lead.{Greatest, leader-score, Fair, takes-lead, Least-by, Alone}
 use Rattle.pick.specs.Peak.{Peak}
-use Rattle.pick.specs.Choice.{leap-of, Picked}
+use Rattle.pick.specs.Choice.{decided, Picked}
 use Rattle.tally.specs.declared.near.Reach.{Reach}
 use Rattle.pick.specs.declared.lead.Leader.{Leader}
 use Rattle.pick.specs.declared.choice.Pick.the-variants.{First, Far}
@@ -208,13 +208,14 @@ module _ (r : Round) (fs cs ks ls : List ℕ) (x : Reach) (s : Scene r fs x) (w 
       pub least-here : Least-by r fs (r .slot + (e - 1)) m
       least-here = subst (λ (v : ℕ). Least-by r fs (v + (e - 1)) m) f t
 
-      pub pick-first : leader-score l ≤ score (k2 / 4194304) m → Picked r fs (x .free) (First k2)
-      pick-first q =
-          first-goes r fs x s l e k2 (first-row .0) m (omega (arith, p .by, p .low)) (p .near) first-whole (first-row .1) least-here (fronts r fs x s (x .free) (r .slot + e) l (p .led)) q
-
-      pub pick-leap : score (k2 / 4194304) m < leader-score l → Picked r fs (x .free) (leap-of l (x .free))
-      pick-leap q =
-          leap-goes r fs x s l e k2 (first-row .0) m (omega (arith, p .by, p .low)) (p .near) first-whole (first-row .1) least-here (p .led) q
+      pub pick-decided : (n : ℕ) → n ≡ score (k2 / 4194304) m → Picked r fs (x .free) (decided k2 n l (x .free))
+      pick-decided n q = elim (leb? (leader-score l) n) [
+        | inl y ↦
+            rw (y .0) (first-goes r fs x s l e k2 (first-row .0) m (omega (arith, p .by, p .low)) (p .near) first-whole (first-row .1) least-here
+            (fronts r fs x s (x .free) (r .slot + e) l (p .led)) (omega (arith, y .1, q)))
+        | inr y ↦
+            rw (y .0) (leap-goes r fs x s l e k2 (first-row .0) m (omega (arith, p .by, p .low)) (p .near) first-whole (first-row .1) least-here (p .led) (omega (arith, y .1, q)))
+      ]
 
   pub pick-far : (top k : ℕ) → top ≡ top-of r → Greatest ks (x .free) top k → x .free ≡ 0 → 1 ≤ length (r .rows) → Picked r fs (x .free) (Far k)
   pick-far top k d e z n = far-goes r fs x s k z n (far-peak top k d e)

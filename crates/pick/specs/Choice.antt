@@ -11,6 +11,7 @@ use Rattle.theory.specs.Flags.{with-flag}
 use Rattle.theory.specs.Segments.{Segment}
 use Rattle.theory.specs.Lead.{Leads}
 use Rattle.tally.specs.Rows.{at, key-at}
+use Rattle.pick.specs.Lead.{leader-score}
 use Rattle.pick.specs.declared.lead.Leader.{Leader}
 use Rattle.pick.specs.declared.choice.Pick.{Pick}
 use Rattle.pick.specs.declared.choice.Pick.the-variants.{First, Far, Kept, Swapped}
@@ -20,6 +21,10 @@ abbrev pub leap-of : Leader → (free : ℕ) → Pick
 leap-of l z =
     cond (leb z (l .first)) (Far (l .key))
     (cond (eqb (l .other) 0) (Kept (l .key) (l .first) (l .last)) (Swapped (l .key) (l .first) (l .last) (l .other)))
+
+-- the first segment's row, by its key k and score n, or that leap
+abbrev pub decided : (k n : ℕ) → Leader → (free : ℕ) → Pick
+decided k n l z = cond (leb (leader-score l) n) (First k) (leap-of l z)
 
 -- row i, whose key is k, leads all rows of the plan
 pub record Leading (r : Round) (rs : List Row) (k i : ℕ) : Type 0 where

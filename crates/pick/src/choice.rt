@@ -6,7 +6,8 @@ ghost use Rattle.theory.specs.Flags.{Chosen};
 ghost use Rattle.tally.specs.Rows.{Ready};
 ghost use Rattle.tally.specs.Near.{Reaches};
 ghost use Rattle.tally.specs.Tally.{Tallied};
-ghost use Rattle.pick.specs.Choice.{leap-of, Picked};
+ghost use Rattle.pick.specs.Lead.{Fair};
+ghost use Rattle.pick.specs.Choice.{leap-of, decided, Picked};
 use crate::lead::Leader;
 use crate::lead::first_mark;
 use crate::lead::leader_score;
@@ -66,6 +67,17 @@ fn leap(lead: Leader, free: usize) -> Pick
     }
 }
 
+// The first segment's row goes, unless the leader of the others has the greater score.
+fn decide(first: u64, score: u64, lead: Leader, free: usize) -> Pick
+    requires { ⌜ Fair lead ⌝ }
+    ensures { λ r. ⌜ r ≡ decided first score lead free ⌝ }
+{
+    if leader_score(lead) <= score {
+        return Pick::First { key: first };
+    }
+    leap(lead, free)
+}
+
 // Which row goes, by what reach_of and tally found.
 pub fn choose(
     table: &[u8],
@@ -115,8 +127,5 @@ pub fn choose(
     }
     let first = larger(key, kept[0]);
     let mark = first_mark(table, flags, round, first, end);
-    if leader_score(lead) <= score_of(weight_of(first), mark) {
-        return Pick::First { key: first };
-    }
-    leap(lead, free)
+    decide(first, score_of(weight_of(first), mark), lead, free)
 }

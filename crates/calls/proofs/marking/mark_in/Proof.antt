@@ -21,7 +21,7 @@ mark-ahead-requires : tie.Need-mark-ahead-requires
 mark-ahead-requires c κs = search needs
 
 returns-4 : tie.Need-returns-4
-returns-4 c = mark-said (c .before .before .before .before .before .before .before .before .before .before .args .slot .0) (c .before .before .before .before .before .before .before .before .before .before .args .table .now) (c .mark-ahead .result) (c .mark-ahead .ensures) (mark-asked (c .before .before .before .before .before .before .before .before .before .before .args .table .now) (c .before .before .before .before .before .before .before .before .before .before .args .round) (c .before .before .before .before .before .before .before .before .before .before .pre .0) (c .before .before .before .before .before .before .before .before .before .before .pre .1) (c .before .before .before .before .before .before .before .before .before .before .args .slot .0) (omega arith) (omega arith) (omega arith))
+returns-4 c = mark-said (c .before .before .before .before .before .before .before .before .before .before .args .slot .0) (c .before .before .before .before .before .before .before .before .before .before .args .table .now) (c .mark-ahead .result) (cc (c .mark-ahead .ensures)) (mark-asked (c .before .before .before .before .before .before .before .before .before .before .args .table .now) (c .before .before .before .before .before .before .before .before .before .before .args .round) (c .before .before .before .before .before .before .before .before .before .before .pre .0) (c .before .before .before .before .before .before .before .before .before .before .pre .1) (c .before .before .before .before .before .before .before .before .before .before .args .slot .0) (omega arith) (omega arith) (omega arith))
 
 pub mark-in-spec : {M : Type 1} → statement M
 mark-in-spec = tie.close (tie.spec returns returns-2 returns-3 mark-ahead-requires returns-4)

@@ -8,10 +8,10 @@ out-of-requires : tie.Need-out-of-requires
 out-of-requires c κs = search needs
 
 returns : tie.Need-returns
-returns c = step-leap (c .before .before .args .went) _ (c .before .out-of .ensures) (c .if1 .taken)
+returns c = cc (step-leap (c .before .before .args .went) _ (c .before .out-of .ensures) (c .if1 .taken))
 
 returns-2 : tie.Need-returns-2
-returns-2 c = step-ordinary (c .before .before .args .went) _ (c .before .out-of .ensures) (c .if1 .left)
+returns-2 c = cc (step-ordinary (c .before .before .args .went) _ (c .before .out-of .ensures) (c .if1 .left))
 
 pub step-of-spec : {M : Type 1} → statement M
 step-of-spec = tie.close (tie.spec out-of-requires returns returns-2)

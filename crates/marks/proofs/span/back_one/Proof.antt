@@ -8,13 +8,13 @@ add-waiting : tie.Need-add-waiting
 add-waiting c = search needs
 
 returns : tie.Need-returns
-returns c = simp (le-leb _ _ (c .if1 .taken))
+returns c = search (le-leb, c .if1 .taken)
 
 sub-t6 : tie.Need-sub-t6
 sub-t6 c = search needs
 
 returns-2 : tie.Need-returns-2
-returns-2 c = simp (lt-leb _ _ (c .if1 .left))
+returns-2 c = search (lt-leb, c .if1 .left)
 
 pub back-one-spec : {M : Type 1} → statement M
 back-one-spec = tie.close (tie.spec add-waiting returns sub-t6 returns-2)

@@ -21,8 +21,8 @@ best-offer-requires c κs = search needs
 returns : tie.Need-returns
 returns c =
     let s = c .before .before .before .before .before .before .before in
-    blank-is _ _ _ _ _ _ _ (s .pre .0) (s .pre .1) (s .pre .2) (s .pre .3) (c .before .before .before .before .due-at .ensures)
-    (c .before .before .before .span-of .ensures) (c .before .before .best-offer .ensures) (c .if1 .taken)
+    cc (blank-is _ _ _ _ _ _ _ (s .pre .0) (s .pre .1) (s .pre .2) (s .pre .3) (c .before .before .before .before .due-at .ensures)
+    (c .before .before .before .span-of .ensures) (c .before .before .best-offer .ensures) (c .if1 .taken))
 
 returns-2 : tie.Need-returns-2
 returns-2 c =

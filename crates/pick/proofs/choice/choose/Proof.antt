@@ -1,13 +1,14 @@
 -- `pick::choice::choose` meets its contract: the loop is `Passing` over the segments. Assumes nothing.
-use mathlib.Core.Path.{sym, _∙_}
-use mathlib.Core.Bool.{true, false}
+use mathlib.Core.Path.{_≡_, sym, _∙_}
+use mathlib.Core.Bool.{Bool, true, false, cond}
 use Prim.Native.Nat.{_-_, _≤_}
 use borrow.Author.Needs.{needs}
 use native.Mathlib.Omega.{arith}
 use Rattle.rules.specs.Table.{round-in}
 use Rattle.tally.proofs.NearLaws.{top-is}
 use Rattle.tally.proofs.RowLaws.{known}
-use Rattle.pick.proofs.PassLaws.{Passing, pass-start, pass-index, pass-under, pass-fair, pass-lead, pass-on, first-index, first-fair, first-alone, pick-first, pick-leap, pick-far}
+use Rattle.pick.proofs.LeadLaws.{made}
+use Rattle.pick.proofs.PassLaws.{Passing, pass-start, pass-index, pass-under, pass-fair, pass-lead, pass-on, first-index, first-fair, first-alone, pick-decided, pick-far}
 use Rattle.pick.proofs.SceneLaws.{scene}
 use Rattle.pick.proofs.choice.choose.Statement.{statement}
 use Rattle.pick.proofs.choice.choose.Tie as tie
@@ -126,49 +127,37 @@ takes-requires c κs =
     let pre = c .before .before .before .before .before .before .before .before .before .before .before .before .before .before .pre in
     let loop = c .before .before .before .before .before .before .before .before .loop in
     let loop-test = c .before .before .before .before .before .before .before .loop-test in
-    let wide = c .before .before .before .before .before .wide in
-    let larger = c .before .before .before .larger in
-    let larger2 = c .before .larger2 in
-    let if2 = c .if2 in
     let s = scene _ _ _ _ (pre .0) (pre .2) (pre .4) in
-    pass-fair _ _ _ _ _ _ s (pre .3) _ _ _ _ _ _ (loop .inv) (loop-test .taken) _ (wide .ensures .0) _ _ (larger .ensures) (larger2 .ensures) (if2
-    .taken)
+    pass-fair _ _ _ _ _ _ s (pre .3) _ _ _ _ _ _ (loop .inv) (loop-test .taken) _ (c .before .before .before .before .before .wide .ensures .0) _ _
+    (c .before .before .before .larger .ensures) (c .before .larger2 .ensures) (c .if2 .taken)
+
+-- a segment is whole, and its row takes the lead or not
+segment-passed : (c : tie.After-takes Inv-loop μ-loop) (t : Bool) → c .takes .result ≡ t →
+    let args = c .before .before .before .before .before .before .before .before .before .before .before .before .before .before .before .args in
+    let loop = c .before .before .before .before .before .before .before .before .before .loop in
+    let key = c .before .before .before .before .larger .result in
+    let other = c .before .before .larger2 .result in
+    Passing (round-in (args .table .now)) (args .flags .now) (args .reach .free) (cond t (made key (loop .s - 1) (loop .end - 1) other) (loop .lead))
+    (loop .s - 1) (loop .s - 1) (loop .under - c .before .before .before .before .before .before .wide .result) 0 other
+segment-passed c t e =
+    let pre = c .before .before .before .before .before .before .before .before .before .before .before .before .before .before .before .pre in
+    let loop = c .before .before .before .before .before .before .before .before .before .loop in
+    let loop-test = c .before .before .before .before .before .before .before .before .loop-test in
+    let s = scene _ _ _ _ (pre .0) (pre .2) (pre .4) in
+    pass-lead _ _ _ _ _ _ s (pre .3) _ _ _ _ _ _ (loop .inv) (loop-test .taken) _ (c .before .before .before .before .before .before .wide .ensures .0) _ _
+    (c .before .before .before .before .larger .ensures) (c .before .before .larger2 .ensures) (c .before .if2 .taken) t (sym (c .takes .ensures) ∙ e)
 
 loop-less : tie.Need-loop-less Inv-loop μ-loop
 loop-less c = omega (arith, c .before .before .before .before .before .before .before .before .before .loop-test .taken)
 
 loop-again : tie.Need-loop-again Inv-loop μ-loop
-loop-again c =
-    let pre = c .before .before .before .before .before .before .before .before .before .before .before .before .before .before .before .before .pre in
-    let loop = c .before .before .before .before .before .before .before .before .before .before .loop in
-    let loop-test = c .before .before .before .before .before .before .before .before .before .loop-test in
-    let wide = c .before .before .before .before .before .before .before .wide in
-    let larger = c .before .before .before .before .before .larger in
-    let larger2 = c .before .before .before .larger2 in
-    let if2 = c .before .before .if2 in
-    let takes = c .before .takes in
-    let if3 = c .if3 in
-    let s = scene _ _ _ _ (pre .0) (pre .2) (pre .4) in
-    pass-lead _ _ _ _ _ _ s (pre .3) _ _ _ _ _ _ (loop .inv) (loop-test .taken) _ (wide .ensures .0) _ _ (larger .ensures) (larger2 .ensures) (if2
-    .taken) true (sym (takes .ensures) ∙ if3 .taken)
+loop-again c = segment-passed (c .before) true (c .if3 .taken)
 
 loop-less-2 : tie.Need-loop-less-2 Inv-loop μ-loop
 loop-less-2 c = omega (arith, c .before .before .before .before .before .before .before .before .before .loop-test .taken)
 
 loop-again-2 : tie.Need-loop-again-2 Inv-loop μ-loop
-loop-again-2 c =
-    let pre = c .before .before .before .before .before .before .before .before .before .before .before .before .before .before .before .before .pre in
-    let loop = c .before .before .before .before .before .before .before .before .before .before .loop in
-    let loop-test = c .before .before .before .before .before .before .before .before .before .loop-test in
-    let wide = c .before .before .before .before .before .before .before .wide in
-    let larger = c .before .before .before .before .before .larger in
-    let larger2 = c .before .before .before .larger2 in
-    let if2 = c .before .before .if2 in
-    let takes = c .before .takes in
-    let if3 = c .if3 in
-    let s = scene _ _ _ _ (pre .0) (pre .2) (pre .4) in
-    pass-lead _ _ _ _ _ _ s (pre .3) _ _ _ _ _ _ (loop .inv) (loop-test .taken) _ (wide .ensures .0) _ _ (larger .ensures) (larger2 .ensures) (if2
-    .taken) false (sym (takes .ensures) ∙ if3 .left)
+loop-again-2 c = segment-passed (c .before) false (c .if3 .left)
 
 loop-less-3 : tie.Need-loop-less-3 Inv-loop μ-loop
 loop-less-3 c = omega (arith, c .before .before .before .before .before .before .before .loop-test .taken)
@@ -178,13 +167,9 @@ loop-again-3 c =
     let pre = c .before .before .before .before .before .before .before .before .before .before .before .before .before .before .pre in
     let loop = c .before .before .before .before .before .before .before .before .loop in
     let loop-test = c .before .before .before .before .before .before .before .loop-test in
-    let wide = c .before .before .before .before .before .wide in
-    let larger = c .before .before .before .larger in
-    let larger2 = c .before .larger2 in
-    let if2 = c .if2 in
     let s = scene _ _ _ _ (pre .0) (pre .2) (pre .4) in
-    pass-on _ _ _ _ _ _ s (pre .3) _ _ _ _ _ _ (loop .inv) (loop-test .taken) _ (wide .ensures .0) _ _ (larger .ensures) (larger2 .ensures) (if2
-    .left)
+    pass-on _ _ _ _ _ _ s (pre .3) _ _ _ _ _ _ (loop .inv) (loop-test .taken) _ (c .before .before .before .before .before .wide .ensures .0) _ _
+    (c .before .before .before .larger .ensures) (c .before .larger2 .ensures) (c .if2 .left)
 
 element-copy-out-larger-3 : tie.Need-element-copy-out-larger-3 Inv-loop μ-loop
 element-copy-out-larger-3 c = search needs
@@ -208,59 +193,38 @@ first-mark-requires c κs =
           ((known _ _ (pre .0)) .slot),
     )
 
-leader-score-requires : tie.Need-leader-score-requires Inv-loop μ-loop
-leader-score-requires c κs = c .before .before .before .before .loop .inv .led .fair
-
 weight-of-requires : tie.Need-weight-of-requires Inv-loop μ-loop
 weight-of-requires c κs = search needs
 
 score-of-requires : tie.Need-score-of-requires Inv-loop μ-loop
 score-of-requires c κs =
-    let pre = c .before .before .before .before .before .before .before .before .before .before .before .before .pre in
-    let loop = c .before .before .before .before .before .before .loop in
-    let loop-test = c .before .before .before .before .before .loop-test in
-    let larger3 = c .before .before .before .larger3 in
+    let pre = c .before .before .before .before .before .before .before .before .before .before .before .pre in
+    let loop = c .before .before .before .before .before .loop in
+    let loop-test = c .before .before .before .before .loop-test in
+    let larger3 = c .before .before .larger3 in
     let weight-of = c .weight-of in
-    let first-mark = c .before .before .first-mark in
+    let first-mark = c .before .first-mark in
     let s = scene _ _ _ _ (pre .0) (pre .2) (pre .4) in (
       omega (arith, first-fair _ _ _ _ _ _ s (pre .3) _ _ _ _ _ _ (loop .inv) (loop-test .left) _ (larger3 .ensures), weight-of .ensures),
       first-mark
           .ensures .most,
     )
 
+decide-requires : tie.Need-decide-requires Inv-loop μ-loop
+decide-requires c κs = c .before .before .before .before .before .before .loop .inv .led .fair
+
 returns-2 : tie.Need-returns-2 Inv-loop μ-loop
 returns-2 c =
-    let pre = c .before .before .before .before .before .before .before .before .before .before .before .before .before .before .pre in
-    let loop = c .before .before .before .before .before .before .before .before .loop in
-    let loop-test = c .before .before .before .before .before .before .before .loop-test in
-    let larger3 = c .before .before .before .before .before .larger3 in
-    let first-mark = c .before .before .before .before .first-mark in
-    let if4 = c .if4 in
-    let leader-score = c .before .before .before .leader-score in
-    let score-of = c .before .score-of in
+    let pre = c .before .before .before .before .before .before .before .before .before .before .before .before .before .pre in
+    let loop = c .before .before .before .before .before .before .before .loop in
+    let loop-test = c .before .before .before .before .before .before .loop-test in
+    let larger3 = c .before .before .before .before .larger3 in
+    let first-mark = c .before .before .before .first-mark in
     let weight-of = c .before .before .weight-of in
+    let score-of = c .before .score-of in
     let s = scene _ _ _ _ (pre .0) (pre .2) (pre .4) in
-    pick-first _ _ _ _ _ _ s (pre .3) _ _ _ _ _ _ (loop .inv) (loop-test .left) _ (larger3 .ensures) _ _ ((known _ _ (pre .0)) .slot) (first-mark
-    .ensures) (omega (arith, if4 .taken, leader-score .ensures, score-of .ensures, weight-of .ensures))
-
-leap-requires : tie.Need-leap-requires Inv-loop μ-loop
-leap-requires c κs = search needs
-
-returns-3 : tie.Need-returns-3 Inv-loop μ-loop
-returns-3 c =
-    let pre = c .before .before .before .before .before .before .before .before .before .before .before .before .before .before .before .pre in
-    let leap = c .leap in
-    let loop = c .before .before .before .before .before .before .before .before .before .loop in
-    let loop-test = c .before .before .before .before .before .before .before .before .loop-test in
-    let larger3 = c .before .before .before .before .before .before .larger3 in
-    let first-mark = c .before .before .before .before .before .first-mark in
-    let if4 = c .before .if4 in
-    let leader-score = c .before .before .before .before .leader-score in
-    let score-of = c .before .before .score-of in
-    let weight-of = c .before .before .before .weight-of in
-    let s = scene _ _ _ _ (pre .0) (pre .2) (pre .4) in
-    rw (leap .ensures) (pick-leap _ _ _ _ _ _ s (pre .3) _ _ _ _ _ _ (loop .inv) (loop-test .left) _ (larger3 .ensures) _ _
-    ((known _ _ (pre .0)) .slot) (first-mark .ensures) (omega (arith, if4 .left, leader-score .ensures, score-of .ensures, weight-of .ensures)))
+    rw (c .decide .ensures) (pick-decided _ _ _ _ _ _ s (pre .3) _ _ _ _ _ _ (loop .inv) (loop-test .left) _ (larger3 .ensures) _ _
+    ((known _ _ (pre .0)) .slot) (first-mark .ensures) _ (omega (arith, score-of .ensures, weight-of .ensures)))
 
 pub choose-spec : {M : Type 1} → statement M
 choose-spec =
@@ -294,9 +258,7 @@ choose-spec =
     element-copy-out-larger-3
     larger-requires-3
     first-mark-requires
-    leader-score-requires
     weight-of-requires
     score-of-requires
-    returns-2
-    leap-requires
-    returns-3)
+    decide-requires
+    returns-2)

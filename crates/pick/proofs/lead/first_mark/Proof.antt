@@ -39,7 +39,7 @@ cast-result : tie.Need-cast-result
 cast-result c = search needs
 
 returns-2 : tie.Need-returns-2
-returns-2 c = c .least-by .ensures
+returns-2 c = search (c .least-by .ensures)
 
 pub first-mark-spec : {M : Type 1} → statement M
 first-mark-spec =

@@ -1,8 +1,9 @@
 -- `pick::whole::choose_all` meets its contract: the first segment, what is gathered, and the leap (`WholeLaws`). Assumes nothing.
-use mathlib.Core.Path.{refl}
-use Prim.Native.Nat.{_+_}
+use mathlib.Core.Path.{_≡_, refl}
+use Prim.Native.Nat.{_+_, _-_, _/_}
 use native.Mathlib.Omega.{arith}
 use borrow.Author.Needs.{needs}
+use Rattle.rules.specs.PlanM.{score}
 use Rattle.tally.proofs.RowLaws.{known}
 use Rattle.pick.proofs.WholeLaws.{whole-scene, free-few, counts-edge, first-stretch, light-some, fair-all, all-far, all-first, goes-from, leaps-all}
 use Rattle.pick.proofs.whole.choose_all.Statement.{statement}
@@ -97,21 +98,26 @@ score-of-requires-2 c κs =
           (arith, light-some _ _ s (stretch-of .result .last + 1) (omega arith) (omega (arith, stretch-of .ensures .near)) g _ (omega (arith, f)) _ (gather2 .ensures) .0),
     )
 
+-- the two scores
+scores : (c : tie.After-score-of2) →
+    let rows = c .before .before .before .before .before .gather2 .result in
+    (c .before .before .score-of .result ≡ score (rows .later / 4194304) 0) × (c .score-of2 .result ≡ score (rows .first / 4194304) (16777217 - rows .light))
+scores c = (
+  omega (arith, c .before .before .score-of .ensures, c .before .before .before .weight-of .ensures),
+  omega (arith, c .score-of2 .ensures, c .before .weight-of2 .ensures),
+)
+
 returns-2 : tie.Need-returns-2
 returns-2 c =
     let pre = c .before .before .before .before .before .before .before .before .before .before .before .pre in
     let stretch-of = c .before .before .before .before .before .before .before .before .stretch-of in
     let gather2 = c .before .before .before .before .before .before .gather2 in
     let if2 = c .if2 in
-    let score-of = c .before .before .before .score-of in
-    let score-of2 = c .before .score-of2 in
-    let weight-of = c .before .before .before .before .weight-of in
-    let weight-of2 = c .before .before .weight-of2 in
     let s = whole-scene _ _ _ (pre .0) (pre .3) (pre .4) in
     let g = first-stretch _ _ s _ (pre .2) _ (stretch-of .ensures) in
     let f = (known _ _ (pre .0) .slot) in
     all-first _ _ s (stretch-of .result .last + 1) (omega arith) (omega (arith, stretch-of .ensures .near)) g _ (omega (arith, f)) _ (gather2
-    .ensures) (omega (arith, if2 .taken, score-of .ensures, score-of2 .ensures, weight-of .ensures, weight-of2 .ensures))
+    .ensures) (omega (arith, if2 .taken, scores (c .before)))
 
 later-leap-requires : tie.Need-later-leap-requires
 later-leap-requires c κs =
@@ -119,15 +125,11 @@ later-leap-requires c κs =
     let stretch-of = c .before .before .before .before .before .before .before .before .stretch-of in
     let gather2 = c .before .before .before .before .before .before .gather2 in
     let if2 = c .if2 in
-    let score-of = c .before .before .before .score-of in
-    let score-of2 = c .before .score-of2 in
-    let weight-of = c .before .before .before .before .weight-of in
-    let weight-of2 = c .before .before .weight-of2 in
     let s = whole-scene _ _ _ (pre .0) (pre .3) (pre .4) in
     let g = first-stretch _ _ s _ (pre .2) _ (stretch-of .ensures) in
     let f = (known _ _ (pre .0) .slot) in (
       goes-from _ _ s (stretch-of .result .last + 1) (omega arith) (omega (arith, stretch-of .ensures .near)) g _ (omega (arith, f)) _
-          (gather2 .ensures) (omega (arith, if2 .left, score-of .ensures, score-of2 .ensures, weight-of .ensures, weight-of2 .ensures)) _ f .0,
+          (gather2 .ensures) (omega (arith, if2 .left, scores (c .before))) _ f .0,
       free-few _
           _ s,
       counts-edge _ _ s _ (pre .2),
@@ -139,17 +141,13 @@ returns-3 c =
     let stretch-of = c .before .before .before .before .before .before .before .before .before .stretch-of in
     let gather2 = c .before .before .before .before .before .before .before .gather2 in
     let if2 = c .before .if2 in
-    let score-of = c .before .before .before .before .score-of in
-    let score-of2 = c .before .before .score-of2 in
-    let weight-of = c .before .before .before .before .before .weight-of in
-    let weight-of2 = c .before .before .before .weight-of2 in
     let args = c .before .before .before .before .before .before .before .before .before .before .before .before .args in
     let later-leap = c .later-leap in
     let s = whole-scene _ _ _ (pre .0) (pre .3) (pre .4) in
     let g = first-stretch _ _ s _ (pre .2) _ (stretch-of .ensures) in
     let f = (known _ _ (pre .0) .slot) in
     leaps-all _ _ s (stretch-of .result .last + 1) (omega arith) (omega (arith, stretch-of .ensures .near)) g _ (omega (arith, f)) _ (gather2
-    .ensures) (omega (arith, if2 .left, score-of .ensures, score-of2 .ensures, weight-of .ensures, weight-of2 .ensures)) (args .counts .now)
+    .ensures) (omega (arith, if2 .left, scores (c .before .before))) (args .counts .now)
     (stretch-of .result) (args .round .slot .0) (later-leap .result) (pre .2) (stretch-of .ensures) refl f (later-leap .ensures)
 
 pub choose-all-spec : {M : Type 1} → statement M

@@ -1,5 +1,6 @@
 -- `station::packing::pack_taken` meets its contract. Assumes nothing.
-use mathlib.Core.Path.{sym, ap}
+use mathlib.Core.Path.{ap}
+use native.Mathlib.Omega.{arith}
 use Rattle.calls.specs.Replies.{of-taken}
 use Rattle.station.specs.Packing.{pack}
 use borrow.Author.Needs.{needs}
@@ -23,11 +24,11 @@ cast-result-2 c = search needs
 
 returns : tie.Need-returns
 unfolding pack
-returns c = sym (ap (λ x. pack (of-taken x)) (c .before .before .reply .given .1))
+returns c = omega (arith, ap (λ x. pack (of-taken x)) (c .before .before .reply .given .1))
 
 returns-2 : tie.Need-returns-2
 unfolding pack
-returns-2 c = sym (ap (λ x. pack (of-taken x)) (c .before .reply2 .given .1))
+returns-2 c = omega (arith, ap (λ x. pack (of-taken x)) (c .before .reply2 .given .1))
 
 pub pack-taken-spec : {M : Type 1} → statement M
 pack-taken-spec =

@@ -3,7 +3,7 @@ use Rattle.calls.specs.Asking.{of-totalled}
 use Rattle.station.specs.Packing.{pack, Small}
 use Prim.Native.Nat.{ℕ, _≤_}
 use native.Mathlib.Omega.{arith}
-use mathlib.Core.Path.{sym, ap, subst, _∙_}
+use mathlib.Core.Path.{ap, subst}
 use borrow.Author.Needs.{needs}
 use Rattle.station.proofs.packing.pack_totalled.Statement.{statement}
 use Rattle.station.proofs.packing.pack_totalled.Tie as tie
@@ -22,11 +22,11 @@ cast-result c = search needs
 
 returns : tie.Need-returns
 unfolding pack
-returns c = sym (ap (λ x. pack (of-totalled x)) (c .before .reply .given .1))
+returns c = omega (arith, ap (λ x. pack (of-totalled x)) (c .before .reply .given .1))
 
 returns-2 : tie.Need-returns-2
 unfolding pack
-returns-2 c = sym (ap (λ x. pack (of-totalled x)) (c .before .reply2 .given .1))
+returns-2 c = omega (arith, ap (λ x. pack (of-totalled x)) (c .before .reply2 .given .1))
 
 pub pack-totalled-spec : {M : Type 1} → statement M
 pack-totalled-spec =

@@ -48,7 +48,7 @@ loop-again c =
     let wide = c .before .before .wide in
     let freed = c .before .freed in
     let less-one = c .less-one in
-    sweeping-step _ _ _ _ _ _ _ _ _ (search needs) (loop .inv) (wide .ensures .0) (wide .ensures .1) refl (freed .ensures) (less-one .ensures)
+    sweeping-step _ _ _ _ _ _ _ _ _ (search needs) (loop .inv) (wide .ensures .0) (wide .ensures .1) refl (cc (freed .ensures)) (less-one .ensures)
 
 returns : tie.Need-returns Inv-loop μ-loop
 returns c = let e : c .before .loop .s ≡ 0 = omega arith in record { sweep = rw e at (c .before .loop .inv .sweep) }

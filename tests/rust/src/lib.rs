@@ -9,7 +9,6 @@ pub mod call;
 pub mod calls;
 pub mod command;
 pub mod compare;
-
 pub mod counts;
 pub mod golden;
 pub mod hand;
@@ -21,6 +20,7 @@ pub mod order;
 pub mod pack;
 pub mod payload;
 pub mod plan;
+pub mod programs;
 pub mod questions;
 pub mod refusal;
 pub mod round;

@@ -5,6 +5,7 @@ mod archive;
 mod options;
 
 use options::{Job, Options};
+use second::call::CallName;
 use second::calls::Second;
 use second::compare::kinds::{run, Found, Settings};
 use second::compare::library::{Itself, Library};
@@ -77,7 +78,8 @@ fn show(found: &Found, settings: Settings) {
 /// Every fault must be caught; one line each.
 fn mutations(options: Options) -> bool {
     let mut caught = 0;
-    for mutation in Mutation::ALL.iter().copied() {
+    let all = Mutation::shown(CallName::ALL);
+    for mutation in all.iter().copied() {
         let told = caught_at(options, mutation);
         let says = mutation.says();
         match &told {
@@ -86,7 +88,7 @@ fn mutations(options: Options) -> bool {
         }
         caught += usize::from(told.is_some());
     }
-    let all = Mutation::ALL.len();
+    let all = all.len();
     println!("compare: {caught} of {all} mutations caught");
     caught == all
 }

@@ -25,6 +25,7 @@ pub mod questions;
 pub mod refusal;
 pub mod round;
 pub mod send;
+pub mod settings;
 pub mod sound;
 pub mod station;
 pub mod substitute;

@@ -5,15 +5,16 @@ use second::call::CallName;
 use second::calls::Second;
 use second::compare::draw::Draw;
 use second::mutation::Mutation;
-use second::programs::process::{ended_well, run, told};
-use second::programs::requests::KINDS;
+use second::programs::process::{ended_well, run, told, Watch};
+use second::programs::requests::{Kind, KINDS};
 use second::programs::trial::Request;
+use second::settings::{factor, seed};
 use std::env;
 use std::path::Path;
 use std::process::ExitCode;
 
 const USAGE: &str = "trials PROGRAM [--mutations]
-LIRVEDD_SEED: the drawn numbers' seed (1)";
+LIRVEDD_FACTOR: how many times as many (1); LIRVEDD_SEED: the drawn numbers' seed (1)";
 
 /// The calls that trial makes.
 const SHOWN_BY: &[CallName] = &[
@@ -68,8 +69,9 @@ fn compare(program: &Path) -> Result<String, String> {
         }
     }
     least(&tried)?;
+    let of = |kind: &Kind| tried.iter().filter(|one| one.kind == kind.name).count();
     let kinds = KINDS.iter();
-    let kinds = kinds.map(|kind| format!("{} {}", kind.name, kind.requests));
+    let kinds = kinds.map(|kind| format!("{} {}", kind.name, of(kind)));
     let kinds: Vec<String> = kinds.collect();
     let count = tried.len();
     Ok(format!("trials: {count} agree ({})", kinds.join(", ")))
@@ -78,19 +80,19 @@ fn compare(program: &Path) -> Result<String, String> {
 /// Runs the program once for each kind, on all of its requests. Where the
 /// outcomes have another length than they should, the last ones are cut short.
 fn tried(program: &Path) -> Result<Vec<Tried>, String> {
-    let seed = match env::var("LIRVEDD_SEED") {
-        Ok(text) => text.parse().map_err(|_| "LIRVEDD_SEED: not a number")?,
-        Err(_) => 1,
-    };
+    let (seed, factor) = (seed()?, factor()?);
+    let watch = Watch::default();
     let mut tried = Vec::new();
     for (place, kind) in KINDS.iter().enumerate() {
         let drawn = |number| {
             let mut draw = Draw::for_case(seed, place as u64, number);
             (kind.request)(&mut draw, number)
         };
-        let requests: Vec<Request> = (0..kind.requests).map(drawn).collect();
+        let count = (kind.requests as f64 * factor).ceil() as u64;
+        let requests: Vec<Request> = (0..count).map(drawn).collect();
         let input: Vec<u8> = requests.iter().flat_map(Request::bytes).collect();
         let ended = run(program, &input).map_err(|error| error.to_string())?;
+        watch.done();
         ended_well(&ended).map_err(|said| format!("{}: {said}", kind.name))?;
         let mut rest = ended.stdout.as_slice();
         for (number, request) in (0..).zip(requests) {
@@ -136,11 +138,12 @@ fn difference(one: &Tried, wanted: &[u8]) -> String {
 
 /// Every outcome was met often enough.
 fn least(tried: &[Tried]) -> Result<(), String> {
+    let factor = factor()?.min(1.0);
     for (kind, refusal, least) in LEAST {
         let met = |one: &&Tried| one.request.bytes()[0] == *kind && one.outcome[0] == *refusal;
         let met = tried.iter().filter(met).count();
         println!("  kind {kind}, refusal {refusal}: {met}");
-        if met < *least {
+        if (met as f64) < *least as f64 * factor {
             return Err(format!("trials: fewer than {least}"));
         }
     }

@@ -12,51 +12,79 @@ type File = fn(&mut Draw, u64) -> Vec<u8>;
 
 pub struct Kind {
     pub name: &'static str,
+    /// How many files there are.
     pub files: u64,
+    /// Whether the factor makes them more; otherwise they are all there are.
+    pub grows: bool,
     pub file: File,
 }
 
 pub const KINDS: &[Kind] = &[
-    kind("by hand", hand::ROUNDS.len() as u64, |_, number| {
+    fixed("by hand", hand::ROUNDS.len() as u64, |_, number| {
         by_hand(hand::ROUNDS[number as usize].1)
     }),
-    kind("cut at every length", PREFIXES, prefix),
-    kind("valid", 1_200, valid),
-    kind("leaps", 1_000, |draw, _| leaps(draw)),
-    kind("reopened", 400, |draw, _| {
-        let (drawn, lines) = (Drawn::reopened(draw), lines(draw));
-        round(draw, drawn, lines)
+    fixed("cut at every length", PREFIXES, prefix),
+    drawn("valid", 1_200, valid),
+    drawn("leaps", 1_000, |draw, _| leaps(draw)),
+    drawn("reopened", 400, |draw, _| {
+        let (start, lines) = (Drawn::reopened(draw), lines(draw));
+        round(draw, start, lines)
     }),
-    kind("damaged", 1_200, |draw, number| {
+    drawn("damaged", 1_200, |draw, number| {
         let mut file = valid(draw, number);
         damage(draw, &mut file);
         file
     }),
-    kind("cut", 400, |draw, number| {
+    drawn("cut", 400, |draw, number| {
         let mut file = valid(draw, number);
         file.truncate(draw.below(file.len() as u64 + 1) as usize);
         file
     }),
-    kind("odd lines", 800, |draw, _| {
-        let (drawn, few) = (Drawn::new(draw), draw.between(0, 6));
-        let mut file = round(draw, drawn, few);
+    drawn("odd lines", 800, |draw, _| {
+        let (start, few) = (Drawn::new(draw), draw.between(0, 6));
+        let mut file = round(draw, start, few);
         file.extend(odd_line(draw));
         file.extend_from_slice(b"02\n");
         file
     }),
-    kind("random bytes", 600, |draw, _| noise(draw)),
-    kind("long lines", 60, long),
-    kind("long files", 12, many_lines),
-    kind("full tables", 24, full),
+    drawn("random bytes", 600, |draw, _| noise(draw)),
+    drawn("long lines", 60, long),
+    drawn("long files", 12, many_lines),
+    drawn("full tables", 24, full),
 ];
 
-const fn kind(name: &'static str, files: u64, file: File) -> Kind {
-    Kind { name, files, file }
+const fn fixed(name: &'static str, files: u64, file: File) -> Kind {
+    let grows = false;
+    Kind {
+        name,
+        files,
+        grows,
+        file,
+    }
+}
+
+const fn drawn(name: &'static str, files: u64, file: File) -> Kind {
+    let grows = true;
+    Kind {
+        name,
+        files,
+        grows,
+        file,
+    }
+}
+
+impl Kind {
+    pub fn files(&self, factor: f64) -> u64 {
+        match self.grows {
+            true => (self.files as f64 * factor).ceil() as u64,
+            false => self.files,
+        }
+    }
 }
 
 fn valid(draw: &mut Draw, _: u64) -> Vec<u8> {
-    let (drawn, lines) = (Drawn::new(draw), lines(draw));
-    round(draw, drawn, lines)
+    let (start, lines) = (Drawn::new(draw), lines(draw));
+    round(draw, start, lines)
 }
 
 /// The rounds by hand whose every prefix is a file, and how many these are.
@@ -80,8 +108,8 @@ fn prefix(_: &mut Draw, number: u64) -> Vec<u8> {
 /// A few lines, then one of a length at or near a power of two, at times
 /// without its end.
 fn long(draw: &mut Draw, _: u64) -> Vec<u8> {
-    let (drawn, few) = (Drawn::new(draw), draw.between(0, 3));
-    let mut file = round(draw, drawn, few);
+    let (start, few) = (Drawn::new(draw), draw.between(0, 3));
+    let mut file = round(draw, start, few);
     let length = match draw.below(4) {
         0 => draw.between(64, 1_000) as usize,
         _ => (1 << draw.between(7, 17)) + draw.between(0, 4) as usize - 2,

@@ -2,7 +2,9 @@
 
 use std::io::{self, ErrorKind, Write};
 use std::path::Path;
-use std::process::{Command, ExitCode, Output, Stdio};
+use std::process::{exit, Command, ExitCode, Output, Stdio};
+use std::sync::atomic::{AtomicU64, Ordering};
+use std::sync::Arc;
 use std::thread;
 use std::time::Duration;
 
@@ -39,6 +41,37 @@ pub fn ended_well(output: &Output) -> Result<(), String> {
     match output.status.success() && said.is_empty() {
         true => Ok(()),
         false => Err(format!("it ended with {}: {said}", output.status)),
+    }
+}
+
+/// Ends everything when nothing has been done for long: the program hangs.
+pub struct Watch(Arc<AtomicU64>);
+
+impl Default for Watch {
+    fn default() -> Watch {
+        let done = Arc::new(AtomicU64::new(0));
+        let seen = Arc::downgrade(&done);
+        thread::spawn(move || {
+            let mut before = u64::MAX;
+            while let Some(done) = seen.upgrade() {
+                let now = done.load(Ordering::Relaxed);
+                if now == before {
+                    println!("the program does not end (run {now})");
+                    exit(1);
+                }
+                before = now;
+                drop(done);
+                thread::sleep(PATIENCE);
+            }
+        });
+        Watch(done)
+    }
+}
+
+impl Watch {
+    /// One run more is done.
+    pub fn done(&self) {
+        self.0.fetch_add(1, Ordering::Relaxed);
     }
 }
 

@@ -20,6 +20,7 @@ type Drawing = fn(&mut Draw, u64) -> Request;
 
 pub struct Kind {
     pub name: &'static str,
+    /// How many there are, made more by the factor.
     pub requests: u64,
     pub request: Drawing,
 }
@@ -37,7 +38,8 @@ pub const KINDS: &[Kind] = &[
         listing(draw, table)
     }),
     kind("lengths", lengths::CASES, |draw, number| {
-        listing(draw, lengths::opened(lengths::length(number)))
+        let length = lengths::length(number % lengths::CASES);
+        listing(draw, lengths::opened(length))
     }),
     kind("written", 4_000, writing),
     kind("read", 3_000, |draw, _| Request::Read {

@@ -10,7 +10,8 @@ pub enum Call {
     Substitute { ticket: u32 },
 }
 
-/// A call without its arguments.
+/// A call without its arguments: the stations' calls, then those for callers
+/// in Rattle, then the program's replies.
 #[derive(Clone, Copy, PartialEq, Eq, Debug)]
 pub enum CallName {
     Open,
@@ -19,6 +20,11 @@ pub enum CallName {
     Mark,
     Total,
     Substitute,
+    List,
+    Read,
+    Payload,
+    Write,
+    Reply,
 }
 
 impl Call {
@@ -35,6 +41,7 @@ impl Call {
 }
 
 impl CallName {
+    /// The stations' calls.
     pub const ALL: &'static [CallName] = &[
         CallName::Open,
         CallName::Take,

@@ -47,6 +47,7 @@ mutations! {
     FourBeforeTwo Open "4 comes before 2";
     OpeningJudgesOld Open "opening refuses an unsound old table";
     OpeningKeepsRows Open "opening leaves the old rows";
+    OpeningKeepsTicket Open "tickets go on counting after an opening";
     HighByteFirst Open "numbers go high byte first";
     // Taking.
     RefusalNineOneShort Take "9 with one row still free";
@@ -123,9 +124,77 @@ mutations! {
     OutsidePlanAnswered Substitute "a row outside the plan gets itself, not 11";
     TicketZeroIsBlank Substitute "ticket 0 gets 11, not 10";
     ElevenBeforeTen Substitute "a ticket in no row gets 11";
+    // Listing.
+    ListedByTicket List "rows are listed in ticket order";
+    ListedHeaviestFirst List "rows are listed from heaviest to lightest";
+    EqualsListedLateFirst List "among equals the larger ticket is listed first";
+    AllRowsListed List "rows outside the plan are listed too";
+    BlanksListed List "blanks without rows are listed";
+    KeptBlanksNotListed List "kept blanks are left out";
+    CountOfAllRows List "the count is that of the waiting rows";
+    ListTouchesNext List "the entry past the count is cleared";
+    ListFillsOnTwelve List "entries are filled before 12 is given";
+    ExactListRefused List "a list of just enough entries gets 12";
+    TwelveBeforeFive List "a list of no entry gets 12, not 5";
+    // Reading.
+    LowerCaseRead Read "lower-case digits are read";
+    BytesAfterNineRead Read "the bytes between 9 and A are read as digits";
+    GRead Read "G is read as a digit";
+    OddPayloadRead Read "an odd number of payload digits is read";
+    LongPayloadRead Read "a payload of 25 bytes is read";
+    LongestPayloadRefused Read "a payload of 24 bytes gets 1";
+    AnyPayloadRead Read "payload bytes may be anything";
+    OpenPayloadRead Read "open is read with a payload";
+    SendPayloadRead Read "send is read with a payload";
+    ShortOpenRead Read "open is read with fewer digits";
+    UnknownNumberRead Read "any other line number is read as send";
+    UnendedRead Read "a line without its 0A is read";
+    CarriageReturnRead Read "0D before 0A is dropped";
+    SpaceRead Read "spaces at the end are dropped";
+    NulEndsLine Read "a line is read up to a NUL byte";
+    WeightCutShort Read "a weight is cut to three bytes";
+    // The payload's part.
+    PayloadOffByOne Payload "the payload starts one digit late";
+    PayloadOfRefused Payload "a refused line has a payload";
+    EmptyPayloadAtItsPlace Payload "an empty payload is not at the line's start";
+    PayloadWithEnd Payload "the payload has the 0A too";
+    // Writing.
+    TwelveBeforeOne Write "12 comes before 1";
+    SlotCutInWriting Write "a slot above FFFF is cut and written";
+    LowerCaseWritten Write "digits are written in lower case";
+    OddPayloadWritten Write "an odd number of payload digits is written";
+    LongPayloadWritten Write "a payload of more than 24 bytes is written";
+    LowerCasePayloadWritten Write "a payload in lower case is written";
+    PayloadAlwaysWritten Write "open and send are written with a payload";
+    ExactBufferRefused Write "a buffer of the line's length gets 12";
+    LengthWithoutEnd Write "the length leaves out the 0A";
+    WriterTouchesNext Write "the byte past the line is cleared";
+    WriterFillsOnTwelve Write "the buffer is filled before 12 is given";
+    WriterJudgesWeight Write "a weight above 16,777,216 gets 1";
+    // The program.
+    GoesOnAfterOne Reply "it goes on after refusal 1";
+    StopsAfterAny Reply "it stops after every refusal";
+    EmptyInputReplied Reply "empty input gets FF01";
+    UnendedNotReplied Reply "an unended last line gets no reply";
+    EmptyLineSkipped Reply "an empty line is passed over";
+    OpenAtFirst Reply "a round is open at first";
+    OneRowLess Reply "the table has 1,023 rows";
+    RefusedOpeningCloses Reply "a refused opening closes the round";
+    StepsExchanged Reply "ordinary and leap are exchanged in a reply";
+    OutsExchanged Reply "frame and kept blank are exchanged in a reply";
+    TicketInDecimal Reply "tickets are replied in decimal";
+    LowerCaseReplied Reply "replies are in lower case";
+    SilenceHasTicket Reply "silence is replied with the next ticket";
 }
 
 impl Mutation {
+    /// The faults that some of these calls show.
+    pub fn shown(by: &[CallName]) -> Vec<Mutation> {
+        let all = Mutation::ALL.iter().copied();
+        all.filter(|mutation| by.contains(&mutation.shown_by()))
+            .collect()
+    }
+
     pub fn name(self) -> String {
         format!("{self:?}")
     }

@@ -6,7 +6,7 @@ use crate::mutation::Mutation;
 use crate::refusal::Refusal;
 use crate::round::Round;
 use crate::sound::is_sound;
-use crate::table::{encode, rows_of, HEAD};
+use crate::table::{decode, encode, rows_of, HEAD};
 
 impl Second {
     pub fn open(&self, last: Slot, table: &mut [u8]) -> Result<(), Refusal> {
@@ -23,11 +23,15 @@ impl Second {
         if wrong && !is_sound(table, Mutation::None) {
             return Err(Refusal::Unsound);
         }
+        let mut round = Round::opened(last);
+        if self.mutation == Mutation::OpeningKeepsTicket && is_sound(table, Mutation::None) {
+            round.next = decode(table, Mutation::None).next;
+        }
         let written = match self.mutation {
             Mutation::OpeningKeepsRows => &mut table[..HEAD],
             _ => table,
         };
-        encode(&Round::opened(last), written, self.mutation);
+        encode(&round, written, self.mutation);
         Ok(())
     }
 

@@ -1,8 +1,7 @@
-//! The calls that leave the table as it is: mark, total, substitute, list.
+//! The stations' calls that leave the table as it is: mark, total, substitute.
 
 use crate::calls::Second;
 use crate::counts::{Slot, Ticket, Weight};
-use crate::listing::{listed, Entry};
 use crate::mutation::Mutation;
 use crate::refusal::Refusal;
 use crate::round::Row;
@@ -66,16 +65,5 @@ impl Second {
             Some(ticket) => Substitute::Ticket(ticket),
             None => Substitute::Blank(found.due),
         })
-    }
-
-    /// Lists the plan's rows into the lent list and returns their number.
-    pub fn list(&self, table: &[u8], entries: &mut [Entry]) -> Result<usize, Refusal> {
-        let round = self.judged(table)?;
-        let found = listed(&self.plan(&round));
-        if entries.len() < found.len() {
-            return Err(Refusal::Short);
-        }
-        entries[..found.len()].copy_from_slice(&found);
-        Ok(found.len())
     }
 }

@@ -1,11 +1,12 @@
 //! Reading and writing text lines, each undoing the other.
 
-use second::command::{read, Command};
+use second::calls::Second;
+use second::command::Command;
 use second::compare::draw::Draw;
 use second::counts::{Slot, Weight};
-use second::payload::{payload, place};
 use second::refusal::Refusal;
-use second::writer::write;
+
+const SECOND: Second = Second::PLAIN;
 
 fn take(due: u32, weight: u32) -> Command {
     Command::Take {
@@ -16,12 +17,21 @@ fn take(due: u32, weight: u32) -> Command {
 
 #[test]
 fn good_lines() {
-    assert_eq!(read(b"000ABC\n"), Ok(Command::Open { last: Slot(0xABC) }));
-    assert_eq!(read(b"00FFFF\n"), Ok(Command::Open { last: Slot(0xFFFF) }));
-    assert_eq!(read(b"02\n"), Ok(Command::Send));
-    assert_eq!(read(b"01FFFFFFFFFFFF\n"), Ok(take(0xFFFF, 0xFFFF_FFFF)));
+    assert_eq!(
+        SECOND.read(b"000ABC\n"),
+        Ok(Command::Open { last: Slot(0xABC) })
+    );
+    assert_eq!(
+        SECOND.read(b"00FFFF\n"),
+        Ok(Command::Open { last: Slot(0xFFFF) })
+    );
+    assert_eq!(SECOND.read(b"02\n"), Ok(Command::Send));
+    assert_eq!(
+        SECOND.read(b"01FFFFFFFFFFFF\n"),
+        Ok(take(0xFFFF, 0xFFFF_FFFF))
+    );
     let longest = format!("010001000000FF{}\n", "A5".repeat(24));
-    assert_eq!(read(longest.as_bytes()), Ok(take(1, 255)));
+    assert_eq!(SECOND.read(longest.as_bytes()), Ok(take(1, 255)));
 }
 
 #[test]
@@ -46,20 +56,20 @@ fn broken_lines() {
         too_long.as_bytes(),
     ];
     for line in lines {
-        assert_eq!(read(line), Err(Refusal::Line), "{line:?}");
-        assert_eq!(place(line), (0, 0));
+        assert_eq!(SECOND.read(line), Err(Refusal::Line), "{line:?}");
+        assert_eq!(SECOND.payload_place(line), (0, 0));
     }
 }
 
 #[test]
 fn the_payload_is_a_part_of_the_line() {
     let line = b"0100000000000400000004\n";
-    assert_eq!(place(line), (14, 22));
-    assert_eq!(payload(line).as_ptr(), line[14..].as_ptr());
+    assert_eq!(SECOND.payload_place(line), (14, 22));
+    assert_eq!(SECOND.payload(line).as_ptr(), line[14..].as_ptr());
     let bare = b"01000000000004\n";
-    assert_eq!(place(bare), (0, 0));
-    assert_eq!(payload(bare).as_ptr(), bare.as_ptr());
-    assert_eq!(place(b"02\n"), (0, 0));
+    assert_eq!(SECOND.payload_place(bare), (0, 0));
+    assert_eq!(SECOND.payload(bare).as_ptr(), bare.as_ptr());
+    assert_eq!(SECOND.payload_place(b"02\n"), (0, 0));
 }
 
 #[test]
@@ -81,15 +91,18 @@ fn the_writer_refuses_1_before_12() {
         (take(1, 1), &long),
     ];
     for (command, digits) in refused {
-        assert_eq!(write(command, digits, &mut buffer), Err(Refusal::Line));
-        assert_eq!(write(command, digits, &mut []), Err(Refusal::Line));
+        assert_eq!(
+            SECOND.write(command, digits, &mut buffer),
+            Err(Refusal::Line)
+        );
+        assert_eq!(SECOND.write(command, digits, &mut []), Err(Refusal::Line));
     }
     assert_eq!(
-        write(take(1, 0), b"", &mut buffer[..14]),
+        SECOND.write(take(1, 0), b"", &mut buffer[..14]),
         Err(Refusal::Short)
     );
     assert_eq!(
-        write(Command::Send, b"", &mut buffer[..2]),
+        SECOND.write(Command::Send, b"", &mut buffer[..2]),
         Err(Refusal::Short)
     );
     assert_eq!(buffer, [7; 63]);
@@ -121,16 +134,23 @@ fn each_undoes_the_other() {
     for _ in 0..20_000 {
         let (command, digits) = drawn(&mut draw);
         let mut buffer = [b'x'; 70];
-        let length = write(command, &digits, &mut buffer).expect("it can stand in a line");
+        let length = SECOND
+            .write(command, &digits, &mut buffer)
+            .expect("it can stand in a line");
         assert!(buffer[length..].iter().all(|byte| *byte == b'x'));
         let line = &buffer[..length];
-        assert_eq!((read(line), payload(line)), (Ok(command), &digits[..]));
+        assert_eq!(
+            (SECOND.read(line), SECOND.payload(line)),
+            (Ok(command), &digits[..])
+        );
         let mut changed = line.to_vec();
         let at = draw.below(length as u64) as usize;
         changed[at] = *draw.pick(b"0123456789ABCDEFGabf\n /:@`");
-        if let Ok(command) = read(&changed) {
+        if let Ok(command) = SECOND.read(&changed) {
             let mut again = [0; 70];
-            let length = write(command, payload(&changed), &mut again).expect("it was read");
+            let length = SECOND
+                .write(command, SECOND.payload(&changed), &mut again)
+                .expect("it was read");
             assert_eq!(again[..length], changed);
         }
     }

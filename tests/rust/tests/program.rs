@@ -1,11 +1,17 @@
 //! The program stationround, and document 01's sample through it.
 
-use second::station::printed;
+use second::calls::Second;
+use second::station;
 use std::io::Write;
 use std::process::{Command, Stdio};
 
 const SAMPLE: &str = "000001\n01000000000004\n0100010000000B\n02\n02\n";
 const ANSWER: &str = "00\n0100000001\n0100000002\n02010100000002\n02020000000002\n";
+
+/// What the function prints.
+fn printed(input: &[u8]) -> String {
+    station::printed(Second::PLAIN, input)
+}
 
 /// What the program itself prints.
 fn run(input: &[u8]) -> String {

@@ -1,14 +1,21 @@
 //! The program stationround over the second implementation.
 
+use second::calls::Second;
+use second::command::END;
 use second::station::Station;
 use std::io::{self, BufRead, Write};
 
-fn main() -> io::Result<()> {
+/// An output that is closed ends the program quietly.
+fn main() {
+    let _ = replies();
+}
+
+fn replies() -> io::Result<()> {
     let mut input = io::stdin().lock();
     let mut output = io::stdout().lock();
-    let mut station = Station::new();
+    let mut station = Station::new(Second::PLAIN);
     let mut line = Vec::new();
-    while input.read_until(0x0A, &mut line)? > 0 {
+    while input.read_until(END, &mut line)? > 0 {
         let reply = station.reply(&line);
         output.write_all(reply.text.as_bytes())?;
         output.flush()?;

@@ -177,8 +177,8 @@ impl Target {
     }
 }
 
-/// Damages a drawn table, mostly once, and asks every call of it.
-pub fn run(bench: &mut Bench, draw: &mut Draw, case: u64) -> Agreed<()> {
+/// A drawn table, damaged mostly once.
+pub fn damaged(draw: &mut Draw, case: u64) -> Target {
     let size = size(draw);
     let (table, round) = drawn(draw, size);
     let mut target = Target { table, round };
@@ -196,6 +196,12 @@ pub fn run(bench: &mut Bench, draw: &mut Draw, case: u64) -> Agreed<()> {
             chosen.2(&mut target, draw);
         }
     }
+    target
+}
+
+/// Every call is asked of a damaged table.
+pub fn run(bench: &mut Bench, draw: &mut Draw, case: u64) -> Agreed<()> {
+    let target = damaged(draw, case);
     let due = draw.between(
         target.round.slot.0.min(target.round.last.0),
         target.round.last.0,

@@ -7,7 +7,7 @@ use crate::compare::tables::table;
 use crate::counts::{Slot, Ticket, Weight};
 use crate::round::{Round, Row};
 
-const NUMBERS: &[u32] = &[
+pub const NUMBERS: &[u32] = &[
     0,
     1,
     2,

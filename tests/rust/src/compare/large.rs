@@ -32,7 +32,7 @@ pub fn run(bench: &mut Bench, draw: &mut Draw, case: u64) -> Agreed<()> {
 }
 
 /// A round whose first sending shifts as many members as can be.
-fn chain(frames: u32) -> Vec<u8> {
+pub fn chain(frames: u32) -> Vec<u8> {
     let last = frames - 2;
     let mut rows = vec![(1, 0, 1, false)];
     for due in 1..=last {

@@ -10,7 +10,7 @@ use crate::table::row_at;
 pub const CASES: u64 = SHORT + 61;
 const SHORT: u64 = 101;
 
-fn length(case: u64) -> usize {
+pub fn length(case: u64) -> usize {
     if case < SHORT {
         case as usize
     } else {
@@ -19,7 +19,7 @@ fn length(case: u64) -> usize {
 }
 
 /// A round just opened with last slot 9, as far as the length goes.
-fn opened(length: usize) -> Vec<u8> {
+pub fn opened(length: usize) -> Vec<u8> {
     let mut table = vec![0; length];
     for (at, byte) in [(2, 9), (4, 1)] {
         if at < length {

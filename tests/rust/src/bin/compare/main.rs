@@ -5,9 +5,10 @@ mod archive;
 mod options;
 
 use options::{Job, Options};
+use second::call::CallName;
 use second::calls::Second;
 use second::compare::kinds::{run, Found, Settings};
-use second::compare::library::{has, Itself, Library};
+use second::compare::library::{Itself, Library};
 use second::mutation::Mutation;
 use std::process::ExitCode;
 
@@ -39,20 +40,11 @@ fn library(options: Options) -> (Box<dyn Library>, &'static str) {
         return (Box::new(archive::Archive), "the archive");
     }
     let _ = options;
-    (Box::new(Itself::PLAIN), "itself")
-}
-
-/// The library against which this fault can be shown.
-fn library_for(options: Options, mutation: Mutation) -> (Box<dyn Library>, &'static str) {
-    let (found, name) = library(options);
-    if has(found.as_ref(), mutation.shown_by()) {
-        return (found, name);
-    }
-    (Box::new(Itself::PLAIN), "itself")
+    (Box::new(Itself), "itself")
 }
 
 fn compare(options: Options, mutation: Mutation) -> bool {
-    let (mut library, name) = library_for(options, mutation);
+    let (mut library, name) = library(options);
     let settings = options.settings;
     println!(
         "compare: with {name}, seed {}, factor {}",
@@ -86,7 +78,8 @@ fn show(found: &Found, settings: Settings) {
 /// Every fault must be caught; one line each.
 fn mutations(options: Options) -> bool {
     let mut caught = 0;
-    for mutation in Mutation::ALL.iter().copied() {
+    let all = Mutation::shown(CallName::ALL);
+    for mutation in all.iter().copied() {
         let told = caught_at(options, mutation);
         let says = mutation.says();
         match &told {
@@ -95,7 +88,7 @@ fn mutations(options: Options) -> bool {
         }
         caught += usize::from(told.is_some());
     }
-    let all = Mutation::ALL.len();
+    let all = all.len();
     println!("compare: {caught} of {all} mutations caught");
     caught == all
 }
@@ -103,7 +96,7 @@ fn mutations(options: Options) -> bool {
 /// Where a fault is caught. A fault in planning must be caught by the drawn
 /// inputs alone too.
 fn caught_at(options: Options, mutation: Mutation) -> Option<String> {
-    let (mut library, name) = library_for(options, mutation);
+    let (mut library, name) = library(options);
     let mut place = |drawn_only| {
         let settings = Settings {
             drawn_only,

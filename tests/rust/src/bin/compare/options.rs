@@ -2,6 +2,7 @@
 
 use second::compare::kinds::Settings;
 use second::mutation::Mutation;
+use second::settings;
 use std::env;
 
 const USAGE: &str = "compare [--self] [--mutation NAME | --mutations]
@@ -25,8 +26,8 @@ pub struct Options {
 impl Options {
     pub fn read() -> Result<Options, String> {
         let settings = Settings {
-            seed: setting("LIRVEDD_SEED", 1)?,
-            factor: setting("LIRVEDD_FACTOR", 1.0)?,
+            seed: settings::seed()?,
+            factor: settings::factor()?,
             drawn_only: false,
         };
         let itself = cfg!(not(archive));
@@ -55,11 +56,4 @@ impl Options {
 fn named(word: Option<String>) -> Result<Mutation, String> {
     let name = word.ok_or(USAGE)?;
     Mutation::named(&name).ok_or(format!("no mutation {name}"))
-}
-
-fn setting<T: std::str::FromStr>(name: &str, usual: T) -> Result<T, String> {
-    match env::var(name) {
-        Ok(text) => text.parse().map_err(|_| format!("{name}: not a number")),
-        Err(_) => Ok(usual),
-    }
 }

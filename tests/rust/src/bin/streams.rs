@@ -1,0 +1,228 @@
+//! Compares stationround with the second implementation, byte for byte, on
+//! drawn files: streams PROGRAM [--mutations].
+
+use second::call::CallName;
+use second::calls::Second;
+use second::compare::draw::Draw;
+use second::mutation::Mutation;
+use second::programs::files::KINDS;
+use second::programs::pipes::{closed, paced};
+use second::programs::process::{ended_well, run, told, Watch};
+use second::programs::rounds::by_hand;
+use second::settings::{factor, seed};
+use second::station::printed;
+use std::env;
+use std::path::Path;
+use std::process::ExitCode;
+
+const USAGE: &str = "streams PROGRAM [--mutations]
+LIRVEDD_FACTOR: how many times as many (1); LIRVEDD_SEED: the drawn numbers' seed (1)";
+
+/// A file, and what the program printed for it.
+struct Run {
+    kind: &'static str,
+    number: u64,
+    file: Vec<u8>,
+    output: Vec<u8>,
+}
+
+/// How often at least a reply begins so, over all files.
+const LEAST: &[(&str, usize)] = &[
+    ("00", 20_000),
+    ("01", 50_000),
+    ("020000", 10_000),
+    ("020100", 5_000),
+    ("020101", 5_000),
+    ("020200", 200),
+    ("FF01", 1_500),
+    ("FF03", 100),
+    ("FF04", 100),
+    ("FF05", 1_000),
+    ("FF06", 500),
+    ("FF07", 500),
+    ("FF09", 30),
+];
+
+/// Faults that no line can show: the table's length and its bytes are the
+/// program's own, a slot has four digits, and a round of 4,096 slots gives out
+/// at most 1,024 tickets in each, far fewer than 16,777,215.
+const HIDDEN: &[Mutation] = &[
+    Mutation::AnyLengthAllowed,
+    Mutation::NoRowAllowed,
+    Mutation::OneRowTooMany,
+    Mutation::LastCutShort,
+    Mutation::FourBeforeTwo,
+    Mutation::HighByteFirst,
+    Mutation::EightAfterNine,
+    Mutation::TicketEarly,
+    Mutation::TicketLate,
+    Mutation::DueCutShort,
+    Mutation::HeadZerosUnchecked,
+    Mutation::CountUnchecked,
+    Mutation::LastUnchecked,
+    Mutation::SlotUnchecked,
+    Mutation::TicketOrderUnchecked,
+    Mutation::EqualTicketsSound,
+    Mutation::TicketZeroSound,
+    Mutation::TicketAtNextSound,
+    Mutation::DueBeforeUnchecked,
+    Mutation::DueAfterUnchecked,
+    Mutation::WeightZeroSound,
+    Mutation::WeightAboveSound,
+    Mutation::KindUnchecked,
+    Mutation::RowZerosUnchecked,
+    Mutation::UnusedRowsUnchecked,
+];
+
+/// The calls whose faults lines show.
+const SHOWN_BY: &[CallName] = &[
+    CallName::Open,
+    CallName::Take,
+    CallName::Send,
+    CallName::Read,
+    CallName::Reply,
+];
+
+fn main() -> ExitCode {
+    let words: Vec<String> = env::args().skip(1).collect();
+    let words: Vec<&str> = words.iter().map(String::as_str).collect();
+    match words[..] {
+        [program] => told(compare(Path::new(program))),
+        [program, "--mutations"] => told(mutations(Path::new(program))),
+        _ => {
+            eprintln!("{USAGE}");
+            ExitCode::from(2)
+        }
+    }
+}
+
+fn compare(program: &Path) -> Result<String, String> {
+    let runs = runs(program)?;
+    for run in &runs {
+        let wanted = printed(Second::PLAIN, &run.file);
+        if run.output != wanted.as_bytes() {
+            return Err(difference(run, &wanted));
+        }
+    }
+    least(&runs)?;
+    let pipes = pipes(program)?;
+    let times = factor()?;
+    let kinds = KINDS
+        .iter()
+        .map(|kind| format!("{} {}", kind.name, kind.files(times)));
+    let kinds: Vec<String> = kinds.collect();
+    Ok(format!(
+        "streams: {} files agree ({}); {pipes} times in a pipe",
+        runs.len(),
+        kinds.join(", ")
+    ))
+}
+
+/// Runs the program on every file.
+fn runs(program: &Path) -> Result<Vec<Run>, String> {
+    let (seed, factor) = (seed()?, factor()?);
+    let watch = Watch::default();
+    let mut runs = Vec::new();
+    for (place, kind) in KINDS.iter().enumerate() {
+        for number in 0..kind.files(factor) {
+            let mut draw = Draw::for_case(seed, place as u64, number);
+            let file = (kind.file)(&mut draw, number);
+            let ended = run(program, &file).map_err(|error| error.to_string())?;
+            watch.done();
+            let name = kind.name;
+            ended_well(&ended).map_err(|said| format!("{name} {number}: {said}"))?;
+            runs.push(Run {
+                kind: name,
+                number,
+                file,
+                output: ended.stdout,
+            });
+        }
+    }
+    Ok(runs)
+}
+
+/// The first line whose reply differs, and the lines before it.
+fn difference(run: &Run, wanted: &str) -> String {
+    let output = String::from_utf8_lossy(&run.output);
+    let same = output.lines().zip(wanted.lines());
+    let same = same.take_while(|(own, other)| own == other).count();
+    let lines: Vec<&[u8]> = run.file.split_inclusive(|byte| *byte == b'\n').collect();
+    let end = lines.len().min(same + 1);
+    let shown = lines[end.saturating_sub(40)..end].iter();
+    let shown: String = shown
+        .map(|line| format!("{}\n", line[..line.len().min(200)].escape_ascii()))
+        .collect();
+    let reply = |text: &str| text.lines().nth(same).unwrap_or("nothing").to_string();
+    format!(
+        "{shown}streams: {} {}: the last reply is {}, not {}",
+        run.kind,
+        run.number,
+        reply(&output),
+        reply(wanted)
+    )
+}
+
+/// Every reply was met often enough.
+fn least(runs: &[Run]) -> Result<(), String> {
+    let factor = factor()?.min(1.0);
+    for (start, least) in LEAST {
+        let replies = runs
+            .iter()
+            .flat_map(|run| run.output.split(|byte| *byte == b'\n'));
+        let met = replies
+            .filter(|reply| reply.starts_with(start.as_bytes()))
+            .count();
+        println!("  {start}.. {met} times");
+        if (met as f64) < *least as f64 * factor {
+            return Err(format!("streams: fewer than {least}"));
+        }
+    }
+    Ok(())
+}
+
+/// Parts of the input as they reach the program.
+const PARTS: &[&[usize]] = &[&[1], &[7], &[3, 20, 1], &[16, 14], &[100, 1], &[100_000]];
+
+/// The program in pipes; how often it was run.
+fn pipes(program: &Path) -> Result<usize, String> {
+    let mut times = closed(program)?;
+    let rounds = second::hand::ROUNDS.iter().map(|(_, text)| by_hand(text));
+    let broken = b"000001\n02\n01000100000005\n0100\n02\n".to_vec();
+    let unended = b"000001\n02\n01000100000005\n02".to_vec();
+    for file in rounds.chain([broken, unended]) {
+        let by_line: Vec<usize> = file
+            .split_inclusive(|byte| *byte == b'\n')
+            .map(<[u8]>::len)
+            .collect();
+        for parts in PARTS.iter().copied().chain([by_line.as_slice()]) {
+            paced(program, &file, parts)?;
+            times += 1;
+        }
+    }
+    Ok(times)
+}
+
+/// Every fault that lines can show must be caught; one line each.
+fn mutations(program: &Path) -> Result<String, String> {
+    let runs = runs(program)?;
+    let mut all = Mutation::shown(SHOWN_BY);
+    all.retain(|mutation| !HIDDEN.contains(mutation));
+    let mut caught = 0;
+    for mutation in all.iter().copied() {
+        let second = Second { mutation };
+        let differs = |run: &&Run| printed(second, &run.file).as_bytes() != run.output;
+        let found = runs.iter().find(differs);
+        let says = mutation.says();
+        match found {
+            Some(run) => println!("caught {mutation:?} ({} {}): {says}", run.kind, run.number),
+            None => println!("NOT CAUGHT {mutation:?}: {says}"),
+        }
+        caught += usize::from(found.is_some());
+    }
+    let line = format!("streams: {caught} of {} mutations caught", all.len());
+    match caught == all.len() {
+        true => Ok(line),
+        false => Err(line),
+    }
+}

@@ -1,0 +1,136 @@
+//! Stationround at a terminal or in a pipe: replies come before more input is
+//! asked for, however the input is cut, and a closed output ends it quietly.
+
+use crate::calls::Second;
+use crate::command::END;
+use crate::programs::process::{written, PATIENCE};
+use crate::station::Station;
+use std::io::{BufRead, BufReader, Read, Write};
+use std::os::unix::process::ExitStatusExt;
+use std::path::Path;
+use std::process::{Child, Command, ExitStatus, Stdio};
+use std::sync::mpsc::{channel, Receiver};
+use std::thread::{sleep, spawn};
+use std::time::{Duration, Instant};
+
+/// The signal by which a write to a closed pipe may end a program.
+const PIPE_SIGNAL: i32 = 13;
+
+/// Writes the input in parts. The replies to all lines that are whole by then
+/// have to come before the next part is written.
+pub fn paced(program: &Path, input: &[u8], parts: &[usize]) -> Result<(), String> {
+    let mut child = started(Command::new(program).stdout(Stdio::piped()))?;
+    let mut stdin = child.stdin.take().ok_or("no input")?;
+    let replies = replies_of(&mut child)?;
+    let mut station = Station::new(Second::PLAIN);
+    let mut goes_on = true;
+    let (mut at, mut done) = (0, 0);
+    for part in parts.iter().cycle() {
+        let end = (at + part).min(input.len());
+        written(stdin.write_all(&input[at..end])).map_err(|error| error.to_string())?;
+        at = end;
+        while let Some(length) = input[done..at].iter().position(|byte| *byte == END) {
+            let line = &input[done..=done + length];
+            done += length + 1;
+            if goes_on {
+                goes_on = expect(&replies, &mut station, line)?;
+            }
+        }
+        if at == input.len() {
+            break;
+        }
+    }
+    drop(stdin);
+    if goes_on && done < input.len() {
+        expect(&replies, &mut station, &input[done..])?;
+    }
+    match replies.recv_timeout(PATIENCE) {
+        Ok(more) => Err(format!("a reply too many: {more:?}")),
+        Err(_) => Ok(()),
+    }?;
+    ended(&mut child).map(|_| ())
+}
+
+/// Waits for the reply to a line; whether the program goes on after it.
+fn expect(replies: &Receiver<Vec<u8>>, station: &mut Station, line: &[u8]) -> Result<bool, String> {
+    let wanted = station.reply(line);
+    let shown = String::from_utf8_lossy(line);
+    match replies.recv_timeout(PATIENCE) {
+        Ok(reply) if reply == wanted.text.as_bytes() => Ok(wanted.goes_on),
+        Ok(reply) => Err(format!(
+            "the reply to {shown:?} is {:?}, not {:?}",
+            String::from_utf8_lossy(&reply),
+            wanted.text
+        )),
+        Err(_) => Err(format!("no reply to {shown:?} before the next input")),
+    }
+}
+
+/// The program's lines as they come.
+fn replies_of(child: &mut Child) -> Result<Receiver<Vec<u8>>, String> {
+    let mut output = BufReader::new(child.stdout.take().ok_or("no output")?);
+    let (sender, receiver) = channel();
+    spawn(move || {
+        let mut line = Vec::new();
+        while output.read_until(END, &mut line).is_ok_and(|read| read > 0) {
+            if sender.send(std::mem::take(&mut line)).is_err() {
+                return;
+            }
+        }
+    });
+    Ok(receiver)
+}
+
+/// A shell's words before the program, and whether the pipe's signal may end it.
+const CLOSED: &[(&str, bool)] = &[("exec \"$0\"", true), ("trap '' PIPE; exec \"$0\"", false)];
+
+/// With its output closed the program ends by itself, while its input is still
+/// open, and says nothing.
+pub fn closed(program: &Path) -> Result<usize, String> {
+    let input = "02\n".repeat(30_000);
+    for (words, signal) in CLOSED {
+        let mut shell = Command::new("sh");
+        let mut child = started(
+            shell
+                .args(["-c", words])
+                .arg(program)
+                .stdout(Stdio::piped()),
+        )?;
+        drop(child.stdout.take());
+        let mut stdin = child.stdin.take().ok_or("no input")?;
+        written(stdin.write_all(input.as_bytes())).map_err(|error| error.to_string())?;
+        let status = ended(&mut child)?;
+        let quiet = status.code().is_some() || *signal && status.signal() == Some(PIPE_SIGNAL);
+        if !quiet {
+            return Err(format!("with its output closed it ended with {status}"));
+        }
+        let mut said = String::new();
+        let mut errors = child.stderr.take().ok_or("no errors")?;
+        errors
+            .read_to_string(&mut said)
+            .map_err(|error| error.to_string())?;
+        if !said.is_empty() {
+            return Err(format!("with its output closed it says {said}"));
+        }
+        drop(stdin);
+    }
+    Ok(CLOSED.len())
+}
+
+fn started(command: &mut Command) -> Result<Child, String> {
+    let piped = command.stdin(Stdio::piped()).stderr(Stdio::piped());
+    piped.spawn().map_err(|error| error.to_string())
+}
+
+/// Waits for the program's end.
+fn ended(child: &mut Child) -> Result<ExitStatus, String> {
+    let began = Instant::now();
+    while began.elapsed() < PATIENCE {
+        if let Some(status) = child.try_wait().map_err(|error| error.to_string())? {
+            return Ok(status);
+        }
+        sleep(Duration::from_millis(1));
+    }
+    let _ = child.kill();
+    Err("it does not end".to_string())
+}

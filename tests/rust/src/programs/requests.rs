@@ -1,0 +1,184 @@
+//! The kinds of requests that trial is run on.
+
+use crate::calls::Second;
+use crate::command::{Command, TAKE_DIGITS};
+use crate::compare::damage::damaged;
+use crate::compare::draw::Draw;
+use crate::compare::extremes::NUMBERS;
+use crate::compare::large::chain;
+use crate::compare::lengths;
+use crate::compare::tables::{self, drawn, size, Size};
+use crate::counts::{Slot, Ticket, Weight};
+use crate::listing::Entry;
+use crate::programs::noise::{damage, long_line, noise, odd_line};
+use crate::programs::rounds::{payload, round, Drawn};
+use crate::programs::trial::{Request, MOST_ROOM, MOST_SIZE};
+use crate::station::Station;
+
+/// Draws one request; the number says which of its kind.
+type Drawing = fn(&mut Draw, u64) -> Request;
+
+pub struct Kind {
+    pub name: &'static str,
+    /// How many there are, made more by the factor.
+    pub requests: u64,
+    pub request: Drawing,
+}
+
+pub const KINDS: &[Kind] = &[
+    kind("sound", 3_000, |draw, _| {
+        let size = size(draw);
+        let table = drawn(draw, size).0;
+        listing(draw, table)
+    }),
+    kind("reachable", 150, reachable),
+    kind("large", 60, large),
+    kind("damaged", 1_500, |draw, number| {
+        let table = damaged(draw, number).table;
+        listing(draw, table)
+    }),
+    kind("lengths", lengths::CASES, |draw, number| {
+        let length = lengths::length(number % lengths::CASES);
+        listing(draw, lengths::opened(length))
+    }),
+    kind("written", 4_000, writing),
+    kind("read", 3_000, |draw, _| Request::Read {
+        line: good_line(draw),
+    }),
+    kind("read damaged", 3_000, broken),
+    kind("read long", 60, |draw, _| {
+        let length = draw.between(60, MOST_SIZE as u32) as usize;
+        Request::Read {
+            line: long_line(draw, length),
+        }
+    }),
+];
+
+const fn kind(name: &'static str, requests: u64, request: Drawing) -> Kind {
+    Kind {
+        name,
+        requests,
+        request,
+    }
+}
+
+/// A listing with a room at or near what it needs.
+fn listing(draw: &mut Draw, table: Vec<u8>) -> Request {
+    let blank = Entry {
+        ticket: Ticket(0),
+        due: Slot(0),
+        weight: Weight(0),
+    };
+    let mut entries = [blank; MOST_ROOM];
+    let count = Second::PLAIN.list(&table, &mut entries).unwrap_or(0);
+    let room = near(draw, count, table.len() / 24);
+    Request::List { table, room }
+}
+
+/// The number itself or one next to it, another one, 0 or the most.
+fn near(draw: &mut Draw, number: usize, other: usize) -> usize {
+    let room = match draw.below(10) {
+        0..=2 => number,
+        3 | 4 => number.saturating_sub(1),
+        5 | 6 => number + 1,
+        7 => 0,
+        8 => other + 1,
+        _ => number + draw.below(40) as usize,
+    };
+    room.min(MOST_ROOM)
+}
+
+/// A table that some lines lead to.
+fn reachable(draw: &mut Draw, _: u64) -> Request {
+    let (drawn, lines) = (Drawn::new(draw), draw.between(5, 120));
+    let file = round(draw, drawn, lines);
+    let mut station = Station::new(Second::PLAIN);
+    for line in file.split_inclusive(|byte| *byte == b'\n') {
+        station.reply(line);
+    }
+    listing(draw, station.table)
+}
+
+fn large(draw: &mut Draw, number: u64) -> Request {
+    if number % 4 == 0 {
+        let frames = draw.between(4, 1_024);
+        return listing(draw, chain(frames));
+    }
+    let last = *draw.pick(&[300, 1_023, 1_024, 2_000, 4_095]);
+    let round = tables::round(draw, Size { rows: 1_024, last }, 1_024);
+    listing(draw, tables::table(&round, 1_024))
+}
+
+fn writing(draw: &mut Draw, _: u64) -> Request {
+    let number = |draw: &mut Draw| match draw.below(4) {
+        0 => *draw.pick(NUMBERS),
+        1 => draw.number() as u32,
+        _ => draw.between(0, 65_535),
+    };
+    let slot = Slot(number(draw));
+    let weight = Weight(number(draw));
+    let command = match draw.below(5) {
+        0 => Command::Open { last: slot },
+        1 => Command::Send,
+        _ => Command::Take { due: slot, weight },
+    };
+    let payload = digits(draw, matches!(command, Command::Take { .. }));
+    let front = match command {
+        Command::Open { .. } => 6,
+        Command::Take { .. } => TAKE_DIGITS,
+        Command::Send => 2,
+    };
+    let room = near(draw, front + payload.len() + 1, 62);
+    Request::Write {
+        command,
+        payload,
+        room,
+    }
+}
+
+/// Payload digits; at times odd, too long, in lower case or none at all. Most
+/// commands without a payload get none.
+fn digits(draw: &mut Draw, may_have: bool) -> Vec<u8> {
+    if !may_have && !draw.once_in(4) {
+        return Vec::new();
+    }
+    let most = *draw.pick(&[0, 3, 24, 24, 30]);
+    let mut digits = payload(draw, most).into_bytes();
+    match draw.below(8) {
+        0 => digits.push(b'7'),
+        1 => damage(draw, &mut digits),
+        2 => digits.make_ascii_lowercase(),
+        _ => {}
+    }
+    digits
+}
+
+/// A line that the reader takes.
+fn good_line(draw: &mut Draw) -> Vec<u8> {
+    let slot = draw.between(0, 65_535);
+    let weight = draw.number() as u32;
+    let text = match draw.below(6) {
+        0 => format!("00{slot:04X}\n"),
+        1 => "02\n".to_string(),
+        _ => format!("01{slot:04X}{weight:08X}{}\n", payload(draw, 24)),
+    };
+    text.into_bytes()
+}
+
+fn broken(draw: &mut Draw, _: u64) -> Request {
+    let line = match draw.below(6) {
+        0 => noise(draw),
+        1 | 2 => odd_line(draw),
+        3 => {
+            let mut line = good_line(draw);
+            line.truncate(draw.below(line.len() as u64) as usize);
+            line
+        }
+        _ => {
+            let mut line = good_line(draw);
+            damage(draw, &mut line);
+            line
+        }
+    };
+    Request::Read { line }
+}

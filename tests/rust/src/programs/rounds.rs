@@ -1,0 +1,184 @@
+//! Drawn rounds as text lines: ties frequent, weights near the limits, refused
+//! lines among them.
+
+use crate::call::Call;
+use crate::compare::draw::Draw;
+use crate::compare::tables::{weight, weights, Weights};
+use crate::hand;
+use crate::round::Round;
+
+/// The line of a call, with these payload digits.
+pub fn line(call: Call, payload: &str) -> String {
+    match call {
+        Call::Open { last } => format!("00{last:04X}\n"),
+        Call::Take { due, weight } => format!("01{due:04X}{weight:08X}{payload}\n"),
+        _ => "02\n".to_string(),
+    }
+}
+
+/// A round by hand as lines.
+pub fn by_hand(text: &str) -> Vec<u8> {
+    let lines = hand::calls(text).into_iter().map(|call| line(call, ""));
+    lines.collect::<String>().into_bytes()
+}
+
+/// Payload digits, of so many bytes at most.
+pub fn payload(draw: &mut Draw, most: u64) -> String {
+    let bytes = draw.below(most + 1);
+    let digit = |_| char::from(*draw.pick(b"0123456789ABCDEF"));
+    (0..2 * bytes).map(digit).collect()
+}
+
+/// A round under way, as far as its lines are drawn by it.
+pub struct Drawn {
+    last: u32,
+    slot: u32,
+    /// How far ahead of the current slot frames are due.
+    reach: u32,
+    weights: Weights,
+    /// Takings and openings among a hundred lines; the rest are sendings.
+    takes: u64,
+    opens: u64,
+}
+
+impl Drawn {
+    pub fn new(draw: &mut Draw) -> Drawn {
+        let last = match draw.below(40) {
+            0 => draw.between(200, Round::LAST.0),
+            1 => Round::LAST.0,
+            2..=12 => draw.between(10, 120),
+            _ => draw.between(0, 12),
+        };
+        Drawn {
+            last,
+            slot: last + 1,
+            reach: *draw.pick(&[1, 3, 8, last.max(1)]),
+            weights: weights(draw),
+            takes: *draw.pick(&[20, 40, 60, 80]),
+            opens: 2,
+        }
+    }
+
+    /// The same, with openings in every few lines.
+    pub fn reopened(draw: &mut Draw) -> Drawn {
+        Drawn {
+            opens: *draw.pick(&[10, 25, 60]),
+            ..Drawn::new(draw)
+        }
+    }
+
+    /// The opening of the round.
+    pub fn open(&mut self) -> String {
+        self.slot = 0;
+        line(Call::Open { last: self.last }, "")
+    }
+
+    /// Another line of the round.
+    pub fn line(&mut self, draw: &mut Draw) -> String {
+        let over = self.slot > self.last && draw.once_in(4);
+        let chance = if over { 0 } else { draw.below(100) };
+        if chance < self.opens {
+            return self.reopen(draw);
+        }
+        if chance >= self.opens + self.takes {
+            self.slot = (self.slot + 1).min(self.last + 1);
+            return line(Call::Send, "");
+        }
+        let call = Call::Take {
+            due: self.due(draw),
+            weight: self.weight(draw),
+        };
+        let most = if draw.once_in(3) { 24 } else { 0 };
+        line(call, &payload(draw, most))
+    }
+
+    /// Mostly the same round again, at times another, or one that 4 refuses.
+    fn reopen(&mut self, draw: &mut Draw) -> String {
+        match draw.below(8) {
+            0 => {
+                let last = *draw.pick(&[4_096, 4_097, 32_768, 65_535]);
+                return line(Call::Open { last }, "");
+            }
+            1..=3 => self.last = draw.between(0, 9),
+            _ => {}
+        }
+        self.open()
+    }
+
+    /// A due slot within reach, at times a bad one.
+    fn due(&self, draw: &mut Draw) -> u32 {
+        match draw.below(40) {
+            0 => self.slot.saturating_sub(1),
+            1 => self.last + 1,
+            2 => draw.between(0, 65_535),
+            _ => (self.slot + draw.between(0, self.reach)).min(self.last),
+        }
+    }
+
+    /// A weight as the round's are drawn, at times one that 6 refuses.
+    fn weight(&self, draw: &mut Draw) -> u32 {
+        match draw.below(50) {
+            0 => *draw.pick(&[0, 16_777_217, 33_554_432, u32::MAX]),
+            _ => weight(draw, self.weights),
+        }
+    }
+}
+
+/// A round of so many lines after its opening, at times without it, and at
+/// times sent on past its end.
+pub fn round(draw: &mut Draw, mut drawn: Drawn, lines: u32) -> Vec<u8> {
+    let mut file = String::new();
+    if !draw.once_in(30) {
+        file.push_str(&drawn.open());
+    }
+    for _ in 0..lines {
+        file.push_str(&drawn.line(draw));
+    }
+    if draw.once_in(3) {
+        for _ in 0..draw.between(1, 20) {
+            file.push_str(&line(Call::Send, ""));
+        }
+    }
+    file.into_bytes()
+}
+
+/// Mostly few lines.
+pub fn lines(draw: &mut Draw) -> u32 {
+    match draw.below(20) {
+        0 => draw.between(150, 400),
+        1..=4 => draw.between(40, 120),
+        _ => draw.between(0, 40),
+    }
+}
+
+/// About one frame due in each slot, lighter from slot to slot but for a few
+/// heavy ones, and at times some left over, sent to the end with light
+/// newcomers on the way: leaps, and what they leave behind.
+pub fn leaps(draw: &mut Draw) -> Vec<u8> {
+    let last = draw.between(1, 9);
+    let scale = *draw.pick(&[2, 4, 10, 100_000]);
+    let over = *draw.pick(&[0, 0, 1, 4]);
+    let mut file = line(Call::Open { last }, "");
+    let mut frame = |due: u32, weight: u32| file.push_str(&line(Call::Take { due, weight }, ""));
+    for due in (0..=last).filter(|_| draw.below(8) > 0).collect::<Vec<_>>() {
+        let heavy = if draw.once_in(3) {
+            draw.between(2, 5)
+        } else {
+            1
+        };
+        let falls = (last + 1 - due) * scale / (last + 1);
+        frame(due, (falls + draw.between(1, 3)) * heavy);
+    }
+    for _ in 0..over {
+        frame(draw.between(0, last), draw.between(1, 3));
+    }
+    for slot in 1..=last + 1 {
+        file.push_str(&line(Call::Send, ""));
+        if slot <= last && draw.once_in(3) {
+            let due = draw.between(slot, last);
+            let weight = draw.between(1, scale + 2);
+            file.push_str(&line(Call::Take { due, weight }, ""));
+        }
+    }
+    file.into_bytes()
+}

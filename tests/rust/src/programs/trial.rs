@@ -1,0 +1,165 @@
+//! What the program trial reads and prints (tests/trial.md), over the second
+//! implementation.
+
+use crate::calls::Second;
+use crate::command::Command;
+use crate::counts::{Slot, Ticket, Weight};
+use crate::listing::Entry;
+use crate::refusal::Refusal;
+
+/// The most bytes after a request's head.
+pub const MOST_SIZE: usize = 24_640;
+/// The most entries or buffer bytes lent.
+pub const MOST_ROOM: usize = 1_024;
+/// Bytes of a request's head.
+pub const HEAD: usize = 24;
+
+#[derive(Clone, PartialEq, Eq, Debug)]
+pub enum Request {
+    List {
+        table: Vec<u8>,
+        room: usize,
+    },
+    Write {
+        command: Command,
+        payload: Vec<u8>,
+        room: usize,
+    },
+    Read {
+        line: Vec<u8>,
+    },
+}
+
+/// What each entry, and each byte of a buffer, is before the call.
+const ENTRY: Entry = Entry {
+    ticket: Ticket(0xEEEE_EEEE),
+    due: Slot(0xDDDD_DDDD),
+    weight: Weight(0xCCCC_CCCC),
+};
+const BYTE: u8 = 0x2A;
+
+impl Request {
+    /// Its bytes.
+    pub fn bytes(&self) -> Vec<u8> {
+        let (kind, body, room, [command, slot, weight]) = match self {
+            Request::List { table, room } => (0, table, *room, [0; 3]),
+            Request::Write {
+                command,
+                payload,
+                room,
+            } => (1, payload, *room, numbers_of(*command)),
+            Request::Read { line } => (2, line, 0, [0; 3]),
+        };
+        let head = [kind, body.len() as u32, room as u32, command, slot, weight];
+        let mut bytes = Vec::new();
+        put(&mut bytes, &head);
+        bytes.extend_from_slice(body);
+        bytes
+    }
+
+    /// The first request of some bytes, and the bytes after it.
+    pub fn first(bytes: &[u8]) -> Option<(Request, &[u8])> {
+        let (head, rest) = bytes.split_at_checked(HEAD)?;
+        let number = |at: usize| {
+            let four = head[at..at + 4].try_into().expect("four bytes");
+            u32::from_le_bytes(four)
+        };
+        let (size, room) = (number(4) as usize, number(8) as usize);
+        if size > MOST_SIZE || room > MOST_ROOM {
+            return None;
+        }
+        let (body, rest) = rest.split_at_checked(size)?;
+        let body = body.to_vec();
+        let request = match number(0) {
+            0 => Request::List { table: body, room },
+            1 => Request::Write {
+                command: command_of(number(12), number(16), number(20))?,
+                payload: body,
+                room,
+            },
+            2 => Request::Read { line: body },
+            _ => return None,
+        };
+        Some((request, rest))
+    }
+
+    /// The outcome's bytes.
+    pub fn outcome(&self, second: Second) -> Vec<u8> {
+        match self {
+            Request::List { table, room } => listed(second, table, *room),
+            Request::Write {
+                command,
+                payload,
+                room,
+            } => wrote(second, *command, payload, *room),
+            Request::Read { line } => read(second, line),
+        }
+    }
+}
+
+fn put(bytes: &mut Vec<u8>, numbers: &[u32]) {
+    bytes.extend(numbers.iter().flat_map(|number| number.to_le_bytes()));
+}
+
+/// Refusal and number: one of them is 0.
+fn reply(answer: Result<usize, Refusal>) -> [u32; 2] {
+    match answer {
+        Ok(number) => [0, number as u32],
+        Err(refusal) => [u32::from(refusal.number()), 0],
+    }
+}
+
+fn numbers_of(command: Command) -> [u32; 3] {
+    match command {
+        Command::Open { last } => [0, last.0, 0],
+        Command::Take { due, weight } => [1, due.0, weight.0],
+        Command::Send => [2, 0, 0],
+    }
+}
+
+fn command_of(number: u32, slot: u32, weight: u32) -> Option<Command> {
+    match number {
+        0 => Some(Command::Open { last: Slot(slot) }),
+        1 => Some(Command::Take {
+            due: Slot(slot),
+            weight: Weight(weight),
+        }),
+        2 => Some(Command::Send),
+        _ => None,
+    }
+}
+
+fn listed(second: Second, table: &[u8], room: usize) -> Vec<u8> {
+    let mut entries = vec![ENTRY; room];
+    let answer = second.list(table, &mut entries);
+    let mut bytes = Vec::new();
+    put(&mut bytes, &reply(answer));
+    for entry in entries {
+        put(&mut bytes, &[entry.ticket.0, entry.due.0, entry.weight.0]);
+    }
+    bytes
+}
+
+fn wrote(second: Second, command: Command, payload: &[u8], room: usize) -> Vec<u8> {
+    let mut buffer = vec![BYTE; room];
+    let answer = second.write(command, payload, &mut buffer);
+    let mut bytes = Vec::new();
+    put(&mut bytes, &reply(answer));
+    bytes.extend(buffer);
+    bytes
+}
+
+fn read(second: Second, line: &[u8]) -> Vec<u8> {
+    let (refusal, [command, slot, weight]) = match second.read(line) {
+        Ok(command) => (0, numbers_of(command)),
+        Err(refusal) => (u32::from(refusal.number()), [0; 3]),
+    };
+    let (start, end) = second.payload_place(line);
+    let payload = second.payload(line);
+    let places = [start as u32, end as u32, payload.len() as u32];
+    let mut bytes = Vec::new();
+    put(&mut bytes, &[refusal, command, slot, weight]);
+    put(&mut bytes, &places);
+    bytes.extend_from_slice(payload);
+    bytes
+}

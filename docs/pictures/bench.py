@@ -1,5 +1,5 @@
 #!/usr/bin/env python3
-"""bench.py < docs/bench.txt > SVG: draws what bench/run printed. Left, the instructions of each call by rows, its costliest shape;
+"""bench.py FIGURES: draws what bench/run printed. Left, the instructions of each call by rows, its costliest shape;
 right, at 1,024 rows, the ratio to tuned Rust shape by shape."""
 import math
 import re
@@ -86,7 +86,8 @@ def bars(found):
 
 
 def main():
-    found = cells(sys.stdin)
+    with open(sys.argv[1], encoding="utf-8") as file:
+        found = cells(file)
     print(f'<svg xmlns="http://www.w3.org/2000/svg" viewBox="0 0 {WIDTH} {HEIGHT}" width="{WIDTH}" height="{HEIGHT}" '
           'font-family="Helvetica, Arial, sans-serif">')
     print(f'<rect width="{WIDTH}" height="{HEIGHT}" rx="8" fill="{PAPER}"/>')

@@ -1,5 +1,5 @@
 #!/usr/bin/env python3
-"""figures.py BENCH PAGE: writes the figures of bench/run's output BENCH into PAGE, between its two marks."""
+"""figures.py BENCH PAGE: prints PAGE with the figures of bench/run's output BENCH between its two marks."""
 import re
 import sys
 
@@ -29,9 +29,7 @@ def main():
     with open(bench, encoding="utf-8") as file:
         lines = "\n".join(table(file.read()))
     with open(page, encoding="utf-8") as file:
-        whole = file.read()
-    with open(page, "w", encoding="utf-8") as file:
-        file.write(MARKS.sub(lambda marks: marks[1] + lines + "\n" + marks[2], whole))
+        print(MARKS.sub(lambda marks: marks[1] + lines + "\n" + marks[2], file.read()), end="")
 
 
 if __name__ == "__main__":

@@ -1,5 +1,5 @@
 #!/usr/bin/env python3
-"""round.py < VALUES > SVG: draws what round.c prints, a round before a sending and after it."""
+"""round.py VALUES: draws what round.c prints, a round before a sending and after it."""
 import sys
 
 WIDTH, LEFT, COLUMN, ROW, TOP, NOTES = 960, 90, 72, 26, 64, 690
@@ -142,7 +142,8 @@ LEGEND = (
 
 
 def main():
-    (before, after), sent = read(sys.stdin)
+    with open(sys.argv[1], encoding="utf-8") as file:
+        (before, after), sent = read(file)
     out = Drawing()
     y = panel(out, ("Slot 0 is about to be sent", "weight + 1.618 × substitute's"), before, 30, before_style(before, sent))
     y = panel(out, ("After slot 0", "changed by the leap"), after, y + 48, after_style(before))

@@ -13,7 +13,6 @@ const SHORT: Settings = Settings {
     factor: 0.02,
     drawn_only: false,
 };
-const FIRST_TWO: &[CallName] = &[CallName::Open, CallName::Take];
 
 fn compared(library: &mut dyn Library, mutation: Mutation) -> Result<Tally, Found> {
     run(library, Second { mutation }, SHORT, |_, _| ())
@@ -21,7 +20,7 @@ fn compared(library: &mut dyn Library, mutation: Mutation) -> Result<Tally, Foun
 
 #[test]
 fn meets_every_outcome() {
-    let Ok(tally) = compared(&mut Itself::PLAIN.clone(), Mutation::None) else {
+    let Ok(tally) = compared(&mut Itself, Mutation::None) else {
         panic!("it differs from itself");
     };
     let refusals: [(CallName, &[u8]); 6] = [
@@ -47,20 +46,10 @@ fn meets_every_outcome() {
     assert!(tally.met(CallName::Substitute, Outcome::Blank) > 9);
 }
 
-/// Every fault is caught; those of opening and taking even by a library that
-/// has only these two.
 #[test]
 fn catches_every_mutation() {
     for mutation in Mutation::ALL.iter().copied() {
-        let calls = match mutation.shown_by().plans() {
-            true => CallName::ALL,
-            false => FIRST_TWO,
-        };
-        let mut library = Itself {
-            calls,
-            ..Itself::PLAIN
-        };
-        assert!(compared(&mut library, mutation).is_err(), "{mutation:?}");
+        assert!(compared(&mut Itself, mutation).is_err(), "{mutation:?}");
         assert_eq!(Mutation::named(&mutation.name()), Some(mutation));
     }
 }
@@ -72,15 +61,12 @@ struct Wrong(Change);
 
 impl Wrong {
     fn ask(&self, call: Call, table: &mut [u8]) -> u64 {
-        let reply = ask(&mut Itself::PLAIN.clone(), call, table);
+        let reply = ask(&mut Itself, call, table);
         (self.0)(call, table, reply)
     }
 }
 
 impl Library for Wrong {
-    fn calls(&self) -> &'static [CallName] {
-        CallName::ALL
-    }
     fn open(&mut self, last: u32, table: &mut [u8]) -> u64 {
         self.ask(Call::Open { last }, table)
     }

@@ -1,8 +1,8 @@
 //! The bench: one call asked of both, and every difference told.
 
-use crate::call::{Call, CallName};
+use crate::call::Call;
 use crate::calls::Second;
-use crate::compare::library::{ask, has, Library};
+use crate::compare::library::{ask, Library};
 use crate::compare::store::Store;
 use crate::compare::tally::Tally;
 use std::fmt;
@@ -42,17 +42,8 @@ impl<'a> Bench<'a> {
         }
     }
 
-    pub fn has(&self, call: CallName) -> bool {
-        has(self.library, call)
-    }
-
     /// Asks both and compares the reply, each lent byte and the guard bytes.
-    /// A call that the library lacks is made by the second one alone, so that
-    /// the table still moves on.
     pub fn check(&mut self, call: Call, table: &mut [u8]) -> Agreed<u64> {
-        if !self.has(call.name()) {
-            return Ok(self.second.answer(call, table));
-        }
         self.before.clear();
         self.before.extend_from_slice(table);
         let lent = self.store.lend(table, self.agreed as usize);
@@ -76,9 +67,6 @@ impl<'a> Bench<'a> {
 
     /// The same on a copy, for a call whose table is not wanted.
     pub fn check_aside(&mut self, call: Call, table: &[u8]) -> Agreed<u64> {
-        if !self.has(call.name()) {
-            return Ok(0);
-        }
         self.check(call, &mut table.to_vec())
     }
 

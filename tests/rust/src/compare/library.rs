@@ -1,22 +1,15 @@
-//! What is compared: a library with some or all of the stations' calls, their
-//! replies packed.
+//! What is compared: a library with the stations' calls, their replies packed.
 
-use crate::call::{Call, CallName};
+use crate::call::Call;
 use crate::calls::Second;
 
 pub trait Library {
-    /// The calls it has; no other is asked of it.
-    fn calls(&self) -> &'static [CallName];
     fn open(&mut self, last: u32, table: &mut [u8]) -> u64;
     fn take(&mut self, due: u32, weight: u32, table: &mut [u8]) -> u64;
     fn send(&mut self, table: &mut [u8]) -> u64;
     fn mark(&mut self, slot: u32, table: &[u8]) -> u64;
     fn total(&mut self, table: &[u8]) -> u64;
     fn substitute(&mut self, ticket: u32, table: &[u8]) -> u64;
-}
-
-pub fn has(library: &dyn Library, call: CallName) -> bool {
-    library.calls().contains(&call)
 }
 
 pub fn ask(library: &mut dyn Library, call: Call, table: &mut [u8]) -> u64 {
@@ -30,48 +23,31 @@ pub fn ask(library: &mut dyn Library, call: Call, table: &mut [u8]) -> u64 {
     }
 }
 
-/// The second implementation in the library's place, with all calls or fewer.
-#[derive(Clone)]
-pub struct Itself {
-    pub second: Second,
-    pub calls: &'static [CallName],
-}
-
-impl Itself {
-    /// Without a fault and with all calls.
-    pub const PLAIN: Itself = Itself {
-        second: Second::PLAIN,
-        calls: CallName::ALL,
-    };
-}
+/// The second implementation in the library's place.
+pub struct Itself;
 
 impl Library for Itself {
-    fn calls(&self) -> &'static [CallName] {
-        self.calls
-    }
-
     fn open(&mut self, last: u32, table: &mut [u8]) -> u64 {
-        self.second.answer(Call::Open { last }, table)
+        Second::PLAIN.answer(Call::Open { last }, table)
     }
 
     fn take(&mut self, due: u32, weight: u32, table: &mut [u8]) -> u64 {
-        self.second.answer(Call::Take { due, weight }, table)
+        Second::PLAIN.answer(Call::Take { due, weight }, table)
     }
 
     fn send(&mut self, table: &mut [u8]) -> u64 {
-        self.second.answer(Call::Send, table)
+        Second::PLAIN.answer(Call::Send, table)
     }
 
     fn mark(&mut self, slot: u32, table: &[u8]) -> u64 {
-        self.second.answer(Call::Mark { slot }, &mut table.to_vec())
+        Second::PLAIN.answer(Call::Mark { slot }, &mut table.to_vec())
     }
 
     fn total(&mut self, table: &[u8]) -> u64 {
-        self.second.answer(Call::Total, &mut table.to_vec())
+        Second::PLAIN.answer(Call::Total, &mut table.to_vec())
     }
 
     fn substitute(&mut self, ticket: u32, table: &[u8]) -> u64 {
-        self.second
-            .answer(Call::Substitute { ticket }, &mut table.to_vec())
+        Second::PLAIN.answer(Call::Substitute { ticket }, &mut table.to_vec())
     }
 }

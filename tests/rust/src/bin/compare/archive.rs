@@ -1,16 +1,11 @@
 //! The library's archive through its C boundary. A slice crosses as a pointer
 //! and a length.
 
-use second::call::CallName;
 use second::compare::library::Library;
 
 extern "C" {
     fn lirvedd_open(last: u32, table: *mut u8, length: usize) -> u64;
     fn lirvedd_take(due: u32, weight: u32, table: *mut u8, length: usize) -> u64;
-}
-
-#[cfg(feature = "planner")]
-extern "C" {
     fn lirvedd_send(table: *mut u8, length: usize) -> u64;
     fn lirvedd_mark(slot: u32, table: *const u8, length: usize) -> u64;
     fn lirvedd_total(table: *const u8, length: usize) -> u64;
@@ -19,24 +14,8 @@ extern "C" {
 
 pub struct Archive;
 
-/// Answers a call that the archive does not have yet. None is asked of it.
-#[cfg(not(feature = "planner"))]
-fn lacking() -> u64 {
-    unreachable!("the archive lacks this call")
-}
-
 // Each call lends exactly the slice's bytes for its own duration.
 impl Library for Archive {
-    #[cfg(feature = "planner")]
-    fn calls(&self) -> &'static [CallName] {
-        CallName::ALL
-    }
-
-    #[cfg(not(feature = "planner"))]
-    fn calls(&self) -> &'static [CallName] {
-        &[CallName::Open, CallName::Take]
-    }
-
     fn open(&mut self, last: u32, table: &mut [u8]) -> u64 {
         unsafe { lirvedd_open(last, table.as_mut_ptr(), table.len()) }
     }
@@ -45,43 +24,19 @@ impl Library for Archive {
         unsafe { lirvedd_take(due, weight, table.as_mut_ptr(), table.len()) }
     }
 
-    #[cfg(feature = "planner")]
     fn send(&mut self, table: &mut [u8]) -> u64 {
         unsafe { lirvedd_send(table.as_mut_ptr(), table.len()) }
     }
 
-    #[cfg(feature = "planner")]
     fn mark(&mut self, slot: u32, table: &[u8]) -> u64 {
         unsafe { lirvedd_mark(slot, table.as_ptr(), table.len()) }
     }
 
-    #[cfg(feature = "planner")]
     fn total(&mut self, table: &[u8]) -> u64 {
         unsafe { lirvedd_total(table.as_ptr(), table.len()) }
     }
 
-    #[cfg(feature = "planner")]
     fn substitute(&mut self, ticket: u32, table: &[u8]) -> u64 {
         unsafe { lirvedd_substitute(ticket, table.as_ptr(), table.len()) }
-    }
-
-    #[cfg(not(feature = "planner"))]
-    fn send(&mut self, _: &mut [u8]) -> u64 {
-        lacking()
-    }
-
-    #[cfg(not(feature = "planner"))]
-    fn mark(&mut self, _: u32, _: &[u8]) -> u64 {
-        lacking()
-    }
-
-    #[cfg(not(feature = "planner"))]
-    fn total(&mut self, _: &[u8]) -> u64 {
-        lacking()
-    }
-
-    #[cfg(not(feature = "planner"))]
-    fn substitute(&mut self, _: u32, _: &[u8]) -> u64 {
-        lacking()
     }
 }

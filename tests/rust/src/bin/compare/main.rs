@@ -7,7 +7,7 @@ mod options;
 use options::{Job, Options};
 use second::calls::Second;
 use second::compare::kinds::{run, Found, Settings};
-use second::compare::library::{has, Itself, Library};
+use second::compare::library::{Itself, Library};
 use second::mutation::Mutation;
 use std::process::ExitCode;
 
@@ -39,20 +39,11 @@ fn library(options: Options) -> (Box<dyn Library>, &'static str) {
         return (Box::new(archive::Archive), "the archive");
     }
     let _ = options;
-    (Box::new(Itself::PLAIN), "itself")
-}
-
-/// The library against which this fault can be shown.
-fn library_for(options: Options, mutation: Mutation) -> (Box<dyn Library>, &'static str) {
-    let (found, name) = library(options);
-    if has(found.as_ref(), mutation.shown_by()) {
-        return (found, name);
-    }
-    (Box::new(Itself::PLAIN), "itself")
+    (Box::new(Itself), "itself")
 }
 
 fn compare(options: Options, mutation: Mutation) -> bool {
-    let (mut library, name) = library_for(options, mutation);
+    let (mut library, name) = library(options);
     let settings = options.settings;
     println!(
         "compare: with {name}, seed {}, factor {}",
@@ -103,7 +94,7 @@ fn mutations(options: Options) -> bool {
 /// Where a fault is caught. A fault in planning must be caught by the drawn
 /// inputs alone too.
 fn caught_at(options: Options, mutation: Mutation) -> Option<String> {
-    let (mut library, name) = library_for(options, mutation);
+    let (mut library, name) = library(options);
     let mut place = |drawn_only| {
         let settings = Settings {
             drawn_only,

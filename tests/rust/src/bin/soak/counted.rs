@@ -101,10 +101,6 @@ fn size(length: usize) -> usize {
 }
 
 impl Library for Counted<'_> {
-    fn calls(&self) -> &'static [CallName] {
-        self.library.calls()
-    }
-
     fn open(&mut self, last: u32, table: &mut [u8]) -> u64 {
         let reply = self.library.open(last, table);
         self.count(CallName::Open, table, reply)

@@ -7,8 +7,8 @@
  * docs/REPLIES.md the rule by which replies are packed.
  *
  * What the caller owes, in every call:
- *   - `table` points to `length` bytes that may be read and written for as long as the call runs. With length 0 any
- *     pointer will do, NULL too: the reply is refusal 2. No alignment is needed.
+ *   - `table` points to `length` bytes that may be read, and written where the pointer is not to const, for as long as the
+ *     call runs. With length 0 any pointer will do, NULL too: the reply is refusal 2. No alignment is needed.
  *   - nobody else reads or writes these bytes meanwhile: one caller at a time for each table, and no two tables that
  *     are in use at once overlap. Two callers with two tables need no lock.
  *
@@ -38,6 +38,7 @@ extern "C" {
 #define LIRVEDD_MOST_LAST 4095u
 #define LIRVEDD_MOST_WEIGHT 16777216u
 #define LIRVEDD_TICKET_LIMIT 16777216u
+#define LIRVEDD_MOST_TOTAL ((uint64_t)LIRVEDD_MOST_ROWS * LIRVEDD_MOST_WEIGHT)
 
 /* Why a call was refused. Where several apply, the call gives the first in its own order. */
 enum lirvedd_refusal_number {
@@ -61,45 +62,58 @@ enum lirvedd_what {
     LIRVEDD_KEPT_BLANK = 2 /* an empty slot that was kept, by its ticket: nothing goes on air */
 };
 
-/* Opens a round of the slots 0 to `last`, whatever the table held before: current slot 0, next ticket 1, no row in use,
- * every other byte 0.
+/* Every call below: what it does, its arguments, its reply, and the refusals in the order in which they are checked. A number that
+ * fits no slot, weight or ticket is refused, never cut down. A refused call leaves every byte of the table as it was. */
+
+/* Opens a round of the slots 0 to `last`, whatever the table held before: current slot 0, next ticket 1, no row in use, every
+ * other byte 0. What the table held is not read.
  *
- * Reply: 0, or one of the refusals 2 and 4, in this order.
+ *   last     the last slot, 0 to LIRVEDD_MOST_LAST
+ *   reply    0
+ *   refused  2, 4
  */
 uint64_t lirvedd_open(uint32_t last, uint8_t *table, size_t length);
 
-/* Takes a frame that is to go out in slot `due` at the latest. It fills the first unused row; the next ticket and the
- * rows in use rise by 1, and nothing else changes.
+/* Takes a frame. It fills the first unused row; the next ticket and the rows in use rise by 1, and nothing else changes. The
+ * frame's payload stays with the caller, who finds it again by the ticket.
  *
- * Reply: the frame's ticket (lirvedd_ticket), or one of the refusals 2, 3, 5, 6, 7, 8 and 9, in this order.
+ *   due      the last slot in which the frame may go out, from the current slot to the last
+ *   weight   1 to LIRVEDD_MOST_WEIGHT
+ *   reply    the frame's ticket (lirvedd_ticket); it is never given again in this round
+ *   refused  2, 3, 5, 6, 7, 8, 9
  */
 uint64_t lirvedd_take(uint32_t due, uint32_t weight, uint8_t *table, size_t length);
 
-/* Sends the current slot: what goes out leaves the table, a leap may lower due slots and raise weights of others, rows due
- * before the next slot leave, and the current slot rises by 1.
+/* Sends the current slot, once a slot: what goes out leaves the table, rows due in this slot leave unsent, and the current slot rises
+ * by 1. A leap may also lower due slots and raise weights of other rows, and may keep a blank in the row of what went out: its
+ * ticket may then come again, as LIRVEDD_KEPT_BLANK.
  *
- * Reply: what went out (lirvedd_out), whether by a leap (lirvedd_is_leap) and the ticket (lirvedd_ticket; 0 for silence), or
- * one of the refusals 2, 3 and 5, in this order.
+ *   reply    what went out (lirvedd_out), its ticket (lirvedd_ticket; 0 for silence), and whether by a leap (lirvedd_is_leap)
+ *   refused  2, 3, 5
  */
 uint64_t lirvedd_send(uint8_t *table, size_t length);
 
-/* The mark of a slot: a frame due there that is taken now raises the plan's total by what its weight is above the mark.
- * The mark of a slot still ahead never sinks while the round is not opened anew. The table is only read.
+/* The mark of a slot: a frame due there that is taken now raises the plan's total by what its weight is above the mark, and by
+ * nothing if it is not above. The mark of a slot still ahead never sinks while the round is not opened anew. The table is only read.
  *
- * Reply: the mark (lirvedd_amount), or one of the refusals 2, 3, 5 and 7, in this order.
+ *   slot     from the current slot to the last
+ *   reply    the mark (lirvedd_amount), 0 to LIRVEDD_MOST_WEIGHT
+ *   refused  2, 3, 5, 7
  */
 uint64_t lirvedd_mark(uint32_t slot, const uint8_t *table, size_t length);
 
 /* The total weight of the plan, kept blanks included. The table is only read.
  *
- * Reply: the total (lirvedd_amount), or one of the refusals 2, 3 and 5, in this order.
+ *   reply    the total (lirvedd_amount), 0 to LIRVEDD_MOST_TOTAL
+ *   refused  2, 3, 5
  */
 uint64_t lirvedd_total(const uint8_t *table, size_t length);
 
-/* The substitute of a ticket whose row is in the plan: a waiting row, or a blank. The table is only read.
+/* The substitute of a row of the plan: a waiting row, or a blank. The table is only read.
  *
- * Reply: the substitute's ticket (lirvedd_ticket), or 0 there for a blank, whose due slot is lirvedd_blank_due; or one of
- * the refusals 2, 3, 5, 10 and 11, in this order.
+ *   ticket   of a row that is in the plan
+ *   reply    the substitute's ticket (lirvedd_ticket), or 0 there for a blank, whose due slot is lirvedd_blank_due
+ *   refused  2, 3, 5, 10, 11
  */
 uint64_t lirvedd_substitute(uint32_t ticket, const uint8_t *table, size_t length);
 
@@ -110,7 +124,7 @@ static inline uint32_t lirvedd_refusal(uint64_t reply)
 }
 
 /* Of an accepted reply of lirvedd_take, lirvedd_send or lirvedd_substitute: the ticket, 1 to LIRVEDD_TICKET_LIMIT - 1; 0 for
- * silence and for a blank. Of a refusal: 0. */
+ * silence and for a blank. This and all below give 0 of a refusal. */
 static inline uint32_t lirvedd_ticket(uint64_t reply)
 {
     return (uint32_t)((reply >> 8) & 0xFFFFFFu);
@@ -143,7 +157,11 @@ static inline uint32_t lirvedd_blank_due(uint64_t reply)
 LIRVEDD_STATIC_ASSERT(sizeof(size_t) == 8, "the archive is for x86-64: a length has 64 bits");
 LIRVEDD_STATIC_ASSERT(LIRVEDD_TABLE_SIZE(1) == 40, "the least table has 40 bytes");
 LIRVEDD_STATIC_ASSERT(LIRVEDD_TABLE_SIZE(LIRVEDD_MOST_ROWS) == 24592, "the largest table has 24,592 bytes");
+LIRVEDD_STATIC_ASSERT(LIRVEDD_NOT_IN_PLAN <= 0xFFu, "a refusal has 8 bits in a reply");
 LIRVEDD_STATIC_ASSERT(LIRVEDD_TICKET_LIMIT - 1 <= 0xFFFFFFu, "a ticket has 24 bits in a reply");
+LIRVEDD_STATIC_ASSERT(LIRVEDD_MOST_LAST <= 0xFFFFu, "a blank's due slot has 16 bits in a reply");
+LIRVEDD_STATIC_ASSERT(LIRVEDD_KEPT_BLANK <= 3, "what went out has 2 bits in a reply");
+LIRVEDD_STATIC_ASSERT(LIRVEDD_MOST_TOTAL < ((uint64_t)1 << 35), "an amount has 35 bits in a reply");
 
 #ifdef __cplusplus
 }

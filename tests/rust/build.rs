@@ -1,4 +1,4 @@
-//! Links the library's archive into `compare` when LIRVEDD_ARCHIVE names it.
+//! Links the library's archive into `compare` and `soak` when LIRVEDD_ARCHIVE names it.
 //! Without it everything still builds, and `compare` knows only itself.
 
 use std::env;
@@ -20,5 +20,7 @@ fn main() {
     let full = full.display();
     println!("cargo:rerun-if-changed={full}");
     println!("cargo:rustc-cfg=archive");
-    println!("cargo:rustc-link-arg-bin=compare={full}");
+    for bin in ["compare", "soak"] {
+        println!("cargo:rustc-link-arg-bin={bin}={full}");
+    }
 }

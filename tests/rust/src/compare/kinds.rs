@@ -5,7 +5,7 @@ use crate::compare::bench::{Agreed, Bench, Difference};
 use crate::compare::draw::Draw;
 use crate::compare::library::Library;
 use crate::compare::tally::Tally;
-use crate::compare::{bytes, damage, extremes, hands, large, lengths, lists, sound};
+use crate::compare::{bytes, damage, extremes, fullest, hands, large, lengths, lists, sound};
 
 /// Runs one case.
 type Run = fn(&mut Bench, &mut Draw, u64) -> Agreed<()>;
@@ -29,6 +29,9 @@ pub const KINDS: &[Kind] = &[
     drawn("lists", 4_000, lists::run),
     drawn("large", 200, large::run),
 ];
+
+/// What the long run has beside them.
+pub const FULLEST: &[Kind] = &[drawn("fullest", 10, fullest::run)];
 
 const fn fixed(name: &'static str, cases: u64, run: Run) -> Kind {
     let grows = false;
@@ -81,10 +84,21 @@ pub fn run(
     library: &mut dyn Library,
     second: Second,
     settings: Settings,
+    tell: impl FnMut(&Kind, u64),
+) -> Result<Tally, Found> {
+    run_kinds(KINDS, library, second, settings, tell)
+}
+
+/// The same for the kinds given.
+pub fn run_kinds(
+    kinds: &[Kind],
+    library: &mut dyn Library,
+    second: Second,
+    settings: Settings,
     mut tell: impl FnMut(&Kind, u64),
 ) -> Result<Tally, Found> {
     let mut bench = Bench::new(library, second);
-    for (number, kind) in KINDS.iter().enumerate() {
+    for (number, kind) in kinds.iter().enumerate() {
         let before = bench.agreed;
         for case in 0..kind.cases(settings) {
             let mut draw = Draw::for_case(settings.seed, number as u64, case);

@@ -6,6 +6,7 @@ pub mod bytes;
 pub mod damage;
 pub mod draw;
 pub mod extremes;
+pub mod fullest;
 pub mod hands;
 pub mod kinds;
 pub mod large;

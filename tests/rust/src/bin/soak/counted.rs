@@ -1,0 +1,133 @@
+//! A library that counts what is asked of it: by kind of input, by size of
+//! table, and by outcome.
+
+use second::call::CallName;
+use second::compare::library::Library;
+use second::compare::tally::Tally;
+use second::table::row_at;
+use std::cell::RefCell;
+use std::collections::BTreeMap;
+use std::fmt::Display;
+
+/// The sizes that are told apart: the most rows of each, and its name.
+const SIZES: &[(usize, &str)] = &[
+    (15, "1 to 15"),
+    (127, "16 to 127"),
+    (1_023, "128 to 1,023"),
+    (1_024, "1,024"),
+    (usize::MAX, "no table"),
+];
+
+/// From this place of `SIZES` on to the last but one, a table has 128 rows or more.
+const LARGE: usize = 2;
+
+#[derive(Default)]
+pub struct Counts {
+    /// By size, of the kind that runs now.
+    sizes: [u64; SIZES.len()],
+    /// By size, of each kind that has run.
+    kinds: BTreeMap<&'static str, [u64; SIZES.len()]>,
+    /// Accepted sendings at 1,024 rows with last slot 4,095.
+    pub fullest: u64,
+    pub outcomes: Tally,
+}
+
+impl Counts {
+    /// What was counted since the last kind ended belongs to this one.
+    pub fn end_of(&mut self, kind: &'static str) {
+        let own = self.kinds.entry(kind).or_default();
+        for (sum, count) in own.iter_mut().zip(std::mem::take(&mut self.sizes)) {
+            *sum += count;
+        }
+    }
+
+    fn of_size(&self, size: usize) -> u64 {
+        self.kinds.values().map(|own| own[size]).sum()
+    }
+
+    pub fn large(&self) -> u64 {
+        self.of_size(LARGE) + self.of_size(LARGE + 1)
+    }
+
+    pub fn show(&self) {
+        println!("{}", line("rows", SIZES.iter().map(|size| size.1)));
+        for (kind, own) in &self.kinds {
+            println!("{}", line(kind, own));
+        }
+        let sums = (0..SIZES.len()).map(|size| self.of_size(size));
+        println!("{}", line("all", sums));
+        for outcomes in self.outcomes.lines() {
+            println!("{outcomes}");
+        }
+    }
+}
+
+fn line(name: &str, cells: impl IntoIterator<Item = impl Display>) -> String {
+    let cells: Vec<String> = cells
+        .into_iter()
+        .map(|cell| format!("{cell:>13}"))
+        .collect();
+    format!("{name:10}{}", cells.concat())
+}
+
+/// The library, with its counts beside it.
+pub struct Counted<'a> {
+    pub library: Box<dyn Library>,
+    pub counts: &'a RefCell<Counts>,
+}
+
+impl Counted<'_> {
+    /// Counts one call by the table it was lent and the reply.
+    fn count(&self, call: CallName, table: &[u8], reply: u64) -> u64 {
+        let mut counts = self.counts.borrow_mut();
+        counts.sizes[size(table.len())] += 1;
+        counts.outcomes.add(call, reply);
+        let fullest = table.len() == row_at(1_024) && table[2..4] == [0xFF, 0x0F];
+        if call == CallName::Send && reply & 0xFF == 0 && fullest {
+            counts.fullest += 1;
+        }
+        reply
+    }
+}
+
+/// The place of a table's size; a length that refusal 2 turns down is the last one.
+fn size(length: usize) -> usize {
+    let rows = (1..=1_024).find(|rows| row_at(*rows) >= length);
+    match rows {
+        Some(rows) if row_at(rows) == length => SIZES.iter().position(|size| rows <= size.0),
+        _ => None,
+    }
+    .unwrap_or(SIZES.len() - 1)
+}
+
+impl Library for Counted<'_> {
+    fn open(&mut self, last: u32, table: &mut [u8]) -> u64 {
+        let reply = self.library.open(last, table);
+        self.count(CallName::Open, table, reply)
+    }
+
+    fn take(&mut self, due: u32, weight: u32, table: &mut [u8]) -> u64 {
+        let reply = self.library.take(due, weight, table);
+        self.count(CallName::Take, table, reply)
+    }
+
+    fn send(&mut self, table: &mut [u8]) -> u64 {
+        let reply = self.library.send(table);
+        self.count(CallName::Send, table, reply)
+    }
+
+    fn mark(&mut self, slot: u32, table: &[u8]) -> u64 {
+        let reply = self.library.mark(slot, table);
+        self.count(CallName::Mark, table, reply)
+    }
+
+    fn total(&mut self, table: &[u8]) -> u64 {
+        let reply = self.library.total(table);
+        self.count(CallName::Total, table, reply)
+    }
+
+    fn substitute(&mut self, ticket: u32, table: &[u8]) -> u64 {
+        let reply = self.library.substitute(ticket, table);
+        self.count(CallName::Substitute, table, reply)
+    }
+}

@@ -5,23 +5,22 @@ use mathlib.Core.Bool.{Bool, true, false, cond, true≢false}
 use mathlib.Core.List.{List, [], _∷_}
 use Prim.Native.Nat.{ℕ, suc, _-_, _≤_, _<_}
 use native.Mathlib.Omega.{arith}
-use lib.Dec.{leb, eqb}
+use lib.Dec.{leb}
 use lib.ListN.{length}
-use borrow.Author.Tests.{le-leb, eq-eqb, ne-eqb}
+use borrow.Author.Tests.{le-leb}
 use Rattle.rules.specs.Rows.{Row, Round, blank, heavier, canonical, slots-left, All, In}
 use Rattle.rules.specs.Plan.{plan, due-by, first-end, segment-start, heaviest-outside, substitute, sends-before, best-from, best, planned}
 use Rattle.rules.specs.Steps.{is-ordinary}
-use Rattle.theory.specs.Tests.{leb?, ltb?, eqb?}
-use Rattle.theory.specs.All.{all-in, all-of-in, Is-blank, blank-ticket, blank-is}
+use Rattle.theory.specs.Tests.{ltb?, eqb?}
+use Rattle.theory.specs.All.{all-in, all-of-in, Is-blank}
 use Rattle.theory.specs.Order.{Not-over, Not-before, canonical?, canonical-no, not-before-canonical, before-not, not-before-self, not-before-due, not-before-trans, not-before-both, heavier-no}
 use Rattle.theory.specs.Full.{Fine, Row-fine, plan-length}
 use Rattle.theory.specs.Change.{rising-same}
 use Rattle.theory.specs.Same.{in-plan?, row-ticket}
 use Rattle.theory.specs.Score.{score-of, sends-by-score}
 use Rattle.theory.specs.Unique.{plan-out}
-use Rattle.theory.specs.Slack.{idlers-is, with-blank, slack, slack-some, least-here, tight-after-is, first-from}
-use Rattle.theory.specs.Keys.{pick-key, pick-less, pick-same}
-use Rattle.theory.specs.Members.{Rows, planned-rows, of-rows-in, of-rows-ticket, of-rows-fine, member-found, found-member, member?}
+use Rattle.theory.specs.Slack.{idlers-is, with-blank, slack, slack-some}
+use Rattle.theory.specs.Members.{Rows, planned-rows, of-rows-in, of-rows-ticket, member-found, found-member, member?}
 use Rattle.theory.specs.Top.{Top, top-pick}
 use Rattle.theory.specs.Substitute.{first-end-from, first-weight, first-blank, later-is, score-blank, score-row}
 
@@ -202,49 +201,6 @@ module _ (r : Round) (f : Fine r) (o : r .slot ≤ r .last) (rs : List Row) (c :
       beaten q (inl a) = inl a
       beaten q (inr a) = inr (a .0, canonical-no q p (a .1))
 
-  -- and it beats every other row
-  pub best-beats : (q : Row) → In q rs → q .ticket ≢ best r (plan r) .ticket →
-      (score-of r q < score-of r (best r (plan r))) ⊎ ((score-of r q ≡ score-of r (best r (plan r))) × (canonical (best r (plan r)) q ≡ true))
-  best-beats q i n =
-      let p = best r (plan r) in
-      let g : Goes r p = best-goes r f o in
-      elim (g .first q (found-member r f rs c q i)) [
-        | inl a ↦ inl a
-        | inr a ↦ inr (a .0, elim (canonical? p q) [ inl d ↦ d .0 | inr d ↦ absurd (n (not-before-both q p (a .1) (d .1))) ])
-      ]
-
-  -- rows with one due slot have substitutes of one weight
-  pub same-due : (p q : Row) → In p rs → In q rs → p .due ≡ q .due → substitute r (plan r) p .weight ≡ substitute r (plan r) q .weight
-  same-due p q i j e = elim (leb? (p .due) (first-end r (plan r))) [
-    | inl h ↦ first-weight r f p (found-member r f rs c p i) (h .1) ∙ sym (first-weight r f q (found-member r f rs c q j) (omega (arith, h .1, e)))
-    | inr h ↦ ap (λ (z : Row). z .weight) (later-is r p (h .1)
-        ∙ ap (λ d. heaviest-outside (segment-start r (plan r) d) (r .rows) (plan r) (blank (segment-start r (plan r) d))) e
-        ∙ sym (later-is r q (omega (arith, h .1, e))))
-  ]
-
-  -- BY ONE KEY: the score, then the earlier due slot; of equal keys the smaller ticket
-  pub best-by-key : r .last ≤ 4095 → (p : Row) → In p rs →
-      ((q : Row) → In q rs → (pick-key (score-of r q) (q .due) < pick-key (score-of r p) (p .due))
-      ⊎ ((pick-key (score-of r q) (q .due) ≡ pick-key (score-of r p) (p .due)) × (p .ticket ≤ q .ticket))) →
-      best r (plan r) ≡ p
-  unfolding score-of
-  best-by-key l p i h = best-is p i (λ q j. one q j (h q j))
-    where
-      by-due : (q : Row) → In q rs → q .due ≤ 4095
-      by-due q j = omega (arith, l, of-rows-fine r f rs c q j .1)
-
-      one : (q : Row) → In q rs → (pick-key (score-of r q) (q .due) < pick-key (score-of r p) (p .due))
-          ⊎ ((pick-key (score-of r q) (q .due) ≡ pick-key (score-of r p) (p .due)) × (p .ticket ≤ q .ticket)) →
-          (score-of r q < score-of r p) ⊎ ((score-of r q ≡ score-of r p) × (canonical q p ≡ false))
-      one q j (inl a) = elim (pick-less (score-of r q) (q .due) (score-of r p) (p .due) (by-due q j) (by-due p i) a) [
-        | inl b ↦ inl b
-        | inr b ↦ inr (b .0, not-before-canonical q p (inl (b .1)))
-      ]
-      one q j (inr a) =
-          let b = pick-same (score-of r q) (q .due) (score-of r p) (p .due) (by-due q j) (by-due p i) (a .0) in
-          let w : q .weight ≡ p .weight = omega (arith, b .0, same-due q p j i (b .1)) in
-          inr (b .0, not-before-canonical q p (inr (b .1, inr (w, inr (b .1, a .1)))))
-
   -- BY SEGMENTS: of rows whose substitutes weigh the same, only the heaviest counts
   pub heaviest-beats : (p q : Row) → substitute r (plan r) q .weight ≡ substitute r (plan r) p .weight → heavier q p ≡ false →
       (score-of r q < score-of r p) ⊎ ((score-of r q ≡ score-of r p) × (canonical q p ≡ false))
@@ -294,18 +250,6 @@ module _ (r : Round) (f : Fine r) (o : r .slot ≤ r .last) (rs : List Row) (c :
   unfolding blank
   silence-ordinary e = ordinary-is (blank (r .slot)) (silent-best e) ∙ le-leb (r .slot) (first-end r (plan r)) (first-end-from r f o)
 
-  -- silence just where there are no rows
-  pub silence-is : eqb (best r (plan r) .ticket) 0 ≡ eqb (length (r .rows)) 0
-  silence-is = of-rows (r .rows) refl
-    where
-      of-rows : (xs : List Row) → r .rows ≡ xs → eqb (best r (plan r) .ticket) 0 ≡ eqb (length xs) 0
-      of-rows [] e = eq-eqb (best r (plan r) .ticket) 0 (ap (λ (x : Row). x .ticket) (silent-best e) ∙ blank-ticket (blank (r .slot)) (blank-is (r .slot)))
-          ∙ sym (eq-eqb 0 0 refl)
-      of-rows (x ∷ xs) e =
-          let i : In (best r (plan r)) rs = best-row x (subst (λ (zs : List Row). In x zs) (sym e) (inl refl)) in
-          let t = of-rows-ticket r f rs c (best r (plan r)) i in
-          ne-eqb (best r (plan r) .ticket) 0 (λ q. omega (arith, q, t)) ∙ sym (ne-eqb (suc (length xs)) 0 (λ q. omega (arith, q)))
-
   -- what goes in a leap is a row
   pub leap-goes : is-ordinary r ≡ false → In (best r (plan r)) rs
   leap-goes n = of-rows (r .rows) refl
@@ -313,7 +257,3 @@ module _ (r : Round) (f : Fine r) (o : r .slot ≤ r .last) (rs : List Row) (c :
       of-rows : (xs : List Row) → r .rows ≡ xs → In (best r (plan r)) rs
       of-rows [] e = absurd (true≢false (sym (silence-ordinary e) ∙ n))
       of-rows (x ∷ xs) e = best-row x (subst (λ (zs : List Row). In x zs) (sym e) (inl refl))
-
-  pub first-end-is : first-end r (plan r) ≡ first-from (least-here r rs) (suc (r .last) - r .slot) (r .slot)
-  unfolding first-end
-  first-end-is = tight-after-is r f rs (c .same) (r .slot) (omega arith) o

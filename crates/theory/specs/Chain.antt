@@ -72,9 +72,6 @@ module _ (r : Round) (f : Fine r) (rs : List Row) (c : Rows r rs) where
   unfolding shifted moved-to mark
   shifted-step n e g h xs p = rw (heaviest-found e g h p, lt-ltb e g (omega (arith, p .after, p .by)))
 
-  pub shifted-done : (n e g : ℕ) (xs : List Row) → g ≤ e → shifted n r (plan r) e g xs ≡ xs
-  shifted-done n e g xs h = no-shift n r e g xs h
-
   pub chain-shifted : (n e g : ℕ) (hs xs : List Row) → Chain r rs e g hs → length hs ≤ n → shifted n r (plan r) e g xs ≡ moves r e hs xs
   unfolding moves
   chain-shifted n e g [] xs k l = no-shift n r e g xs k
@@ -100,13 +97,6 @@ module _ (r : Round) (f : Fine r) (rs : List Row) (c : Rows r rs) where
   -- ALL TURNS: enough fuel is the slots between
   pub chain-is : (n e g : ℕ) (hs xs : List Row) → g ≤ n → Chain r rs e g hs → shifted n r (plan r) e g xs ≡ moves r e hs xs
   chain-is n e g hs xs l k = chain-shifted n e g hs xs k (omega (arith, l, chain-length e g hs k))
-
-  -- one turn, whatever the fuel: the loop's state is e and the rows so far
-  pub shifted-turn : (n e g : ℕ) (h : Row) (hs xs : List Row) → g ≤ n → Chain r rs e g (h ∷ hs) →
-      shifted n r (plan r) e g xs ≡ shifted n r (plan r) (tight-after r (plan r) (h .due)) g (changed (h .ticket) (moved-to r e h) xs)
-  unfolding moves
-  shifted-turn n e g h hs xs l k =
-      chain-is n e g (h ∷ hs) xs l k ∙ sym (chain-is n (tight-after r (plan r) (h .due)) g hs (changed (h .ticket) (moved-to r e h) xs) l (k .1))
 
   -- each link is due after the ends before it
   pub chain-after : (e g : ℕ) (hs : List Row) → Chain r rs e g hs → All (λ z. (In z rs) × (e < z .due) × (z .due ≤ g)) hs
@@ -192,16 +182,6 @@ module _ (r : Round) (f : Fine r) (rs : List Row) (c : Rows r rs) where
         (over-not h m (heavier-yes h m q))),
     chain-over (tight-after r (plan r) (x .due)) g ks ls h m (k .1) q,
   )
-
-  -- a slot's next tight one, found from an earlier slot on
-  pub next-same : (s d g : ℕ) → Next r (plan r) s g → s ≤ d → d ≤ g → tight-after r (plan r) d ≡ g
-  next-same s d g n h k =
-      let m = next r (plan r) d (omega (arith, k, n .by)) (plan-full r f) in
-      omega (
-        arith,
-        next-by r (plan r) d (tight-after r (plan r) d) g m k (n .tight),
-        next-by r (plan r) s g (tight-after r (plan r) d) n (omega (arith, h, m .from)) (m .tight),
-      )
 
   -- NO BLANKS by the end of a segment from which a row outside is due
   pub no-blank-by : (s : Row) → In s (r .rows) → in-plan s rs ≡ false → (x : Row) → In x (plan r) → x .due ≤ tight-after r (plan r) (s .due) → In x rs

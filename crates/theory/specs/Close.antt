@@ -7,8 +7,8 @@ use Prim.Native.Nat.{ℕ, suc, _+_, _*_, _-_, _≤_, _<_}
 use native.Mathlib.Omega.{arith}
 use lib.Dec.{leb, eqb}
 use borrow.Author.Tests.{le-leb, lt-leb, lt-ltb, le-ltb, ne-eqb}
-use lib.ListN.{length, getD, set, take, drop, replicate, length-append, length-drop, take-append-drop}
-use lib.Seq.{take-suc, drop-cons, take-at, drop-at, drop-drop, take-add, take-length, take-take, set-split, sets, sets-eq, paste, length-paste, take-paste, drop-paste, length-take-le}
+use lib.ListN.{length, getD, take, drop, replicate, length-append, length-drop, take-append-drop}
+use lib.Seq.{take-suc, drop-cons, take-at, drop-at, drop-drop, take-add, take-length, take-take, paste, length-paste, take-paste, drop-paste, length-take-le}
 use Rattle.rules.specs.Rows.{Row, Round, blank, round, row, All, In}
 use Rattle.rules.specs.Plan.{plan, tight-after, segment-start, mark, first-end, substitute, best}
 use Rattle.rules.specs.Steps.{changed, without, still-due, sent}
@@ -21,7 +21,7 @@ use Rattle.theory.specs.Back.{length-row, length-rows}
 use Rattle.theory.specs.Unique.{rising-other}
 use Rattle.theory.specs.Members.{Rows}
 use Rattle.theory.specs.Chain.{Chain, moves}
-use Rattle.theory.specs.Leaping.{rising-moves, each, or-changed, changed-each, final-row, final-ticket, moves-each, leapt-row, leapt-blank}
+use Rattle.theory.specs.Leaping.{rising-moves, leapt-row, leapt-blank}
 
 -- THE ROWS KEPT: those due from a slot on, but for one ticket; 0 is no row's
 unfoldable pub stays : (slot gone : ℕ) → Row → Bool
@@ -119,19 +119,6 @@ module _ (r : Round) (f : Fine r) (rs : List Row) (c : Rows r rs) where
             (moves r (tight-after r (plan r) (p .due)) hs (r .rows)) (rising-moves r 1 (r .next) (tight-after r (plan r) (p .due)) hs (r .rows) (f .rising))),
       )
 
-  -- the same with each row's new content told by the row alone
-  pub sent-row-each : (p s : Row) (hs : List Row) → best r (plan r) ≡ p → first-end r (plan r) < p .due → substitute r (plan r) p ≡ s → In s (r .rows) →
-      Chain r rs (tight-after r (plan r) (p .due)) (tight-after r (plan r) (s .due)) hs →
-      sent r ≡ after-slot r (closed (suc (r .slot)) (p .ticket)
-      (each (or-changed (s .ticket) (row (s .ticket) (s .due) (mark r (s .due)) (s .kind)) (final-row r (tight-after r (plan r) (p .due)) hs)) (r .rows)))
-  sent-row-each p s hs e h u i k =
-      sent-row p s hs e h u i k
-      ∙ ap (λ (xs : List Row). after-slot r (closed (suc (r .slot)) (p .ticket) xs))
-      (ap (λ (xs : List Row). changed (s .ticket) (row (s .ticket) (s .due) (mark r (s .due)) (s .kind)) xs)
-      (moves-each r f rs c 1 (r .next) (tight-after r (plan r) (p .due)) (tight-after r (plan r) (s .due)) hs (r .rows) (f .rising) k)
-      ∙ changed-each (s .ticket) (row (s .ticket) (s .due) (mark r (s .due)) (s .kind)) (final-row r (tight-after r (plan r) (p .due)) hs)
-      (final-ticket r (tight-after r (plan r) (p .due)) hs) 1 (r .next) (r .rows) (f .rising))
-
   -- onto a blank that is kept in p's row
   pub sent-kept : (p : Row) → best r (plan r) ≡ p → In p (plan r) → first-end r (plan r) < p .due →
       substitute r (plan r) p ≡ blank (segment-start r (plan r) (p .due)) → 1 ≤ mark r (p .due) →
@@ -193,34 +180,6 @@ rows-split xs i bs =
 
 pub rows-long : (xs : List Row) (i : ℕ) → i ≤ length xs → length (rows-bytes (take i xs)) ≡ 24 * i
 rows-long xs i h = omega (arith, length-rows (take i xs), length-take-le i xs h)
-
-pub rows-take : (xs : List Row) (i : ℕ) (bs : List ℕ) → i ≤ length xs → take (24 * i) (rows-bytes xs ++ bs) ≡ rows-bytes (take i xs)
-rows-take xs i bs h =
-    ap (λ (cs : List ℕ). take (24 * i) cs) (rows-split xs i bs) ∙ take-at (rows-bytes (take i xs)) (rows-bytes (drop i xs) ++ bs) (24 * i) (rows-long xs i h)
-
-pub rows-drop : (xs : List Row) (i : ℕ) (bs : List ℕ) → i ≤ length xs → drop (24 * i) (rows-bytes xs ++ bs) ≡ rows-bytes (drop i xs) ++ bs
-rows-drop xs i bs h =
-    ap (λ (cs : List ℕ). drop (24 * i) cs) (rows-split xs i bs) ∙ drop-at (rows-bytes (take i xs)) (rows-bytes (drop i xs) ++ bs) (24 * i) (rows-long xs i h)
-
--- A ROW WRITTEN IN PLACE
-pub rows-written : (xs : List Row) (i : ℕ) (y : Row) (bs : List ℕ) → i < length xs →
-    rows-bytes (set xs i y) ++ bs ≡ take (24 * i) (rows-bytes xs ++ bs) ++ row-bytes y ++ drop (24 * i + length (row-bytes y)) (rows-bytes xs ++ bs)
-unfolding rows-bytes
-rows-written xs i y bs h =
-    let d = rows-bytes (drop (suc i) xs) in
-    let e : 24 * i + length (row-bytes y) ≡ 24 * suc i = omega (arith, length-row y) in
-    ap (λ (zs : List Row). rows-bytes zs ++ bs) (set-split xs i y h)
-    ∙ ap (λ (cs : List ℕ). cs ++ bs) (rows-append (take i xs) (y ∷ drop (suc i) xs))
-    ∙ append-assoc (rows-bytes (take i xs)) (row-bytes y ++ d) bs
-    ∙ ap (λ (cs : List ℕ). rows-bytes (take i xs) ++ cs) (append-assoc (row-bytes y) d bs)
-    ∙ sym (append-assoc (rows-bytes (take i xs)) (row-bytes y) (d ++ bs))
-    ∙ ap₂ (λ (us : List ℕ) (vs : List ℕ). us ++ row-bytes y ++ vs) (sym (rows-take xs i bs (omega arith)))
-    (sym (ap (λ (n : ℕ). drop n (rows-bytes xs ++ bs)) e ∙ rows-drop xs (suc i) bs h))
-
-pub rows-set : (xs : List Row) (i : ℕ) (y : Row) (bs : List ℕ) → i < length xs → rows-bytes (set xs i y) ++ bs ≡ sets (rows-bytes xs ++ bs) (24 * i) (row-bytes y)
-rows-set xs i y bs h =
-    rows-written xs i y bs h
-    ∙ sym (sets-eq (row-bytes y) (rows-bytes xs ++ bs) (24 * i) (omega (arith, h, length-row y, length-append (rows-bytes xs) bs, length-rows xs)))
 
 -- what was pasted, read back
 pub drop-take-paste : (w : List ℕ) (a : ℕ) (s : List ℕ) (n : ℕ) → a ≤ length w → n ≤ length s → take n (drop a (paste w a s n)) ≡ take n s
@@ -353,76 +312,9 @@ module _ (t k : ℕ) (hd : List ℕ) (xs : List Row) (zs : List ℕ) where
       ∙ ap (λ (cs : List ℕ). drop (24 * i - 24 * n) cs) (drop-paste w (16 + 24 * n) s 24 a b)
       ∙ drop-drop (24 * i - 24 * n) (16 + 24 * n + 24) w ∙ ap (λ (m : ℕ). drop m w) (sym g))
 
-  -- A RUN of m rows that all stay, copied at once
-  pub closing-run : (i m : ℕ) (w v : List ℕ) → i + m ≤ length xs → Closing t k hd xs zs i w → All (λ x. stays t k x ≡ true) (take m (drop i xs)) →
-      length v ≡ length w → take (16 + 24 * kept-of t k xs i) v ≡ take (16 + 24 * kept-of t k xs i) w →
-      take (24 * m) (drop (16 + 24 * kept-of t k xs i) v) ≡ take (24 * m) (drop (16 + 24 * i) w) → drop (16 + 24 * (i + m)) v ≡ drop (16 + 24 * (i + m)) w →
-      (kept-of t k xs (i + m) ≡ kept-of t k xs i + m) × Closing t k hd xs zs (i + m) v
-  closing-run i m w v h q e a b c d =
-      let n = kept-of t k xs i in
-      let ys = take m (drop i xs) in
-      let g : closed t k (take (i + m) xs) ≡ closed t k (take i xs) ++ ys =
-      ap (closed t k) (take-add i m xs) ∙ closed-append t k (take i xs) ys ∙ ap (λ (us : List Row). closed t k (take i xs) ++ us) (closed-stays t k ys e) in
-      let y : length ys ≡ m = length-take-le m (drop i xs) (omega (arith, h, length-drop i xs)) in
-      let u : kept-of t k xs (i + m) ≡ n + m = omega (arith, ap length g, length-append (closed t k (take i xs)) ys, y) in
-      let j : 16 + 24 * kept-of t k xs (i + m) ≡ 16 + 24 * n + 24 * m = omega (arith, u) in
-      let p : 16 + 24 * (i + m) ≡ 16 + 24 * i + 24 * m = omega arith in (
-        u,
-        record {
-          ahead = h;
-          long = omega (arith, a, q .long);
-          first =
-              ap (λ (l : ℕ). take l v) j
-              ∙ take-add (16 + 24 * n) (24 * m) v
-              ∙ ap₂ (λ (us : List ℕ) (vs : List ℕ). us ++ vs) (b ∙ q .first)
-              (c ∙ ap (λ (cs : List ℕ). take (24 * m) cs) (q .rest) ∙ rows-take (drop i xs) m zs (omega (arith, h, length-drop i xs)))
-              ∙ append-assoc hd (rows-bytes (closed t k (take i xs))) (rows-bytes ys)
-              ∙ ap (λ (cs : List ℕ). hd ++ cs) (sym (rows-append (closed t k (take i xs)) ys))
-              ∙ ap (λ (us : List Row). hd ++ rows-bytes us) (sym g);
-          rest =
-              d
-              ∙ ap (λ (l : ℕ). drop l w) p
-              ∙ sym (drop-drop (24 * m) (16 + 24 * i) w)
-              ∙ ap (λ (cs : List ℕ). drop (24 * m) cs) (q .rest)
-              ∙ rows-drop (drop i xs) m zs (omega (arith, h, length-drop i xs))
-              ∙ ap (λ (us : List Row). rows-bytes us ++ zs) (drop-drop m i xs);
-        },
-      )
-
-  pub closing-run-paste : (i m : ℕ) (w : List ℕ) → i + m ≤ length xs → Closing t k hd xs zs i w → All (λ x. stays t k x ≡ true) (take m (drop i xs)) →
-      (kept-of t k xs (i + m) ≡ kept-of t k xs i + m)
-      × Closing t k hd xs zs (i + m) (paste w (16 + 24 * kept-of t k xs i) (drop (16 + 24 * i) w) (24 * m))
-  closing-run-paste i m w h q e =
-      let n = kept-of t k xs i in
-      let l = kept-most t k xs i (q .ahead) in
-      let s = drop (16 + 24 * i) w in
-      let v = paste w (16 + 24 * n) s (24 * m) in
-      let a : 16 + 24 * n ≤ length w = omega (arith, q .long, l, h) in
-      let b : 24 * m ≤ length s = omega (arith, q .long, h, length-drop (16 + 24 * i) w) in
-      let d : take (16 + 24 * n + 24 * m) v ≡ take (16 + 24 * n) w ++ take (24 * m) s = take-paste w (16 + 24 * n) s (24 * m) a b in
-      let y : length (take (16 + 24 * n) w) ≡ 16 + 24 * n = length-take-le (16 + 24 * n) w a in
-      let g : 16 + 24 * (i + m) ≡ 16 + 24 * n + 24 * m + (24 * i - 24 * n) = omega (arith, l) in
-      closing-run i m w v h q e (length-paste w (16 + 24 * n) s (24 * m) (omega (arith, q .long, l, h)) b)
-      (sym (take-take (16 + 24 * n) (16 + 24 * n + 24 * m) v (omega arith)) ∙ ap (λ (cs : List ℕ). take (16 + 24 * n) cs) d
-      ∙ take-at (take (16 + 24 * n) w) (take (24 * m) s) (16 + 24 * n) y)
-      (drop-take-paste w (16 + 24 * n) s (24 * m) a b)
-      (ap (λ (o : ℕ). drop o v) g ∙ sym (drop-drop (24 * i - 24 * n) (16 + 24 * n + 24 * m) v)
-      ∙ ap (λ (cs : List ℕ). drop (24 * i - 24 * n) cs) (drop-paste w (16 + 24 * n) s (24 * m) a b)
-      ∙ drop-drop (24 * i - 24 * n) (16 + 24 * n + 24 * m) w ∙ ap (λ (o : ℕ). drop o w) (sym g))
-
   -- at the end
   pub closing-rows : (w : List ℕ) → length hd ≡ 16 → Closing t k hd xs zs (length xs) w →
       (kept-of t k xs (length xs) ≡ length (closed t k xs)) × (take (16 + 24 * length (closed t k xs)) w ≡ hd ++ rows-bytes (closed t k xs))
   closing-rows w e q =
       let a : closed t k (take (length xs) xs) ≡ closed t k xs = ap (closed t k) (take-length xs) in
       (ap length a, ap (λ (n : ℕ). take (16 + 24 * n) w) (sym (ap length a)) ∙ q .first ∙ ap (λ (ys : List Row). hd ++ rows-bytes ys) a)
-
--- THE TABLE AFTER: a new head, the rows closed up, zeros
-pub closing-table : (t l n room s k : ℕ) (hd : List ℕ) (xs : List Row) (zs w : List ℕ) → length hd ≡ 16 → Closing s k hd xs zs (length xs) w →
-    table (round t l n room (closed s k xs))
-    ≡ head-bytes t l n (length (closed s k xs)) ++ (drop 16 (take (16 + 24 * length (closed s k xs)) w) ++ replicate (24 * (room - length (closed s k xs))) 0)
-closing-table t l n room s k hd xs zs w e q =
-    let ys = closed s k xs in
-    table-is t l n room ys
-    ∙ ap (λ (bs : List ℕ). head-bytes t l n (length ys) ++ (bs ++ replicate (24 * (room - length ys)) 0))
-    (sym (ap (λ (bs : List ℕ). drop 16 bs) (closing-rows s k hd xs zs w e q .1) ∙ drop-at hd (rows-bytes ys) 16 e))

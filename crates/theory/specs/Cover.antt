@@ -2,13 +2,12 @@
 use mathlib.Core.Path.{_≡_, sym, ap, _∙_, subst}
 use mathlib.Core.Logic.{inl, inr}
 use mathlib.Core.Bool.{Bool, true, false}
-use mathlib.Core.List.{List, []}
+use mathlib.Core.List.{List}
 use Prim.Native.Nat.{ℕ, zero, suc, _+_, _-_, _≤_, _<_}
 use native.Mathlib.Omega.{arith}
 use Rattle.rules.specs.Rows.{Row, Round, blank, In}
 use Rattle.rules.specs.Plan.{plan, in-plan, tight-after, segment-start, first-end, substitute, best, heaviest-outside, lightest-by}
 use Rattle.theory.specs.Tests.{ltb?}
-use Rattle.theory.specs.Sum.{sum}
 use Rattle.theory.specs.All.{all-in, blank-weight, blank-is}
 use Rattle.theory.specs.Order.{Not-over, not-over-weight, not-before-canonical}
 use Rattle.theory.specs.Feas.{num}
@@ -20,7 +19,7 @@ use Rattle.theory.specs.Substitute.{later-is, later?, Later-sub}
 use Rattle.theory.specs.Best.{Beaten, Goes, best-goes, best-row}
 use Rattle.theory.specs.Chain.{some-chain}
 use Rattle.theory.specs.Near.{Near, near-out, near-after, near-tight-is, near-is-tight, rows-feas}
-use Rattle.theory.specs.Count.{under, counts-next, Sweep, sweep-start, sweep-more, sweep-idle, sweep-near}
+use Rattle.theory.specs.Count.{Sweep, sweep-start, sweep-more, sweep-idle}
 use Rattle.theory.specs.Segments.{Segment, later-segment}
 use Rattle.theory.specs.Lead.{Behind, Leads}
 use Rattle.theory.specs.Whole.{Sends, sends-first, sends-far, sends-kept, sends-row}
@@ -35,12 +34,6 @@ some-sweep F h m (suc n) s e =
       | inl a ↦ (w .0 + (F (suc s) - F s) - 1, w .1, sweep-more F m s (w .0) (w .1) (F (suc s) - F s) (w .2) g (a .1))
       | inr a ↦ (0, s, sweep-idle F m s (w .0) (w .1) (F (suc s) - F s) (w .2) g (omega (arith, a .1)))
     ]
-
-pub some-near : (r : Round) → Fine r → r .slot ≤ r .last → (z : ℕ) × Near r z
-some-near r f o =
-    let top = r .last - r .slot in
-    let w = some-sweep (λ s. sum (under (r .slot) top s) (r .rows)) (λ s. omega (arith, counts-next (r .slot) top s (r .rows))) (suc top) (suc top) 0 (omega arith) in
-    (r .slot + w .1, sweep-near r f top (w .0) (w .1) (omega arith) (inr (omega arith)) (w .2))
 
 module _ (r : Round) (f : Fine r) (o : r .slot ≤ r .last) (rs : List Row) (c : Rows r rs) where
   -- a leader

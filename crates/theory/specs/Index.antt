@@ -1,6 +1,6 @@
 -- The same laws by index and key, as loops over a table's rows have them. Assumes nothing.
 use mathlib.Core.Path.{_≡_, refl, sym, ap, _∙_, subst}
-use mathlib.Core.Logic.{_⊎_, inl, inr}
+use mathlib.Core.Logic.{inl, inr}
 use mathlib.Core.Bool.{Bool, true, false, cond, false≢true}
 use mathlib.Core.List.{List, [], _∷_}
 use Prim.Native.Nat.{ℕ, zero, suc, _+_, _≤_, _<_}
@@ -9,18 +9,14 @@ use lib.Dec.{ltb}
 use lib.ListN.{length, getD, take}
 use borrow.Author.Tests.{le-ltb}
 use Rattle.rules.specs.Rows.{Row, Round, blank, heavier, chosen, In}
-use Rattle.rules.specs.Plan.{plan, in-plan, segment-start, first-end, substitute, best}
-use Rattle.theory.specs.Tests.{eqb?}
+use Rattle.rules.specs.Plan.{plan, in-plan, segment-start, first-end, substitute}
 use Rattle.theory.specs.Sum.{sum}
 use Rattle.theory.specs.All.{all-in}
 use Rattle.theory.specs.Full.{Fine, Row-fine}
-use Rattle.theory.specs.Score.{score-of}
 use Rattle.theory.specs.Unique.{Certified, flags-chosen, flag-at}
-use Rattle.theory.specs.Keys.{key, getD-in, tickets-less, rows-key, pick-key}
+use Rattle.theory.specs.Keys.{key, getD-in, rows-key}
 use Rattle.theory.specs.Members.{certified-found}
 use Rattle.theory.specs.Substitute.{first-row, later-row, later-none}
-use Rattle.theory.specs.Best.{best-by-key}
-use Rattle.theory.specs.Chain.{Heaviest-in}
 
 -- what holds at every index holds of every row
 pub index-of : (z x : Row) (xs : List Row) → In x xs → (i : ℕ) × (i < length xs) × (getD xs i z ≡ x)
@@ -94,17 +90,6 @@ module _ (r : Round) (f : Fine r) (fs : List Bool) (w : Certified r fs) (small :
   pub not-heavier-at : (i j : ℕ) → i < length (r .rows) → j < length (r .rows) → key-at i ≤ key-at j → heavier (at i) (at j) ≡ false
   not-heavier-at i j h k l = heavier-at i j h k ∙ le-ltb (key-at j) (key-at i) l
 
-  -- the heaviest row due between two slots, by the greatest key
-  pub heaviest-at : (e g i : ℕ) → i < length (r .rows) → getD fs i false ≡ true → e < at i .due → at i .due ≤ g →
-      ((j : ℕ) → j < length (r .rows) → getD fs j false ≡ true → e < at j .due → at j .due ≤ g → key-at j ≤ key-at i) → Heaviest-in found e g (at i)
-  heaviest-at e g i h b k l m =
-      record {
-        inside = flag-in z fs (r .rows) i h b;
-        after = k;
-        by = l;
-        most = each-chosen (λ y. e < y .due → y .due ≤ g → heavier y (at i) ≡ false) z fs (r .rows) (λ j a c u v. not-heavier-at j i a h (m j a c u v));
-      }
-
   -- the first segment's substitute, by the least key
   pub first-at : r .slot ≤ r .last → (p : Row) → In p (plan r) → p .due ≤ first-end r (plan r) → (i : ℕ) → i < length (r .rows) → getD fs i false ≡ true →
       at i .due ≤ first-end r (plan r) →
@@ -129,20 +114,3 @@ module _ (r : Round) (f : Fine r) (fs : List Bool) (w : Certified r fs) (small :
   later-none-at p a m =
       later-none r f found (certified-found r f fs w) p a
       (each-row (λ y. in-plan y found ≡ false → y .due < segment-start r (plan r) (p .due)) z (r .rows) (λ j l n. m j l (sym (at-flag j l) ∙ n)))
-
-  -- the row that goes, by the greatest key of the pick; of equal ones the first
-  pub best-at : r .slot ≤ r .last → (i : ℕ) → i < length (r .rows) → getD fs i false ≡ true →
-      ((j : ℕ) → j < length (r .rows) → getD fs j false ≡ true → (pick-key (score-of r (at j)) (at j .due) < pick-key (score-of r (at i)) (at i .due))
-      ⊎ ((pick-key (score-of r (at j)) (at j .due) ≡ pick-key (score-of r (at i)) (at i .due)) × (i ≤ j))) →
-      best r (plan r) ≡ at i
-  best-at o i h b m =
-      best-by-key r f o found (certified-found r f fs w) last (at i) (flag-in z fs (r .rows) i h b)
-      (each-chosen (λ q. (pick-key (score-of r q) (q .due) < pick-key (score-of r (at i)) (at i .due))
-      ⊎ ((pick-key (score-of r q) (q .due) ≡ pick-key (score-of r (at i)) (at i .due)) × (at i .ticket ≤ q .ticket))) z fs (r .rows)
-      (λ j a c. elim (m j a c) [ inl d ↦ inl d | inr d ↦ inr (d .0, tickets-le i j h a (d .1)) ]))
-    where
-      tickets-le : (i j : ℕ) → i < length (r .rows) → j < length (r .rows) → i ≤ j → at i .ticket ≤ at j .ticket
-      tickets-le i j h a d = elim (eqb? i j) [
-        | inl e ↦ omega (arith, ap (λ (n : ℕ). at n .ticket) (e .1))
-        | inr e ↦ let n = e .1 in omega (arith, tickets-less 1 (r .next) (r .rows) z i j (f .rising) (omega (arith, d)) a)
-      ]

@@ -1,11 +1,10 @@
 -- One number for the order `heavier`, and one for the pick: keys of rows in ticket order. Assumes nothing.
 use mathlib.Core.Path.{_≡_, refl, sym, ap, _∙_}
-use mathlib.Core.Logic.{_⊎_, inl, inr, _≢_}
-use mathlib.Core.Bool.{_&&_, _||_}
+use mathlib.Core.Logic.{inl, inr}
 use mathlib.Core.List.{List, [], _∷_}
 use Prim.Native.Nat.{ℕ, zero, suc, _+_, _*_, _-_, _/_, _%_, _≤_, _<_}
 use native.Mathlib.Omega.{arith}
-use lib.Dec.{ltb, eqb}
+use lib.Dec.{ltb}
 use borrow.Author.Tests.{lt-ltb, le-ltb, ltb-true, ltb-false}
 use lib.ListN.{length, getD}
 use Rattle.rules.specs.Rows.{Row, heavier, In, Heavier}
@@ -111,41 +110,3 @@ rows-light-key a b xs z i j s l h k m n u v =
       | inl y ↦ y .0 ∙ sym (lt-ltb q d (omega (arith, y .1, e, g)))
       | inr y ↦ y .0 ∙ sym (le-ltb q d (omega (arith, y .1, e, g)))
     ]
-
--- a key by places in due order (rows of one due slot in ticket order); below the place any number under 1024
-unfoldable pub place-key : (weight place any : ℕ) → ℕ
-place-key w p i = w * 1048576 + (1023 - p) * 1024 + i
-
-pub heavier-place : (a b : Row) (p q i j : ℕ) → p < 1024 → q < 1024 → i < 1024 → j < 1024 → p ≢ q →
-    ltb p q ≡ (ltb (a .due) (b .due) || (eqb (a .due) (b .due) && ltb (a .ticket) (b .ticket))) →
-    heavier a b ≡ ltb (place-key (b .weight) q j) (place-key (a .weight) p i)
-unfolding place-key heavier
-heavier-place a b p q i j h k m n d e = elim (ltb? (b .weight) (a .weight)) [
-  | inl u ↦ rw (u .0) (sym (lt-ltb (b .weight * 1048576 + (1023 - q) * 1024 + j) (a .weight * 1048576 + (1023 - p) * 1024 + i) (omega (arith, u .1))))
-  | inr u ↦ elim (eqb? (a .weight) (b .weight)) [
-    | inr v ↦
-        let c = v .1 in
-        rw (u .0, v .0) (sym (le-ltb (b .weight * 1048576 + (1023 - q) * 1024 + j) (a .weight * 1048576 + (1023 - p) * 1024 + i) (omega (arith, u .1))))
-    | inl v ↦ rw (u .0, v .0)
-        (sym e ∙ (elim (ltb? p q) as (λ _. ltb p q ≡ ltb (b .weight * 1048576 + (1023 - q) * 1024 + j) (a .weight * 1048576 + (1023 - p) * 1024 + i)) [
-          | inl w ↦ w .0 ∙ sym (lt-ltb (b .weight * 1048576 + (1023 - q) * 1024 + j) (a .weight * 1048576 + (1023 - p) * 1024 + i) (omega (arith, w .1, v .1, k)))
-          | inr w ↦ w .0 ∙ sym (le-ltb (b .weight * 1048576 + (1023 - q) * 1024 + j) (a .weight * 1048576 + (1023 - p) * 1024 + i) (omega (arith, w .1, v .1, h)))
-        ]))
-  ]
-]
-
--- THE PICK'S KEY: a score, then the earlier due slot
-unfoldable pub pick-key : (score due : ℕ) → ℕ
-pick-key s d = s * 4096 + (4095 - d)
-
-pub pick-less : (s d u e : ℕ) → d ≤ 4095 → e ≤ 4095 → pick-key s d < pick-key u e → (s < u) ⊎ ((s ≡ u) × (e < d))
-unfolding pick-key
-pick-less s d u e h k l = elim (ltb? s u) [ inl a ↦ inl (a .1) | inr a ↦ inr (omega (arith, a .1), omega (arith, a .1)) ]
-
-pub pick-same : (s d u e : ℕ) → d ≤ 4095 → e ≤ 4095 → pick-key s d ≡ pick-key u e → (s ≡ u) × (d ≡ e)
-unfolding pick-key
-pick-same s d u e h k l = (omega arith, omega arith)
-
-pub pick-bound : (s d : ℕ) → s ≤ 1716882222612480 → pick-key s d ≤ 7032349583820722175
-unfolding pick-key
-pick-bound s d h = omega arith

@@ -2,7 +2,7 @@
 use mathlib.Core.Path.{_≡_}
 use mathlib.Core.Logic.{_⊎_, inl, inr}
 use mathlib.Core.Bool.{false}
-use mathlib.Core.List.{List, []}
+use mathlib.Core.List.{List}
 use Prim.Native.Nat.{ℕ, suc, _≤_, _<_}
 use native.Mathlib.Omega.{arith}
 use Rattle.rules.specs.Rows.{Row, Round, heavier, canonical, In}
@@ -58,15 +58,6 @@ module _ (r : Round) (f : Fine r) (o : r .slot ≤ r .last) (rs : List Row) (c :
           | inl k ↦ beats-trans r f o rs c p m q (inl s) (h .ahead q i a (k .1))
           | inr k ↦ l .ahead q i (k .1)
         ];
-      }
-
-  -- a stretch without rows
-  pub lead-skips : (b d : ℕ) (p : Row) → b ≤ d → Leads r rs d p → ((q : Row) → In q rs → b ≤ q .due → q .due < d → ⊥) → Leads r rs b p
-  lead-skips b d p g l n =
-      record {
-        inside = l .inside;
-        from = omega (arith, g, l .from);
-        ahead = λ q i a. elim (ltb? (q .due) d) [ inl k ↦ absurd (n q i a (k .1)) | inr k ↦ l .ahead q i (k .1) ];
       }
 
   -- THE LEADER of all goes

@@ -9,24 +9,22 @@ use lib.Dec.{ltb, eqb}
 use borrow.Author.Tests.{eq-eqb, ne-eqb}
 use lib.ListN.{length, getD, set}
 use Rattle.rules.specs.Rows.{Row, Round, blank, row, All, In}
-use Rattle.rules.specs.Plan.{plan, in-plan, tight-after, segment-start, least-weight, mark-in, mark, first-end, substitute, planned}
+use Rattle.rules.specs.Plan.{plan, in-plan, tight-after, segment-start, least-weight, mark-in, mark, substitute, planned}
 use Rattle.rules.specs.Steps.{changed, without, replaced, leapt}
-use Rattle.theory.specs.Tests.{positive, either, ltb?, eqb?}
-use Rattle.theory.specs.Sum.{sum-le, length-sum}
+use Rattle.theory.specs.Tests.{either, ltb?, eqb?}
+use Rattle.theory.specs.Sum.{length-sum}
 use Rattle.theory.specs.All.{in-mid, all-map, all-in}
-use Rattle.theory.specs.Feas.{below, below-yes, below-late, below-mono, below-1}
 use Rattle.theory.specs.Full.{Fine, Row-fine, Rising, plan-feas, plan-full, plan-due}
 use Rattle.theory.specs.Marks.{next, start}
 use Rattle.theory.specs.Change.{rising-above, rising-changed}
 use Rattle.theory.specs.Send.{next-by}
-use Rattle.theory.specs.Leap.{ends-of, no-shift}
+use Rattle.theory.specs.Leap.{no-shift}
 use Rattle.theory.specs.Times.{sum-less}
 use Rattle.theory.specs.Same.{of-plan, of-no, of-chosen, row-ticket, planned-same}
 use Rattle.theory.specs.Unique.{rising-other}
-use Rattle.theory.specs.Slack.{idlers, rows-num, with-blank}
 use Rattle.theory.specs.Keys.{getD-in}
-use Rattle.theory.specs.Members.{Rows, of-rows-ticket, of-rows-fine, in-plan-is}
-use Rattle.theory.specs.Chain.{Chain, moved-to, moves, chain-is, chain-count, chain-other, no-blank-by}
+use Rattle.theory.specs.Members.{Rows, in-plan-is}
+use Rattle.theory.specs.Chain.{Chain, moved-to, moves, chain-is, chain-other}
 
 -- THE ROWS AFTER THE SHIFTS, each on its own
 unfoldable pub each : (Row → Row) → List Row → List Row
@@ -180,43 +178,6 @@ module _ (r : Round) (f : Fine r) (rs : List Row) (c : Rows r rs) where
     where
       of-one : (x : Row) → of-plan (plan r) (λ x. 1) x ≤ 1
       of-one x = of-plan-one (plan r) x
-
-  pub shifts-few : r .slot ≤ r .last → (p s : Row) (hs : List Row) → In p rs → first-end r (plan r) < p .due → In s (r .rows) → in-plan s rs ≡ false →
-      segment-start r (plan r) (p .due) ≤ s .due → Chain r rs (tight-after r (plan r) (p .due)) (tight-after r (plan r) (s .due)) hs →
-      length hs + 3 ≤ length (r .rows)
-  unfolding first-end
-  shifts-few o p s hs i h j n k ch =
-      let e = tight-after r (plan r) (p .due) in
-      let g = tight-after r (plan r) (s .due) in
-      let a = tight-after r (plan r) (r .slot) in
-      let u = of-rows-fine r f rs c p i in
-      let v = all-in (Row-fine r) s (r .rows) (f .fine) j in
-      let st = start r (plan r) (p .due) (plan-feas r f) (f .time) (u .0) in
-      let en = ends-of r f p s (segment-start r (plan r) (p .due)) (u .1) (u .0) st k (v .1) in
-      let m = next r (plan r) (r .slot) o (plan-full r f) in
-      let z : idlers r (suc a) ≡ 0 = elim (eqb? (idlers r (suc a)) 0) [
-        | inl q ↦ q .1
-        | inr q ↦
-            let w = with-blank (suc a) (plan r) (positive (idlers r (suc a)) (q .1)) in
-            absurd (omega (
-              arith,
-              w .2,
-              of-rows-ticket r f rs c (w .0) (no-blank-by r f rs c s j n (w .0) (w .1) (omega (arith, w .3, h, en .first .from, en .order))),
-            ))
-      ] in
-      omega (
-        arith,
-        rows-more s j n,
-        chain-count r f rs c e g hs (en .order) (en .last .tight) ch,
-        length-sum rs,
-        sum-le (below 0 (suc g)) (λ x. 1) (below-1 0 (suc g)) rs,
-        sum-less (below 0 (suc a)) (below 0 (suc e)) (below-mono 0 (suc a) (suc e) (omega (arith, h, en .first .from))) p
-            (omega (arith, below-late 0 (suc a) p h, below-yes 0 (suc e) p (omega arith) (omega (arith, en .first .from)))) rs i,
-        rows-num r f rs (c .same) 0 (suc a),
-        z,
-        m .tight,
-        m .from,
-      )
 
   -- WITH A ROW for substitute
   pub leapt-row : (p s : Row) (hs : List Row) → substitute r (plan r) p ≡ s → In s (r .rows) →

@@ -5,15 +5,15 @@ use mathlib.Core.Bool.{Bool, false, true≢false}
 use mathlib.Core.List.{List, [], _∷_}
 use Prim.Native.Nat.{_≤_}
 use native.Mathlib.Omega.{arith}
-use Rattle.rules.specs.Rows.{Row, Round, sorted, canonical, chosen, rows-only, All, In}
-use Rattle.rules.specs.Plan.{plan, in-plan, total, total-weight, planned, listed}
+use Rattle.rules.specs.Rows.{Row, Round, chosen, rows-only, All, In}
+use Rattle.rules.specs.Plan.{plan, in-plan, total, total-weight, planned}
 use Rattle.theory.specs.Tests.{eqb?}
 use Rattle.theory.specs.Sum.{total-sum}
 use Rattle.theory.specs.All.{blank-ticket, Is-blank, all-in}
 use Rattle.theory.specs.Full.{plan-member, Fine, Row-fine}
 use Rattle.theory.specs.Change.{rising-same, in-sum}
 use Rattle.theory.specs.Times.{ticks}
-use Rattle.theory.specs.Same.{Same, in-plan?, with-tick, tick-self, row-ticket, planned-same, planned-in, chosen-in, planned-weighs, sorted-same, plan-rows-in}
+use Rattle.theory.specs.Same.{Same, in-plan?, with-tick, tick-self, row-ticket, planned-same, planned-in, chosen-in, planned-weighs}
 use Rattle.theory.specs.Unique.{Certified, certified-rows}
 
 pub in-rows-only : (x : Row) (xs : List Row) → 1 ≤ x .ticket → In x xs → In x (rows-only xs)
@@ -113,7 +113,3 @@ module _ (r : Round) (f : Fine r) (rs : List Row) (c : Rows r rs) where
   pub found-total : total r ≡ total-weight rs
   found-total =
       omega (arith, planned-weighs r f, total-sum (planned r), total-sum rs, planned-same r f (λ x. x .weight), c .same (λ x. x .weight))
-
-  pub found-listed : listed r ≡ sorted canonical rs
-  unfolding listed
-  found-listed = sorted-same (r .rows) 1 (r .next) (f .rising) (rows-only (plan r)) rs (plan-rows-in r f) (c .waiting) (c .same)

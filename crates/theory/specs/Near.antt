@@ -22,7 +22,7 @@ use Rattle.theory.specs.Same.{sum-none, planned-same}
 use Rattle.theory.specs.Score.{score-of}
 use Rattle.theory.specs.Unique.{Left-out, Certified, passed, plan-out}
 use Rattle.theory.specs.Slack.{slack, idle, rows-num, slack-is, tight-least, least-tight, mark-idle, mark-rows}
-use Rattle.theory.specs.Members.{Rows, certified-found, of-rows-ticket, of-rows-fine, found-member, member?, in-plan-is}
+use Rattle.theory.specs.Members.{Rows, of-rows-ticket, of-rows-fine, found-member, member?, in-plan-is}
 use Rattle.theory.specs.Substitute.{later-none, score-none}
 use Rattle.theory.specs.Best.{heaviest-beats, ordinary-is}
 use Rattle.theory.specs.Close.{after-slot, closed, sent-gone}
@@ -47,10 +47,6 @@ all-certified r h =
       fits = ap (feasible r) (chosen-all (r .rows) .0) ∙ h;
       out = subst (λ (zs : List Row). All (Left-out r (chosen (replicate (length (r .rows)) true) (r .rows))) zs) (sym (chosen-all (r .rows) .1)) tt;
     }
-
-pub all-rows : (r : Round) → Fine r → feasible r (r .rows) ≡ true → Rows r (r .rows)
-all-rows r f h =
-    subst (λ (zs : List Row). Rows r zs) (chosen-all (r .rows) .0) (certified-found r f (replicate (length (r .rows)) true) (all-certified r h))
 
 pub near-all : (r : Round) (z : ℕ) → Near r z → num 0 z (r .rows) ≤ z - r .slot → feasible r (r .rows) ≡ true
 near-all r z k h =
@@ -187,12 +183,6 @@ module _ (r : Round) (f : Fine r) (rs : List Row) (c : Rows r rs) (z : ℕ) (k :
   near-is-tight s h i t =
       omega (arith, t, rows-num r f rs (c .same) 0 (suc s), plan-feas r f (suc s) (omega (arith, h)) (omega (arith, i, k .by)))
 
-  pub near-tight : (s : ℕ) → r .slot ≤ s → s < z → tight r (plan r) s ≡ tight r rs s
-  near-tight s h i = elim (tight? r (plan r) s) [
-    | inl a ↦ elim (tight? r rs s) [ inl b ↦ a .0 ∙ sym (b .0) | inr b ↦ absurd (b .1 (near-tight-is s h i (a .1))) ]
-    | inr a ↦ elim (tight? r rs s) [ inl b ↦ absurd (a .1 (near-is-tight s h i (b .1))) | inr b ↦ a .0 ∙ sym (b .0) ]
-  ]
-
   -- THE NEXT TIGHT SLOT: the first without slack
   pub near-next : (s e : ℕ) → r .slot ≤ s → s ≤ e → e < z → Tight-in r rs e → ((u : ℕ) → s ≤ u → u < e → Tight-in r rs u → ⊥) → tight-after r (plan r) s ≡ e
   near-next s e h i j t g =
@@ -249,16 +239,6 @@ module _ (r : Round) (f : Fine r) (rs : List Row) (c : Rows r rs) (z : ℕ) (k :
         | inl d ↦ absurd (t (omega (arith, d .1, slack-is r f rs (c .same) u a b)))
         | inr d ↦ let n = d .1 in omega arith
       ]
-
-  -- and it is above 0
-  pub near-mark-some : (s : ℕ) → r .slot ≤ s → s < z → 1 ≤ mark r s
-  near-mark-some s h i =
-      omega (
-        arith,
-        near-mark s h i,
-        least-above 1 (tight-after r (plan r) s) rs 16777216 (omega arith)
-            (all-of-in (λ y. y .due ≤ tight-after r (plan r) s → 1 ≤ y .weight) rs (λ y j _. of-rows-fine r f rs c y j .2)),
-      )
 
   -- as the weight of a lightest row due by the next tight slot
   pub near-mark-least : (s : ℕ) → r .slot ≤ s → s < z → (x : Row) → In x rs → x .due ≤ tight-after r (plan r) s →

@@ -2,7 +2,6 @@
 use mathlib.Core.Path.{_≡_, ap₂, _∙_}
 use mathlib.Core.Logic.{inl, inr}
 use mathlib.Core.Bool.{Bool, _&&_, _||_, not}
-use mathlib.Core.List.{[]}
 use Prim.Native.Nat.{ℕ, suc, _≤_, _<_}
 use native.Mathlib.Omega.{arith}
 use lib.Dec.{ltb, leb, eqb}
@@ -38,11 +37,6 @@ substitute-bounded r f p h =
 -- THE SCORE of a plan member; it fits 51 bits
 unfoldable pub score-of : Round → Row → ℕ
 score-of r p = score (p .weight) (substitute r (plan r) p .weight)
-
-pub score-bound : (r : Round) → Fine r → (p : Row) → In p (plan r) → score-of r p ≤ 1716882222612480
-unfolding score-of
-score-bound r f p i =
-    let h = all-in Bounded p (plan r) (plan-bounded r f) i in omega (arith, h, substitute-bounded r f p h)
 
 pub before-equal : (x y : ℕ) (c : Bool) → (ltb y x || (not (ltb x y) && c)) ≡ (ltb y x || (eqb x y && c))
 before-equal x y c = elim (ltb? y x) [

@@ -1,12 +1,12 @@
 -- Segments before the far slots, by counts of the plan's rows: one substitute, one mark, one row to compare each. Assumes nothing.
 use mathlib.Core.Path.{_≡_, sym, ap, _∙_}
 use mathlib.Core.Logic.{_⊎_, inl, inr, _≢_}
-use mathlib.Core.Bool.{true, false}
-use mathlib.Core.List.{List, [], _∷_, _++_}
+use mathlib.Core.Bool.{false}
+use mathlib.Core.List.{List}
 use Prim.Native.Nat.{ℕ, suc, _+_, _*_, _-_, _≤_, _<_}
 use native.Mathlib.Omega.{arith}
 use lib.ListN.{length}
-use Rattle.rules.specs.Rows.{Row, Round, blank, heavier, canonical, All, In}
+use Rattle.rules.specs.Rows.{Row, Round, blank, heavier, canonical, In}
 use Rattle.rules.specs.Plan.{plan, in-plan, tight-after, segment-start, mark, first-end, substitute}
 use Rattle.theory.specs.Tests.{ltb?}
 use Rattle.theory.specs.Sum.{sum}
@@ -18,7 +18,6 @@ use Rattle.theory.specs.Score.{score-of}
 use Rattle.theory.specs.Members.{Rows, found-member}
 use Rattle.theory.specs.Substitute.{later-row, later-none, score-first, score-sub, score-none}
 use Rattle.theory.specs.Best.{first-same, later-same, heaviest-beats}
-use Rattle.theory.specs.Chain.{Chain, chain-extend}
 use Rattle.theory.specs.Near.{Near, near-is-tight, near-next, near-start, near-mark-least}
 use Rattle.theory.specs.Count.{under, Sweep, kept-counts}
 
@@ -104,18 +103,6 @@ module _ (r : Round) (f : Fine r) (o : r .slot ≤ r .last) (rs : List Row) (c :
       let t = segment-end d h i in
       near-mark-least r f rs c z k d (omega (arith, s .low, h)) (omega (arith, i, near)) x j (omega (arith, t, a)) (λ y l m. g y l (omega (arith, t, m)))
 
-  -- THE CHAIN grows by a segment: its links lighter than the segment's heaviest row leave, and that row is added
-  pub segment-chain : (e0 : ℕ) (ks ls : List Row) (m : Row) → e0 < b → Chain r rs e0 (b - 1) (ks ++ ls) → In m rs → b ≤ m .due → m .due ≤ e →
-      ((y : Row) → In y rs → b ≤ y .due → y .due ≤ e → heavier y m ≡ false) → r .slot < b → All (λ h. heavier h m ≡ true) ks → All (λ h. heavier m h ≡ true) ls →
-      Chain r rs e0 e (ks ++ (m ∷ []))
-  segment-chain e0 ks ls m l ch i h j g a u v =
-      let d : suc (b - 1) ≡ b = omega (arith, a) in
-      let t : Tight-in r (plan r) (b - 1) =
-      near-is-tight r f rs c z k (b - 1) (omega (arith, a)) (omega (arith, a, s .by, near)) (omega (arith, s .edge, d, ap (λ v. num 0 v rs) d)) in
-      chain-extend r f rs c e0 (b - 1) e ks ls m (omega (arith, l)) t ch
-      (record { inside = i; after = omega (arith, h, a); by = j; most = λ y w x n. g y w (omega (arith, x)) n })
-      (segment-end (m .due) h j) u v
-
 -- BY COUNTS of the plan's rows in buckets: b and e are slots from the current one on
 pub segment-made : (r : Round) (f : Fine r) (top q z : ℕ) (span : r .slot + top ≤ r .last) (enough : (top ≡ length (r .rows)) ⊎ (r .slot + top ≡ r .last))
     (w : Sweep (λ s. sum (under (r .slot) top s) (r .rows)) (suc top) 0 q z) (rs : List Row) → Rows r rs → (b e : ℕ) → b ≤ e → e < z →
@@ -133,7 +120,3 @@ segment-made r f top q z span enough w rs c b e h k i j g =
           g (u - r .slot) (omega (arith, a)) (omega (arith, a, v))
           (omega (arith, t, kept-counts r f top q z span enough w rs c (suc (u - r .slot)) (omega (arith, v, k, a)), y, ap (λ v. num 0 v rs) y));
     }
-
--- the next one starts behind it
-pub segment-edge : (r : Round) (rs : List Row) (b e : ℕ) → Segment r rs b e → num 0 (suc e) rs ≡ suc e - r .slot
-segment-edge r rs b e s = s .end

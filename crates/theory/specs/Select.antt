@@ -1,7 +1,7 @@
 -- Full selections of rows and blanks, certified by their next tight slots, have the plan's rows. Assumes nothing.
 use mathlib.Core.Path.{_≡_, refl, sym, ap, _∙_, subst}
 use mathlib.Core.Logic.{inl, inr, _≢_}
-use mathlib.Core.Bool.{Bool, true, false, _||_, true≢false}
+use mathlib.Core.Bool.{Bool, true, false, _||_}
 use mathlib.Core.List.{List, [], _∷_}
 use Prim.Native.Nat.{ℕ, suc, _+_, _-_, _≤_, _<_}
 use native.Mathlib.Omega.{arith}
@@ -10,16 +10,15 @@ use Rattle.rules.specs.Plan.{due-by, feasible, plan, same-row, in-plan, tight-a
 use Rattle.rules.specs.PlanM.{Member}
 use Rattle.theory.specs.Tests.{leb?, eqb?}
 use Rattle.theory.specs.Sum.{sum, sum-le}
-use Rattle.theory.specs.All.{blank-weight, blank-ticket, all-map, all-in, all-of-in}
-use Rattle.theory.specs.Order.{heavier?, over-absurd}
-use Rattle.theory.specs.Feas.{below, num, below-late, due-below, Feas, feas-yes, feas-made}
-use Rattle.theory.specs.Full.{member-due, plan-members, Fine, Row-fine, Rising, plan-feas, plan-full}
+use Rattle.theory.specs.All.{all-in, all-of-in}
+use Rattle.theory.specs.Feas.{below, num, due-below, feas-made}
+use Rattle.theory.specs.Full.{plan-members, Fine, Row-fine, Rising, plan-feas, plan-full}
 use Rattle.theory.specs.Marks.{next}
 use Rattle.theory.specs.Change.{row-outside, not-in-plan, rising-above, in-sum}
-use Rattle.theory.specs.Times.{ticks, sum-rows-only, all-rows-only}
+use Rattle.theory.specs.Times.{ticks}
 use Rattle.theory.specs.Border.{from-row-over, within, from-row, outside-by-order}
-use Rattle.theory.specs.Same.{of-plan, of-yes, of-no, row-ticket, tick-self, tick-once, sum-none, sum-of-rows}
-use Rattle.theory.specs.Unique.{Left-out, in-plan-other, in-plan-self, rising-other, not-there, plan-selected, within-below, all-within}
+use Rattle.theory.specs.Same.{of-plan, of-yes, of-no, row-ticket, tick-self, tick-once, sum-none}
+use Rattle.theory.specs.Unique.{in-plan-other, in-plan-self, rising-other, not-there, within-below, all-within}
 
 -- A FULL SELECTION: rows, each at most once, and blanks, feasible and filling every slot; a row left out is lighter than every member due by its next tight slot
 pub record Selection (r : Round) (ps : List Row) : Type 0 where
@@ -82,64 +81,6 @@ in-rows x t (p ∷ ps) = elim (eqb? (p .ticket) 0) [
   where
     both : in-plan x (rows-only ps) ≡ in-plan x ps → in-plan x (p ∷ rows-only ps) ≡ in-plan x (p ∷ ps)
     both e = ap (λ (b : Bool). same-row x p || b) e
-
-module _ (r : Round) (f : Fine r) (ps : List Row) (c : Selection r ps) where
-  pub selection-in : All (λ y. In y (r .rows)) (rows-only ps)
-  selection-in =
-      all-map {Q = λ y. In y (r .rows)}
-      (λ y (h : (1 ≤ y .ticket) × Member r y). elim (h .1) [ inl a ↦ a | inr a ↦ absurd (omega (arith, h .0, blank-ticket y (a .0))) ])
-      (rows-only ps) (all-rows-only (Member r) ps (c .members))
-
-  pub selection-feas : Feas r ps
-  selection-feas =
-      feas-yes r ps (c .fits) (all-map {Q = λ y. r .slot ≤ y .due} (λ y (h : Member r y). member-due r f y h .0) ps (c .members))
-
-  -- the certificate of the rows alone
-  pub selection-out : (x : Row) → In x (r .rows) → in-plan x (rows-only ps) ≡ false → Left-out r (rows-only ps) x
-  unfolding slots-left
-  selection-out x i n =
-      let g = all-in (Row-fine r) x (r .rows) (f .fine) i in
-      let t = all-in (λ x. 1 ≤ x .ticket) x (r .rows) (row-ticket r f) i in
-      let z = tight-after r ps (x .due) in
-      let k = next r ps (x .due) (g .1) (omega (arith, c .full, due-below (r .last) ps)) in
-      let o = c .out x i (sym (in-rows x t ps) ∙ n) in
-      record {
-        at = z;
-        from = k .from;
-        by = k .by;
-        full = omega (
-          arith,
-          due-below z (rows-only ps),
-          k .tight,
-          sum-of-rows (below 0 (suc z)) ps (all-of-in (λ y. y .ticket ≡ 0 → below 0 (suc z) y ≡ 0) ps (λ y j e.
-              elim (leb? (y .due) z) [
-                | inl l ↦ elim (all-in (Member r) y ps (c .members) j) [
-                  | inr a ↦ absurd (light y (blank-weight y (a .0)) (g .2) (all-in (λ y. y .due ≤ z → heavier y x ≡ true) y ps o j (l .1)))
-                  | inl a ↦ absurd (omega (arith, e, all-in (λ x. 1 ≤ x .ticket) y (r .rows) (row-ticket r f) a))
-                ]
-                | inr l ↦ below-late 0 (suc z) y (l .1)
-              ])),
-        );
-        heavy = all-map {Q = λ y. y .due ≤ z → heavier y x ≡ true} (λ y (h : (1 ≤ y .ticket) × (y .due ≤ z → heavier y x ≡ true)). h .1) (rows-only ps)
-            (all-rows-only (λ y. y .due ≤ z → heavier y x ≡ true) ps o);
-      }
-    where
-      light : (y : Row) → y .weight ≡ 0 → 1 ≤ x .weight → heavier y x ≡ true → ⊥
-      light y h k e = elim (heavier? y x) [
-        | inl a ↦ over-absurd y x (a .1) (inl (omega (arith, h, k)))
-        | inr a ↦ true≢false (sym e ∙ a .0)
-      ]
-
-  -- A FULL SELECTION HAS THE PLAN'S ROWS
-  pub selection-plan : (x : Row) → In x (r .rows) → in-plan x (plan r) ≡ in-plan x ps
-  selection-plan x i =
-      plan-selected r f (rows-only ps) selection-in (λ e h k. omega (arith, selection-feas e h k, sum-rows-only (below 0 e) ps)) selection-out
-      (of-all r f (rows-only ps) selection-in (λ k h. omega (arith, c .once k h, sum-rows-only (ticks k) ps))) x i
-      ∙ in-rows x (all-in (λ x. 1 ≤ x .ticket) x (r .rows) (row-ticket r f) i) ps
-
--- two have the same rows
-pub selections-same : (r : Round) → Fine r → (ps qs : List Row) → Selection r ps → Selection r qs → (x : Row) → In x (r .rows) → in-plan x ps ≡ in-plan x qs
-selections-same r f ps qs c d x i = sym (selection-plan r f ps c x i) ∙ selection-plan r f qs d x i
 
 -- and the plan is one
 pub plan-selection : (r : Round) → Fine r → Selection r (plan r)

@@ -5,10 +5,10 @@ use mathlib.Core.Bool.{Bool, true, false, cond, true≢false}
 use mathlib.Core.List.{List, [], _∷_, _++_}
 use Prim.Native.Nat.{ℕ, zero, suc, _+_, _-_, _≤_, _<_, min}
 use native.Mathlib.Omega.{arith}
-use lib.Dec.{ltb, leb, eqb}
+use lib.Dec.{leb, eqb}
 use lib.ListN.{replicate}
 use Rattle.rules.specs.Rows.{Row, Round, blank, slots-left, heavier, sorted, rows-only, All, In}
-use Rattle.rules.specs.Plan.{due-by, blanks-from, plan, tight, tight-from, tight-after, segment-from, segment-start, least-weight, mark-in, mark, planned}
+use Rattle.rules.specs.Plan.{due-by, blanks-from, plan, tight, tight-from, tight-after, segment-from, least-weight, mark-in, mark}
 use Rattle.theory.specs.Tests.{positive, either, leb?, ltb?, eqb?}
 use Rattle.theory.specs.Sum.{sum, sum-le}
 use Rattle.theory.specs.All.{blank-weight, all-map, all-in, all-append, all-sorted, all-replicate}
@@ -16,7 +16,7 @@ use Rattle.theory.specs.Feas.{below, num, below-yes, below-late, below-m
 use Rattle.theory.specs.Full.{plan-member, Fine, blanks, pool, outside, pool-from, feas-none, plan-feas, plan-sum, plan-full, blanks-at}
 use Rattle.theory.specs.Marks.{Tight-in, tight?, Next, next, next-later, least-above, least-below, least-all, all-heavy, heavy-num, mark-all}
 use Rattle.theory.specs.Border.{Of, Not, Downward, Border, border, within, within-yes, within-no, many}
-use Rattle.theory.specs.Same.{Same, row-ticket, planned-same}
+use Rattle.theory.specs.Same.{Same, row-ticket}
 
 -- slots up to one that the rows leave free
 unfoldable pub slack : Round → (rs : List Row) → (s : ℕ) → ℕ
@@ -353,36 +353,6 @@ module _ (r : Round) (f : Fine r) (rs : List Row) (same : Same (rows-only (plan 
         ]
       ]
 
-  pub mark-is : (s : ℕ) → r .slot ≤ s → s ≤ r .last →
-      mark r s ≡ cond (ltb 0 (least-from r rs s)) 0 (least-weight (tight-after r rs s) rs 16777216)
-  unfolding tight-after
-  mark-is s h k = elim (ltb? 0 (least-from r rs s)) [
-    | inl a ↦ rw (a .0) (mark-idle s h k (λ u i l. omega (arith, a .1, slack-all (r .last - s) r rs s u i (omega arith))))
-    | inr a ↦
-        let p = slack-some (r .last - s) r rs s in
-        let i : p .0 ≤ r .last = omega (arith, p .2) in
-        rw (a .0) (elim (search (suc (r .last) - s) s r rs (omega arith)) as (λ _. mark r s ≡ least-weight (tight-from (suc (r .last) - s) s r rs) rs 16777216) [
-          | inl q ↦ mark-rows s (tight-from (suc (r .last) - s) s r rs) h (q .from) (q .by)
-              (omega (arith, q .tight, q .from, slack-is (tight-from (suc (r .last) - s) s r rs) (omega (arith, q .from)) (q .by)))
-              (λ u b c. some-slack u (omega arith) (omega (arith, c, q .by)) (q .first u b c))
-          | inr q ↦ absurd (q (p .0) (p .1) i (omega (arith, a .1, p .3, slack-is (p .0) (omega (arith, p .1)) i)))
-        ])
-  ]
-    where
-      some-slack : (u : ℕ) → r .slot ≤ u → u ≤ r .last → (Tight-in r rs u → ⊥) → 1 ≤ slack r rs u
-      some-slack u a b t = elim (eqb? (slack r rs u) 0) [
-        | inl c ↦ absurd (t (omega (arith, c .1, slack-is u a b)))
-        | inr c ↦ let d = c .1 in omega arith
-      ]
-
--- of the plan's own selection
-pub planned-tight : (r : Round) → Fine r → (s : ℕ) → r .slot ≤ s → s ≤ r .last → tight r (plan r) s ≡ leb (slack r (planned r) s) (least-from r (planned r) s)
-planned-tight r f s h k = tight-is r f (planned r) (planned-same r f) s h k
-
-pub planned-mark : (r : Round) → Fine r → (s : ℕ) → r .slot ≤ s → s ≤ r .last →
-    mark r s ≡ cond (ltb 0 (least-from r (planned r) s)) 0 (least-weight (tight-after r (planned r) s) (planned r) 16777216)
-planned-mark r f s h k = mark-is r f (planned r) (planned-same r f) s h k
-
 -- THE SEARCHES over tight slots, by a test of the rows' slack
 unfoldable pub least-here : Round → (rs : List Row) → (s : ℕ) → Bool
 least-here r rs s = leb (slack r rs s) (least-from r rs s)
@@ -401,17 +371,8 @@ module _ (r : Round) (f : Fine r) (rs : List Row) (same : Same (rows-only (plan 
   tight-from-is zero s h e = refl
   tight-from-is (suc n) s h e = rw (tight-is r f rs same s h (omega arith), tight-from-is n (suc s) (omega arith) (omega arith))
 
-  pub tight-after-is : (s : ℕ) → r .slot ≤ s → s ≤ r .last → tight-after r (plan r) s ≡ first-from (least-here r rs) (suc (r .last) - s) s
-  unfolding tight-after
-  tight-after-is s h k = tight-from-is (suc (r .last) - s) s h (omega arith)
-
   pub segment-from-is : (n s b : ℕ) → r .slot ≤ s → s + n ≤ suc (r .last) → segment-from n s r (plan r) b ≡ past-last (least-here r rs) n s b
   unfolding segment-from past-last least-here
   segment-from-is zero s b h e = refl
   segment-from-is (suc n) s b h e =
       rw (tight-is r f rs same s h (omega arith)) (segment-from-is n (suc s) (cond (leb (slack r rs s) (least-from r rs s)) (suc s) b) (omega arith) (omega arith))
-
-  pub segment-start-is : (d : ℕ) → r .slot ≤ d → d ≤ r .last →
-      segment-start r (plan r) d ≡ past-last (least-here r rs) (d - r .slot) (r .slot) (r .slot)
-  unfolding segment-start
-  segment-start-is d h k = segment-from-is (d - r .slot) (r .slot) (r .slot) (omega arith) (omega arith)

@@ -2,7 +2,7 @@
 use mathlib.Core.Path.{_≡_, sym, ap, _∙_, subst}
 use mathlib.Core.Logic.{_⊎_, inl, inr}
 use mathlib.Core.Bool.{true, false, true≢false}
-use mathlib.Core.List.{List, []}
+use mathlib.Core.List.{List}
 use Prim.Native.Nat.{ℕ, suc, _+_, _*_, _-_, _≤_, _<_}
 use native.Mathlib.Omega.{arith}
 use borrow.Author.Tests.{le-leb, lt-leb, eq-eqb}
@@ -20,8 +20,8 @@ use Rattle.theory.specs.Times.{sum-less}
 use Rattle.theory.specs.Same.{row-ticket}
 use Rattle.theory.specs.Score.{Bounded, plan-bounded, score-of}
 use Rattle.theory.specs.Select.{plan-selection}
-use Rattle.theory.specs.Slack.{slack, slack-all, tight-is, least-from, idle, idle-le, idlers, idlers-mono, with-blank, rows-num, slack-is, idlers-most, idlers-least, idlers-is}
-use Rattle.theory.specs.Members.{Rows, of-rows-in, of-rows-ticket, of-rows-fine, found-member, member?, in-plan-is}
+use Rattle.theory.specs.Slack.{slack, slack-all, tight-is, least-from, idle, idle-le, idlers, idlers-mono, rows-num, slack-is, idlers-most, idlers-least, idlers-is}
+use Rattle.theory.specs.Members.{Rows, of-rows-in, of-rows-fine, found-member, member?, in-plan-is}
 use Rattle.theory.specs.Top.{lightest, Left-from, outside-top}
 
 pub idle-blank : (μ : Row → ℕ) (x : Row) → x .ticket ≡ 0 → idle μ x ≡ μ x
@@ -122,23 +122,7 @@ module _ (r : Round) (f : Fine r) (rs : List Row) (c : Rows r rs) where
         | inr a ↦ let d : x .due ≡ r .slot = omega (arith, a .1, u .0) in b ∙ ap blank d
       ]
 
-  -- DUE BY THE FIRST END: with slack everywhere from now on, the blank due now
-  pub first-idle : r .slot ≤ r .last → (p : Row) → In p (plan r) → p .due ≤ first-end r (plan r) → 1 ≤ least-from r rs (r .slot) →
-      substitute r (plan r) p ≡ blank (r .slot)
-  first-idle o p i h g =
-      let x = substitute r (plan r) p in
-      let l : Lightest-of r x = first-lightest r p i h in
-      let y = with-blank (suc (r .slot)) (plan r) (omega (arith, g, idlers-is r f rs (c .same) (r .slot) (omega arith) o)) in
-      let e : y .0 .weight ≡ 0 = elim (member? r f rs c (y .0) (y .1)) [
-        | inl a ↦ blank-weight (y .0) a
-        | inr a ↦ absurd (omega (arith, y .2, of-rows-ticket r f rs c (y .0) a))
-      ] in
-      elim (member? r f rs c x (l .inside)) [
-        | inl a ↦ first-blank o x (l .inside) a (l .by)
-        | inr a ↦ absurd (omega (arith, e, of-rows-fine r f rs c x a .2, not-over-weight x (y .0) (l .least (y .0) (y .1) (omega (arith, y .3, first-end-from r f o)))))
-      ]
-
-  -- else the lightest row due by it
+  -- DUE BY THE FIRST END: the lightest row due by it
   pub first-rows : r .slot ≤ r .last → (p : Row) → In p (plan r) → p .due ≤ first-end r (plan r) → least-from r rs (r .slot) ≡ 0 →
       (x : Row) → In x rs → x .due ≤ first-end r (plan r) → ((y : Row) → In y rs → y .due ≤ first-end r (plan r) → heavier x y ≡ false) →
       substitute r (plan r) p ≡ x

@@ -98,10 +98,6 @@ kept-bytes a b hd zs xs i z d w s h e =
     ∙ ap (λ (m : ℕ). sets (hd ++ (rows-bytes xs ++ zs)) m ((low 2 d ++ low 4 w) ++ (1 ∷ []))) n
 
 -- THE HEAD: current slot and rows in use
-pub head-written : (t l n c u k : ℕ) → sets (sets (head-bytes t l n c) 0 (low 2 u)) 8 (low 2 k) ≡ head-bytes u l n k
-unfolding head-bytes low
-head-written t l n c u k = refl
-
 pub head-sets : (t l n c u k : ℕ) (bs : List ℕ) → sets (sets (head-bytes t l n c ++ bs) 0 (low 2 u)) 8 (low 2 k) ≡ head-bytes u l n k ++ bs
 unfolding head-bytes low
 head-sets t l n c u k bs = refl

@@ -28,13 +28,13 @@ loop-less : tie.Need-loop-less Inv-loop μ-loop
 loop-less c = search needs
 
 loop-again : tie.Need-loop-again Inv-loop μ-loop
-loop-again c = moving-step (c .before .before .before .before .before .before .before .before .before .pre .0) (c .before .before .before .before .before .before .before .before .before .pre .1) (c .before .before .before .before .before .loop .inv) (search needs) (c .before .before .keep-row .ensures) (search needs)
+loop-again c = search (moving-step, needs)
 
 same-length : tie.Need-same-length Inv-loop μ-loop
 same-length c = let l = c .before .loop .inv .long in search needs
 
 returns : tie.Need-returns Inv-loop μ-loop
-returns c = moving-end (c .before .before .before .before .before .pre .0) (c .before .before .before .before .before .pre .1) (c .before .loop .inv) (search needs)
+returns c = search (moving-end, needs)
 
 pub close-rows-spec : {M : Type 1} → statement M
 close-rows-spec =

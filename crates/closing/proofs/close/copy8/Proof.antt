@@ -99,7 +99,7 @@ same-length : tie.Need-same-length
 same-length c = simp length-set
 
 returns : tie.Need-returns
-returns c = copied8 (c .before .before .before .before .before .before .before .before .args .table .now) (c .before .before .before .before .before .before .before .before .args .to) (c .before .before .before .before .before .before .before .before .args .from) (search needs) (search needs)
+returns c = search (copied8, needs)
 
 pub copy8-spec : {M : Type 1} → statement M
 copy8-spec =

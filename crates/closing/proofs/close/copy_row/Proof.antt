@@ -29,7 +29,7 @@ same-length : tie.Need-same-length
 same-length c = search needs
 
 returns : tie.Need-returns
-returns c = copied-row (c .before .before .before .before .before .before .before .before .before .before .before .before .before .args .table .now) _ _ _ (c .before .before .before .before .before .before .before .before .before .before .before .before .before .args .to) (c .before .before .before .before .before .before .before .before .before .before .before .before .before .args .from) (search needs) (search needs) (c .before .before .before .before .before .before .before .before .before .before .copy8 .ensures) (c .before .before .before .before .before .before .copy82 .ensures) (c .before .before .copy83 .ensures)
+returns c = search (copied-row, needs)
 
 pub copy-row-spec : {M : Type 1} → statement M
 copy-row-spec =

@@ -20,7 +20,7 @@ read4-requires : tie.Need-read4-requires
 read4-requires c κs = search needs
 
 returns : tie.Need-returns
-returns c = stays-read (c .before .before .before .before .before .before .args .table .now) (c .before .before .before .before .before .before .args .slot .0) (c .before .before .before .before .before .before .args .gone .0) (c .before .before .before .before .before .before .args .row) _ _ _ (c .before .before .before .before .row-at .ensures) (c .before .before .before .read2 .ensures) (c .before .read4 .ensures)
+returns c = search (stays-read, needs)
 
 pub row-stays-spec : {M : Type 1} → statement M
 row-stays-spec =

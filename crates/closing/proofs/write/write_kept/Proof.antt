@@ -20,7 +20,7 @@ same-length : tie.Need-same-length
 same-length c = search needs
 
 returns : tie.Need-returns
-returns c = kept-stored (c .before .before .before .before .before .before .args .table .now) _ _ (c .before .before .before .before .before .before .args .row) (c .before .before .before .before .before .before .args .due .0) (c .before .before .before .before .before .before .args .weight .0) (c .row-at .ensures) (c .before .before .before .write-shift .ensures)
+returns c = search (kept-stored, needs)
 
 pub write-kept-spec : {M : Type 1} → statement M
 write-kept-spec =

@@ -23,7 +23,7 @@ same-length : tie.Need-same-length
 same-length c = search needs
 
 returns : tie.Need-returns
-returns c = shift-stored (c .before .before .before .before .before .before .before .before .before .before .args .table .now) _ _ _ (c .before .before .before .before .before .before .before .before .before .before .args .row) (c .before .before .before .before .before .before .before .before .before .before .args .due .0) (c .before .before .before .before .before .before .before .before .before .before .args .weight .0) (c .before .before .before .before .before .before .before .before .row-at .ensures) (c .before .before .before .before .before .before .write2 .ensures) (c .before .before .write4 .ensures)
+returns c = search (shift-stored, needs)
 
 pub write-shift-spec : {M : Type 1} → statement M
 write-shift-spec =

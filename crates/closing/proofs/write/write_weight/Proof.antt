@@ -17,7 +17,7 @@ same-length : tie.Need-same-length
 same-length c = search needs
 
 returns : tie.Need-returns
-returns c = weight-stored (c .before .before .before .before .before .before .args .table .now) _ _ (c .before .before .before .before .before .before .args .row) (c .before .before .before .before .before .before .args .weight .0) (c .before .before .before .row-at .ensures) (c .before .before .write4 .ensures)
+returns c = search (weight-stored, needs)
 
 pub write-weight-spec : {M : Type 1} → statement M
 write-weight-spec =

@@ -25,6 +25,10 @@ pub row-in-key : (w d i : ℕ) → i < 1024 → light-key w d i % 1024 ≡ i
 unfolding light-key
 row-in-key w d i h = omega arith
 
+pub key-some : (t : List ℕ) (i : ℕ) → weight-in t i ≤ 16777216 → 1 ≤ key-in t i
+unfolding light-key
+key-some t i h = omega arith
+
 -- HOW FAR AHEAD
 pub near : (t : List ℕ) (i d s n : ℕ) → d ≡ due-in t i → s ≡ slot-in t → n ≡ used-in t → d - s < n → d - s ≡ ahead-in t i
 unfolding ahead-in

@@ -7,4 +7,6 @@ pub mod TableLaws
 pub mod TallyLaws
 pub mod FlagLaws
 pub mod SweepLaws
+pub mod HeapedLaws
+pub mod ScanLaws
 pub mod PlanLaws

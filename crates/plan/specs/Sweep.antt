@@ -1,9 +1,9 @@
 -- Which rows are kept in the midst of the sweep, and at its end: the certificate. Assumes nothing: these are definitions.
 use mathlib.Core.Path.{_≡_}
 use mathlib.Core.Logic.{_⊎_}
-use mathlib.Core.Bool.{Bool, false, cond}
+use mathlib.Core.Bool.{Bool, true, false, cond}
 use mathlib.Core.List.{List}
-use Prim.Native.Nat.{ℕ, zero, suc, _+_, _≤_, _<_}
+use Prim.Native.Nat.{ℕ, zero, suc, _+_, _%_, _≤_, _<_}
 use lib.Dec.{ltb, eqb}
 use lib.ListN.{length, getD}
 use Rattle.rules.specs.Limits.{most-rows}
@@ -18,6 +18,10 @@ kept? fs j = eqb (getD fs j 0) 1
 unfoldable pub tally : (measure : ℕ → ℕ) → (flags : List ℕ) → (n : ℕ) → ℕ
 tally f fs zero = 0
 tally f fs (suc n) = tally f fs n + cond (kept? fs n) (f n) 0
+
+-- how many rows have one
+abbrev pub kept-of : (flags : List ℕ) → ℕ
+kept-of fs = tally (λ _. 1) fs (length fs)
 
 -- 1 for a row due before e slots ahead; for such a row with a key below w
 unfoldable pub before : (ahead : ℕ → ℕ) → (e row : ℕ) → ℕ
@@ -53,12 +57,22 @@ pub record Flagged (t fs : List ℕ) : Type 0 where
   pub few : length fs ≤ most-rows
   pub known : Rows-known t (length fs)
 
--- the same, with the keys of the rows kept in a heap
-pub record Sweeping (t heap fs : List ℕ) (s a count : ℕ) : Type 0 where
+-- in the midst of a table's rows
+pub record Swept (t fs : List ℕ) (s a count : ℕ) : Type 0 where
   pub flagged : Flagged t fs
   pub mid : Mid (key-in t) (ahead-in t) (length fs) fs s a count
+
+-- the keys of the rows kept, in a heap
+pub record Heaped (t heap fs : List ℕ) (count : ℕ) : Type 0 where
   pub ordered : Heap count heap
   pub keys : (μ : ℕ → ℕ) → heaped μ count heap ≡ tally (λ j. μ (key-in t j)) fs (length fs)
+
+-- the greatest key of the rows kept, which names the lightest of them
+pub record Lightest (t fs : List ℕ) (top : ℕ) : Type 0 where
+  pub in-rows : top % 1024 < length fs
+  pub kept : kept? fs (top % 1024) ≡ true
+  pub key : key-in t (top % 1024) ≡ top
+  pub most : (j : ℕ) → j < length fs → kept? fs j ≡ true → key-in t j ≤ top
 
 -- THE CERTIFICATE: the rows kept fit into the slots, and each other row is barred
 pub record Kept (t fs : List ℕ) : Type 0 where

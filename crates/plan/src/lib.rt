@@ -4,3 +4,4 @@ mod keys; // keys.rt: a row's key, and how far ahead it is due
 mod lists; // lists.rt: rows by how far ahead they are due
 pub mod heap; // heap.rt: the keys of the rows kept, the lightest row's on top
 mod sweep; // sweep.rt: rows by rising due slot, the lightest leaves where there are too many
+mod scan; // scan.rt: the same without a heap

@@ -1,14 +1,16 @@
 // Rows by rising due slot: each is kept while a slot is free for it, else the lightest of all leaves.
 ghost use mathlib.Core.Path.{_≡_};
-ghost use Prim.Native.Nat.{ℕ, suc, _<_};
+ghost use Prim.Native.Nat.{ℕ, suc, _≤_, _<_};
 ghost use lib.ListN.{length, replicate};
 ghost use Rattle.plan.specs.Keys.{ahead-in};
 ghost use Rattle.plan.specs.Lists.{Next, Nexts, Listed};
-ghost use Rattle.plan.specs.Sweep.{Flagged, Sweeping, Kept};
+ghost use Rattle.plan.specs.Sweep.{Flagged, Swept, Heaped};
+use crate::heap::EMPTY;
 use crate::heap::rise;
 use crate::heap::sink;
 use crate::keys::key_at;
 use crate::keys::row_of;
+use crate::lists::wide;
 
 // One row. Answers how many are kept.
 fn admit(
@@ -19,8 +21,8 @@ fn admit(
     ahead: usize,
     count: usize,
 ) -> usize
-    requires { ⌜ (row < length (now flags)) × (ahead-in (now table) row ≡ ahead) × Sweeping (now table) (now heap) (now flags) ahead row count ⌝ }
-    ensures { λ r. ⌜ Sweeping (now (table .entry)) (now (heap .exit)) (now (flags .exit)) ahead (suc row) r ⌝ }
+    requires { ⌜ (row < length (now flags)) × (ahead-in (now table) row ≡ ahead) × Swept (now table) (now flags) ahead row count × Heaped (now table) (now heap) (now flags) count ⌝ }
+    ensures { λ r. ⌜ Swept (now (table .entry)) (now (flags .exit)) ahead (suc row) r × Heaped (now (table .entry)) (now (heap .exit)) (now (flags .exit)) r ⌝ }
 {
     let key = key_at(table, row);
     let slots = ahead + 1;
@@ -39,12 +41,6 @@ fn admit(
     count
 }
 
-fn wide(x: u16) -> usize
-    ensures { λ r. ⌜ r ≡ x ⌝ }
-{
-    x as usize
-}
-
 // The rows of one list, from the row that starts it.
 fn admit_list(
     table: &[u8],
@@ -55,8 +51,8 @@ fn admit_list(
     ahead: usize,
     kept: usize,
 ) -> usize
-    requires { ⌜ Nexts (ahead-in (now table)) (length (now flags)) 0 (now next) × Next (ahead-in (now table)) (length (now flags)) ahead 0 start × Sweeping (now table) (now heap) (now flags) ahead 0 kept ⌝ }
-    ensures { λ r. ⌜ Sweeping (now (table .entry)) (now (heap .exit)) (now (flags .exit)) (suc ahead) 0 r ⌝ }
+    requires { ⌜ Nexts (ahead-in (now table)) (length (now flags)) 0 (now next) × Next (ahead-in (now table)) (length (now flags)) ahead 0 start × Swept (now table) (now flags) ahead 0 kept × Heaped (now table) (now heap) (now flags) kept ⌝ }
+    ensures { λ r. ⌜ Swept (now (table .entry)) (now (flags .exit)) (suc ahead) 0 r × Heaped (now (table .entry)) (now (heap .exit)) (now (flags .exit)) r ⌝ }
 {
     let mut row = start;
     let mut count = kept;
@@ -67,21 +63,34 @@ fn admit_list(
     count
 }
 
-// All lists.
+// The lists below edge. Answers how many rows are kept.
 pub fn sweep(
     table: &[u8],
-    heap: &mut [u64; 1026],
     flags: &mut [u8],
     first: &[u16; 1025],
     next: &[u16; 1024],
-)
-    requires { ⌜ Flagged (now table) (now flags) × Listed (ahead-in (now table)) (length (now flags)) (now first) (now next) × (now heap ≡ replicate 1026 1) × (now flags ≡ replicate (length (now flags)) 0) ⌝ }
-    ensures { λ _. ⌜ Kept (now (table .entry)) (now (flags .exit)) ⌝ }
+    edge: usize,
+) -> usize
+    requires { ⌜ Flagged (now table) (now flags) × Listed (ahead-in (now table)) (length (now flags)) (now first) (now next) × (now flags ≡ replicate (length (now flags)) 0) × (edge ≤ suc (length (now flags))) ⌝ }
+    ensures { λ r. ⌜ Swept (now (table .entry)) (now (flags .exit)) edge 0 r ⌝ }
 {
+    if edge == 0 {
+        return 0;
+    }
+    let mut heap = [EMPTY; 1026];
     let mut ahead: usize = 0;
     let mut count: usize = 0;
-    while ahead <= flags.len() {
-        count = admit_list(table, heap, flags, next, wide(first[ahead]), ahead, count);
+    while ahead < edge {
+        count = admit_list(
+            table,
+            &mut heap,
+            flags,
+            next,
+            wide(first[ahead]),
+            ahead,
+            count,
+        );
         ahead += 1;
     }
+    count
 }

@@ -19,6 +19,18 @@ use tally::keys::tally;
 use tally::near::Reach;
 use tally::near::reach_of;
 
+// Up to where a plan takes a heap: one row that leaves late is found at less cost by a pass over all rows.
+fn edge_of(round: Round, reach: Reach) -> usize
+    ensures { λ r. ⌜ r ≤ reach .free ⌝ }
+{
+    if reach.over == 1 {
+        if round.used / 2 < reach.free {
+            return 0;
+        }
+    }
+    reach.free
+}
+
 // The flags of a sound table's plan, all of them 1 before: nothing is planned where nothing is left out.
 pub fn flag_rows(table: &[u8], flags: &mut [u8], round: Round, reach: Reach)
     requires { ⌜ Ready (now table) round × Reaches (round-in (now table)) reach × (now flags ≡ replicate (round .used) 1) ⌝ }
@@ -27,7 +39,8 @@ pub fn flag_rows(table: &[u8], flags: &mut [u8], round: Round, reach: Reach)
     if reach.over == 0 {
         return;
     }
-    choose_rows(table, flags, round.used, round.slot.0 as usize);
+    let edge = edge_of(round, reach);
+    choose_rows(table, flags, round.used, round.slot.0 as usize, edge);
 }
 
 // What goes out by the plan's flags, and what it leaves.

@@ -2,7 +2,8 @@
 use native.Mathlib.Omega.{arith}
 use borrow.Author.Needs.{needs}
 use Rattle.plan.proofs.KeyLaws.{ahead-by}
-use Rattle.plan.proofs.SweepLaws.{count-under, count-by, top-row, joined, stayed, exchanged}
+use Rattle.plan.proofs.SweepLaws.{count-under, count-by, joined, stayed, exchanged}
+use Rattle.plan.proofs.HeapedLaws.{top-lightest, heap-joined, heap-exchanged}
 use Rattle.plan.proofs.sweep.admit.Statement.{statement}
 use Rattle.plan.proofs.sweep.admit.Tie as tie
 
@@ -17,7 +18,7 @@ add-slots c =
 rise-requires : tie.Need-rise-requires
 rise-requires c κs =
     let s = c .before .before .before .before .before in
-    (omega (arith, count-under _ _ _ _ _ _ (s .pre .2) (s .pre .0) (s .pre .1), s .pre .2 .flagged .few), search needs, s .pre .2 .ordered)
+    (omega (arith, count-under _ _ _ _ _ (s .pre .2) (s .pre .0) (s .pre .1), s .pre .2 .flagged .few), search needs, s .pre .3 .ordered)
 
 slice-write-flags : tie.Need-slice-write-flags
 slice-write-flags c = search needs
@@ -25,7 +26,7 @@ slice-write-flags c = search needs
 add-result : tie.Need-add-result
 add-result c =
     let s = c .before .before .before .before .before .before in
-    omega (arith, count-under _ _ _ _ _ _ (s .pre .2) (s .pre .0) (s .pre .1), s .pre .2 .flagged .few)
+    omega (arith, count-under _ _ _ _ _ (s .pre .2) (s .pre .0) (s .pre .1), s .pre .2 .flagged .few)
 
 same-length : tie.Need-same-length
 same-length c = search needs
@@ -33,7 +34,10 @@ same-length c = search needs
 returns : tie.Need-returns
 returns c =
     let s = c .before .before .before .before .before .before in
-    joined _ _ _ _ _ _ _ (s .pre .2) (s .pre .0) (s .pre .1) (c .before .before .before .key-at .ensures .0) _ (search needs) (c .rise .ensures)
+    let k = c .before .before .before .key-at .ensures .0 in (
+      joined _ _ _ _ _ (s .pre .2) (s .pre .0) (s .pre .1) (search needs),
+      heap-joined _ _ _ _ _ _ _ _ (s .pre .2) (s .pre .3) (s .pre .0) (s .pre .1) k (c .rise .ensures),
+    )
 
 element-copy-out-top : tie.Need-element-copy-out-top
 element-copy-out-top c = search needs
@@ -44,12 +48,12 @@ row-of-requires c κs = search needs
 sink-requires : tie.Need-sink-requires
 sink-requires c κs =
     let s = c .before .before .before .before .before .before .before .before in
-    (search needs, omega (arith, count-by _ _ _ _ _ _ (s .pre .2), s .pre .2 .flagged .few), search needs, s .pre .2 .ordered, search needs)
+    (search needs, omega (arith, count-by _ _ _ _ _ (s .pre .2), s .pre .2 .flagged .few), search needs, s .pre .3 .ordered, search needs)
 
 slice-write-flags-2 : tie.Need-slice-write-flags-2
 slice-write-flags-2 c =
     let s = c .before .before .before .before .before .before .before .before .before in
-    omega (arith, c .before .before .row-of .ensures, top-row _ _ _ _ _ _ (s .pre .2) (omega arith) .in-rows)
+    omega (arith, c .before .before .row-of .ensures, top-lightest _ _ _ _ (s .pre .2 .flagged) (s .pre .3) (omega arith) .in-rows)
 
 slice-write-flags-3 : tie.Need-slice-write-flags-3
 slice-write-flags-3 c = search needs
@@ -61,12 +65,18 @@ returns-2 : tie.Need-returns-2
 returns-2 c =
     let s = c .before .before .before .before .before .before .before .before .before in
     let k = c .before .before .before .before .before .before .key-at .ensures .0 in
-    exchanged _ _ _ _ _ _ _ (s .pre .2) (s .pre .0) (s .pre .1) k _ _ (search needs) (search needs) (c .before .before .row-of .ensures) (c .sink .ensures)
+    let z = c .before .before .row-of .ensures in
+    let L = top-lightest _ _ _ _ (s .pre .2 .flagged) (s .pre .3) (omega arith) in (
+      exchanged _ _ _ _ _ (s .pre .2) (s .pre .0) (s .pre .1) _ _ k (search needs) L (search needs) _ z,
+      heap-exchanged _ _ _ _ _ _ _ _ (s .pre .2) (s .pre .3) (s .pre .0) (s .pre .1) k _ (search needs) (search needs) z (c .sink .ensures),
+    )
 
 returns-3 : tie.Need-returns-3
 returns-3 c =
     let s = c .before .before .before .before .before .before in
-    stayed _ _ _ _ _ _ _ (s .pre .2) (s .pre .0) (s .pre .1) (c .before .before .before .key-at .ensures .0) (search needs) (search needs)
+    let k = c .before .before .before .key-at .ensures .0 in
+    let L = top-lightest _ _ _ _ (s .pre .2 .flagged) (s .pre .3) (omega arith) in
+    (stayed _ _ _ _ _ (s .pre .2) (s .pre .0) (s .pre .1) _ _ k (search needs) L (search needs), s .pre .3)
 
 pub admit-spec : {M : Type 1} → statement M
 admit-spec =

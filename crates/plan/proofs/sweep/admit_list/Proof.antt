@@ -3,27 +3,28 @@ use Prim.Native.Nat.{_-_}
 use native.Mathlib.Omega.{arith}
 use lib.ListN.{length}
 use borrow.Author.Needs.{needs}
+use Rattle.plan.specs.Sweep.{Heaped}
 use Rattle.plan.proofs.SweepLaws.{Listing, list-start, list-more, list-end}
 use Rattle.plan.proofs.sweep.admit_list.Statement.{statement}
 use Rattle.plan.proofs.sweep.admit_list.Tie as tie
 
 abbrev Inv-loop : tie.InvT-loop
-Inv-loop table heap₀ flags₀ next start ahead kept row₀ count₀ heap flags row count = Listing table (length flags₀) heap flags ahead row count
+Inv-loop table heap₀ flags₀ next start ahead kept row₀ count₀ heap flags row count = Listing table (length flags₀) flags ahead row count × Heaped table heap flags count
 
 abbrev μ-loop : tie.MeasureT-loop
 μ-loop table heap₀ flags₀ next start ahead kept row₀ count₀ heap flags row count = length flags₀ - row
 
 loop-holds : tie.Need-loop-holds Inv-loop μ-loop
-loop-holds c = list-start _ _ _ _ _ _ (c .before .before .pre .2) (c .before .before .pre .1)
+loop-holds c = (list-start _ _ _ _ _ (c .before .before .pre .2) (c .before .before .pre .1), c .before .before .pre .3)
 
 admit-requires : tie.Need-admit-requires Inv-loop μ-loop
-admit-requires c κs = (search needs, c .before .before .before .loop .inv .here (search needs), search needs)
+admit-requires c κs = (search needs, c .before .before .before .loop .inv .0 .here (search needs), c .before .before .before .loop .inv .0 .swept, c .before .before .before .loop .inv .1)
 
 mul-wide : tie.Need-mul-wide Inv-loop μ-loop
-mul-wide c = let f = c .before .before .before .before .before .before .loop .inv .swept .flagged .few in search needs
+mul-wide c = let f = c .before .before .before .before .before .before .loop .inv .0 .swept .flagged .few in search needs
 
 element-copy-out-wide : tie.Need-element-copy-out-wide Inv-loop μ-loop
-element-copy-out-wide c = omega (arith, c .before .before .before .before .before .before .loop .inv .swept .flagged .few)
+element-copy-out-wide c = omega (arith, c .before .before .before .before .before .before .loop .inv .0 .swept .flagged .few)
 
 wide-requires : tie.Need-wide-requires Inv-loop μ-loop
 wide-requires c κs = search needs
@@ -38,13 +39,14 @@ loop-again : tie.Need-loop-again Inv-loop μ-loop
 loop-again c =
     let s = c .before .before .before .before .before .before .before .before .before .before .before in
     let l = c .before .before .before .before .before .before .before .before .loop in
-    list-more _ _ _ _ _ _ (s .args .next .now) _ _ _ _ _ (l .inv) (search needs) (search needs) (c .before .before .before .before .admit .ensures) (s .pre .0) (c .wide .ensures)
+    let a = c .before .before .before .before .admit .ensures in
+    (list-more _ _ _ _ (s .args .next .now) _ _ _ _ _ (l .inv .0) (search needs) (search needs) (a .0) (s .pre .0) (c .wide .ensures), a .1)
 
 same-length : tie.Need-same-length Inv-loop μ-loop
 same-length c = search needs
 
 returns : tie.Need-returns Inv-loop μ-loop
-returns c = list-end _ _ _ _ _ _ _ (c .before .loop .inv) (search needs)
+returns c = (list-end _ _ _ _ _ _ (c .before .loop .inv .0) (search needs), c .before .loop .inv .1)
 
 pub admit-list-spec : {M : Type 1} → statement M
 admit-list-spec =

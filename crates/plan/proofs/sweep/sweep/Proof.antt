@@ -1,22 +1,31 @@
 -- `sweep`: the loop has every list before this one done. Assumes nothing.
 use mathlib.Core.Path.{_≡_, refl}
-use Prim.Native.Nat.{suc, _-_, _≤_}
+use Prim.Native.Nat.{_-_, _≤_}
+use native.Mathlib.Omega.{arith}
 use lib.ListN.{length}
 use borrow.Author.Needs.{needs}
-use Rattle.plan.specs.Sweep.{Sweeping}
+use Rattle.plan.specs.Sweep.{Swept, Heaped}
 use Rattle.plan.proofs.ListLaws.{nexts-of, start-of}
-use Rattle.plan.proofs.SweepLaws.{none-swept, next-ahead, all-swept}
+use Rattle.plan.proofs.SweepLaws.{none-swept, next-ahead, swept-to}
+use Rattle.plan.proofs.HeapedLaws.{none-heaped}
 use Rattle.plan.proofs.sweep.sweep.Statement.{statement}
 use Rattle.plan.proofs.sweep.sweep.Tie as tie
 
 abbrev Inv-loop : tie.InvT-loop
-Inv-loop table heap₀ flags₀ first next ahead₀ count₀ heap flags ahead count = (length flags ≡ length flags₀) × (ahead ≤ suc (length flags₀)) × Sweeping table heap flags ahead 0 count
+Inv-loop table flags₀ first next edge heap₀ ahead₀ count₀ flags heap ahead count =
+    (length flags ≡ length flags₀) × (ahead ≤ edge) × Swept table flags ahead 0 count × Heaped table heap flags count
 
 abbrev μ-loop : tie.MeasureT-loop
-μ-loop table heap₀ flags₀ first next ahead₀ count₀ heap flags ahead count = suc (length flags₀) - ahead
+μ-loop table flags₀ first next edge heap₀ ahead₀ count₀ flags heap ahead count = edge - ahead
+
+returns : tie.Need-returns Inv-loop μ-loop
+returns c =
+    let s = c .before .before .before in swept-to _ _ _ _ _ (search needs) (none-swept _ _ (s .pre .0) (s .pre .2))
 
 loop-holds : tie.Need-loop-holds Inv-loop μ-loop
-loop-holds c = (refl, search needs, none-swept _ _ _ (c .before .before .pre .0) (c .before .before .pre .2) (c .before .before .pre .3))
+loop-holds c =
+    let p = c .before .before .before .pre in
+    (refl, search needs, none-swept _ _ (p .0) (p .2), none-heaped _ _ _ refl (p .2))
 
 mul-wide : tie.Need-mul-wide Inv-loop μ-loop
 mul-wide c = search needs
@@ -29,11 +38,12 @@ wide-requires c κs = search needs
 
 admit-list-requires : tie.Need-admit-list-requires Inv-loop μ-loop
 admit-list-requires c κs =
-    let s = c .before .before .before .before .before .before .before .before in
+    let s = c .before .before .before .before .before .before .before .before .before in
     let l = c .before .before .before .before .before .loop .inv in (
       nexts-of _ _ _ (s .args .next .now) (l .0) (s .pre .1 .1),
       start-of _ _ _ (s .args .first .now) _ _ (l .0) (s .pre .1 .0) (search needs) (c .wide .ensures),
       l .2,
+      l .3,
     )
 
 add-ahead : tie.Need-add-ahead Inv-loop μ-loop
@@ -43,13 +53,14 @@ loop-less : tie.Need-loop-less Inv-loop μ-loop
 loop-less c = search needs
 
 loop-again : tie.Need-loop-again Inv-loop μ-loop
-loop-again c = (search needs, search needs, next-ahead _ _ _ _ _ (c .before .before .admit-list .ensures))
+loop-again c =
+    let a = c .before .before .admit-list .ensures in (search needs, search needs, next-ahead _ _ _ _ (a .0), a .1)
 
 same-length : tie.Need-same-length Inv-loop μ-loop
 same-length c = search needs
 
-returns : tie.Need-returns Inv-loop μ-loop
-returns c = all-swept _ _ _ _ _ (c .before .loop .inv .2) (search needs)
+returns-2 : tie.Need-returns-2 Inv-loop μ-loop
+returns-2 c = swept-to _ _ _ _ _ (search needs) (c .before .loop .inv .2)
 
 pub sweep-spec : {M : Type 1} → statement M
 sweep-spec =
@@ -57,6 +68,7 @@ sweep-spec =
     (tie.spec
     Inv-loop
     μ-loop
+    returns
     loop-holds
     mul-wide
     element-copy-out-wide
@@ -66,4 +78,4 @@ sweep-spec =
     loop-less
     loop-again
     same-length
-    returns)
+    returns-2)

@@ -66,6 +66,11 @@ def stacks(library):
         yield Limit(f"{call}, bytes of stack", most_stack(library, call), STACK)
 
 
+def against_calls(whole):
+    ratio = whole and whole.program / whole.calls
+    yield Limit("stationround's lines against the calls alone", ratio, 1.3)
+
+
 def same_answers(library, tuned):
     wrong = [cell for cell, digest in library.digest.items() if tuned.digest[cell] != digest]
     for cell in wrong:
@@ -73,11 +78,12 @@ def same_answers(library, tuned):
     return not wrong
 
 
-def judge(library, tuned):
-    """Prints each limit with its verdict; those of a call that the library lacks, or of cells left out, are not
-    judged. Returns whether all hold."""
+def judge(library, tuned, whole):
+    """Prints each limit with its verdict; those of a call that the library lacks, of cells left out, or of a program
+    that is not built, are not judged. Returns whether all hold."""
     print("\nLimits")
-    every = [*against_best(tuned), *against_tuned(library, tuned), *against_fewer_slots(library), *stacks(library)]
+    every = [*against_best(tuned), *against_tuned(library, tuned), *against_fewer_slots(library), *stacks(library),
+             *against_calls(whole)]
     found = [limit for limit in every if limit.value is not None]
     for limit in found:
         verdict = "pass" if limit.value <= limit.most else "FAIL"

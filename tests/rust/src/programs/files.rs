@@ -139,7 +139,7 @@ fn full(draw: &mut Draw, number: u64) -> Vec<u8> {
     let last = *draw.pick(&[0, 3, 600, 1_023, 1_500, Round::LAST.0]);
     let most = *draw.pick(&[1, 3, 1_000, Round::WEIGHT.0]);
     let mut file = line(Call::Open { last }, "");
-    for _ in 0..Round::ROWS as u64 + number % 4 - 1 {
+    for _ in 0..Round::ROWS as u64 + 2 - number % 4 {
         file.push_str(&taking(draw, 0, last, most));
     }
     for slot in 1..=draw.between(2, 6) {

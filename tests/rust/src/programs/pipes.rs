@@ -99,7 +99,7 @@ pub fn closed(program: &Path) -> Result<usize, String> {
         drop(child.stdout.take());
         let mut stdin = child.stdin.take().ok_or("no input")?;
         written(stdin.write_all(input.as_bytes())).map_err(|error| error.to_string())?;
-        let status = ended(&mut child)?;
+        let status = ended(&mut child).map_err(|told| format!("with its output closed {told}"))?;
         let quiet = status.code().is_some() || *signal && status.signal() == Some(PIPE_SIGNAL);
         if !quiet {
             return Err(format!("with its output closed it ended with {status}"));

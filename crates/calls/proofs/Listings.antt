@@ -66,17 +66,17 @@ pub short-says : (t : List ℕ) (h : Round) (room : ℕ) (o : Order) (l : Listin
 short-says t h room o l k d e g = refused-says t room 12 l (list-short t room (k .sound) (known t h k .time) (omega (arith, d .count))) (λ z. omega (arith, z)) g
 
 -- ACCEPTED: the rows in their order
-pub accepted-says : (t : List ℕ) (h : Round) (room : ℕ) (o : Order) → Ready t h → Ordered (round-in t) o → o .count ≤ room →
-    Listing-says t room (record { reply = Count (o .count); count = o .count; at = o .at })
+pub accepted-says : (t : List ℕ) (h : Round) (room : ℕ) (o : Order) (l : Listing) → Ready t h → Ordered (round-in t) o → o .count ≤ room →
+    l .reply ≡ Count (o .count) → l .count ≡ o .count → l .at ≡ o .at → Listing-says t room l
 unfolding list-answer list-left
-accepted-says t h room o k d fit =
+accepted-says t h room o l k d fit x y z =
     record {
-      reply = rw (f, ← d .count);
-      fits = fit;
-      few = d .few;
-      row = λ i a. (omega (arith, d .within i a, n .small), reads-within t h k (getD (o .at) i 0) (omega (arith, d .within i a, n .used)) .1);
+      reply = ap of-listed x ∙ rw (f, ← d .count);
+      fits = omega (arith, y, fit);
+      few = omega (arith, y, d .few);
+      row = λ i a. rw z (omega (arith, y, a, d .within i (omega (arith, y, a)), n .small), reads-within t h k (getD (o .at) i 0) (omega (arith, d .within i (omega (arith, y, a)), n .used)) .1);
       left = λ es a.
-          rw (a, f, d .count)
+          rw (y, z, a, f, d .count)
           (filled-all t (o .at) (listed (round-in t)) es (omega (arith, d .count))
           (λ i b. sym (at-is t h k (getD (o .at) i 0) (omega (arith, d .within i (omega (arith, d .count)), n .used))) ∙ d .is i (omega (arith, d .count))));
     }

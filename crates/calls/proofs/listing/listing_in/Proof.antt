@@ -29,7 +29,7 @@ returns-2 c = short-says _ _ _ _ _ (record { sound = c .before .before .before .
 
 -- src/listing.rt:80:1
 returns-3 : tie.Need-returns-3
-returns-3 c = accepted-says _ _ _ _ (record { sound = c .before .before .before .before .before .before .pre .0; head = c .before .before .before .before .before .before .pre .1; time = search needs }) (c .before .before .order-of .ensures) (search needs)
+returns-3 c = accepted-says _ _ _ _ _ (record { sound = c .before .before .before .before .before .before .pre .0; head = c .before .before .before .before .before .before .pre .1; time = search needs }) (c .before .before .order-of .ensures) (search needs) (search needs) (search needs) (search needs)
 
 pub listing-in-spec : {M : Type 1} → statement M
 listing-in-spec =

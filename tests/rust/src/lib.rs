@@ -10,6 +10,7 @@ pub mod calls;
 pub mod command;
 pub mod compare;
 pub mod counts;
+pub mod ending;
 pub mod golden;
 pub mod hand;
 pub mod leap;

@@ -4,19 +4,16 @@
 use second::call::CallName;
 use second::calls::Second;
 use second::compare::draw::Draw;
+use second::ending::{caught, with_program, Ended};
 use second::mutation::Mutation;
 use second::programs::files::KINDS;
 use second::programs::pipes::{closed, paced};
-use second::programs::process::{ended_well, run, told, Watch};
+use second::programs::process::{ended_well, run, Watch};
 use second::programs::rounds::by_hand;
 use second::settings::{factor, seed};
 use second::station::printed;
-use std::env;
 use std::path::Path;
 use std::process::ExitCode;
-
-const USAGE: &str = "streams PROGRAM [--mutations]
-LIRVEDD_FACTOR: how many times as many (1); LIRVEDD_SEED: the drawn numbers' seed (1)";
 
 /// A file, and what the program printed for it.
 struct Run {
@@ -84,19 +81,10 @@ const SHOWN_BY: &[CallName] = &[
 ];
 
 fn main() -> ExitCode {
-    let words: Vec<String> = env::args().skip(1).collect();
-    let words: Vec<&str> = words.iter().map(String::as_str).collect();
-    match words[..] {
-        [program] => told(compare(Path::new(program))),
-        [program, "--mutations"] => told(mutations(Path::new(program))),
-        _ => {
-            eprintln!("{USAGE}");
-            ExitCode::from(2)
-        }
-    }
+    with_program("streams", compare, mutations)
 }
 
-fn compare(program: &Path) -> Result<String, String> {
+fn compare(program: &Path) -> Ended {
     let runs = runs(program)?;
     for run in &runs {
         let wanted = printed(Second::PLAIN, &run.file);
@@ -203,26 +191,15 @@ fn pipes(program: &Path) -> Result<usize, String> {
     Ok(times)
 }
 
-/// Every fault that lines can show must be caught; one line each.
-fn mutations(program: &Path) -> Result<String, String> {
+/// Every fault that lines can show.
+fn mutations(program: &Path) -> Ended {
     let runs = runs(program)?;
     let mut all = Mutation::shown(SHOWN_BY);
     all.retain(|mutation| !HIDDEN.contains(mutation));
-    let mut caught = 0;
-    for mutation in all.iter().copied() {
+    caught("streams", &all, |mutation| {
         let second = Second { mutation };
         let differs = |run: &&Run| printed(second, &run.file).as_bytes() != run.output;
-        let found = runs.iter().find(differs);
-        let says = mutation.says();
-        match found {
-            Some(run) => println!("caught {mutation:?} ({} {}): {says}", run.kind, run.number),
-            None => println!("NOT CAUGHT {mutation:?}: {says}"),
-        }
-        caught += usize::from(found.is_some());
-    }
-    let line = format!("streams: {caught} of {} mutations caught", all.len());
-    match caught == all.len() {
-        true => Ok(line),
-        false => Err(line),
-    }
+        let found = runs.iter().find(differs)?;
+        Some(format!("{} {}", found.kind, found.number))
+    })
 }

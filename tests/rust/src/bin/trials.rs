@@ -4,17 +4,14 @@
 use second::call::CallName;
 use second::calls::Second;
 use second::compare::draw::Draw;
+use second::ending::{caught, with_program, Ended};
 use second::mutation::Mutation;
-use second::programs::process::{ended_well, run, told, Watch};
+use second::programs::process::{ended_well, run, Watch};
 use second::programs::requests::{Kind, KINDS};
 use second::programs::trial::Request;
 use second::settings::{factor, seed};
-use std::env;
 use std::path::Path;
 use std::process::ExitCode;
-
-const USAGE: &str = "trials PROGRAM [--mutations]
-LIRVEDD_FACTOR: how many times as many (1); LIRVEDD_SEED: the drawn numbers' seed (1)";
 
 /// The calls that trial makes.
 const SHOWN_BY: &[CallName] = &[
@@ -48,19 +45,10 @@ const LEAST: &[(u8, u8, usize)] = &[
 ];
 
 fn main() -> ExitCode {
-    let words: Vec<String> = env::args().skip(1).collect();
-    let words: Vec<&str> = words.iter().map(String::as_str).collect();
-    match words[..] {
-        [program] => told(compare(Path::new(program))),
-        [program, "--mutations"] => told(mutations(Path::new(program))),
-        _ => {
-            eprintln!("{USAGE}");
-            ExitCode::from(2)
-        }
-    }
+    with_program("trials", compare, mutations)
 }
 
-fn compare(program: &Path) -> Result<String, String> {
+fn compare(program: &Path) -> Ended {
     let tried = tried(program)?;
     for one in &tried {
         let wanted = one.request.outcome(Second::PLAIN);
@@ -150,25 +138,13 @@ fn least(tried: &[Tried]) -> Result<(), String> {
     Ok(())
 }
 
-/// Every fault in the calls that trial makes must be caught; one line each.
-fn mutations(program: &Path) -> Result<String, String> {
+/// Every fault in the calls that trial makes.
+fn mutations(program: &Path) -> Ended {
     let tried = tried(program)?;
-    let all = Mutation::shown(SHOWN_BY);
-    let mut caught = 0;
-    for mutation in all.iter().copied() {
+    caught("trials", &Mutation::shown(SHOWN_BY), |mutation| {
         let second = Second { mutation };
         let differs = |one: &&Tried| one.request.outcome(second) != one.outcome;
-        let found = tried.iter().find(differs);
-        let says = mutation.says();
-        match found {
-            Some(one) => println!("caught {mutation:?} ({} {}): {says}", one.kind, one.number),
-            None => println!("NOT CAUGHT {mutation:?}: {says}"),
-        }
-        caught += usize::from(found.is_some());
-    }
-    let line = format!("trials: {caught} of {} mutations caught", all.len());
-    match caught == all.len() {
-        true => Ok(line),
-        false => Err(line),
-    }
+        let found = tried.iter().find(differs)?;
+        Some(format!("{} {}", found.kind, found.number))
+    })
 }

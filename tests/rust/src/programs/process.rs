@@ -2,7 +2,7 @@
 
 use std::io::{self, ErrorKind, Write};
 use std::path::Path;
-use std::process::{exit, Command, ExitCode, Output, Stdio};
+use std::process::{exit, Command, Output, Stdio};
 use std::sync::atomic::{AtomicU64, Ordering};
 use std::sync::Arc;
 use std::thread;
@@ -72,19 +72,5 @@ impl Watch {
     /// One run more is done.
     pub fn done(&self) {
         self.0.fetch_add(1, Ordering::Relaxed);
-    }
-}
-
-/// The exit status of a comparison: its last line, or what differs.
-pub fn told(ended: Result<String, String>) -> ExitCode {
-    match ended {
-        Ok(line) => {
-            println!("{line}");
-            ExitCode::SUCCESS
-        }
-        Err(difference) => {
-            println!("{difference}");
-            ExitCode::FAILURE
-        }
     }
 }

@@ -100,7 +100,7 @@ fn reachable(draw: &mut Draw, _: u64) -> Request {
 }
 
 fn large(draw: &mut Draw, number: u64) -> Request {
-    if number % 4 == 0 {
+    if number.is_multiple_of(4) {
         let frames = draw.between(4, 1_024);
         return listing(draw, chain(frames));
     }

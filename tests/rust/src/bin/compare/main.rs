@@ -7,8 +7,9 @@ mod options;
 use options::{Job, Options};
 use second::call::CallName;
 use second::calls::Second;
-use second::compare::kinds::{run, Found, Settings};
+use second::compare::kinds::{run, Settings};
 use second::compare::library::{Itself, Library};
+use second::ending::{caught, told, Ended};
 use second::mutation::Mutation;
 use std::process::ExitCode;
 
@@ -20,16 +21,13 @@ fn main() -> ExitCode {
             return ExitCode::from(2);
         }
     };
-    let good = match options.job {
+    told(match options.job {
         Job::Compare => compare(options, Mutation::None),
         Job::Mutation(mutation) => compare(options, mutation),
-        Job::Mutations => mutations(options),
-    };
-    if good {
-        ExitCode::SUCCESS
-    } else {
-        ExitCode::FAILURE
-    }
+        Job::Mutations => caught("compare", &Mutation::shown(CallName::ALL), |mutation| {
+            caught_at(options, mutation)
+        }),
+    })
 }
 
 /// The archive, or the second implementation when there is none or it is
@@ -43,7 +41,7 @@ fn library(options: Options) -> (Box<dyn Library>, &'static str) {
     (Box::new(Itself), "itself")
 }
 
-fn compare(options: Options, mutation: Mutation) -> bool {
+fn compare(options: Options, mutation: Mutation) -> Ended {
     let (mut library, name) = library(options);
     let settings = options.settings;
     println!(
@@ -57,40 +55,13 @@ fn compare(options: Options, mutation: Mutation) -> bool {
     match ended {
         Ok(tally) => {
             tally.lines().iter().for_each(|line| println!("  {line}"));
-            println!("compare: {} cases agreed", tally.all());
+            Ok(format!("compare: {} cases agreed", tally.all()))
         }
-        Err(found) => {
-            show(&found, settings);
-            return false;
-        }
+        Err(found) => Err(format!(
+            "{}\ncompare: a difference in kind {}, case {}, seed {}",
+            found.difference, found.kind, found.case, settings.seed
+        )),
     }
-    true
-}
-
-fn show(found: &Found, settings: Settings) {
-    println!("{}", found.difference);
-    println!(
-        "compare: a difference in kind {}, case {}, seed {}",
-        found.kind, found.case, settings.seed
-    );
-}
-
-/// Every fault must be caught; one line each.
-fn mutations(options: Options) -> bool {
-    let mut caught = 0;
-    let all = Mutation::shown(CallName::ALL);
-    for mutation in all.iter().copied() {
-        let told = caught_at(options, mutation);
-        let says = mutation.says();
-        match &told {
-            Some(place) => println!("caught {mutation:?} ({place}): {says}"),
-            None => println!("NOT CAUGHT {mutation:?}: {says}"),
-        }
-        caught += usize::from(told.is_some());
-    }
-    let all = all.len();
-    println!("compare: {caught} of {all} mutations caught");
-    caught == all
 }
 
 /// Where a fault is caught. A fault in planning must be caught by the drawn

@@ -1,0 +1,61 @@
+//! How a comparison ends: its last line, or what differs.
+
+use crate::mutation::Mutation;
+use std::env;
+use std::path::Path;
+use std::process::ExitCode;
+
+/// The last line of a comparison that agreed, or the difference.
+pub type Ended = Result<String, String>;
+
+/// Tells it, and gives the exit status.
+pub fn told(ended: Ended) -> ExitCode {
+    match ended {
+        Ok(line) => {
+            println!("{line}");
+            ExitCode::SUCCESS
+        }
+        Err(difference) => {
+            println!("{difference}");
+            ExitCode::FAILURE
+        }
+    }
+}
+
+/// Every fault must be caught; one line each. The place tells where it is.
+pub fn caught(name: &str, all: &[Mutation], place: impl Fn(Mutation) -> Option<String>) -> Ended {
+    let mut caught = 0;
+    for mutation in all.iter().copied() {
+        let found = place(mutation);
+        let says = mutation.says();
+        match &found {
+            Some(place) => println!("caught {mutation:?} ({place}): {says}"),
+            None => println!("NOT CAUGHT {mutation:?}: {says}"),
+        }
+        caught += usize::from(found.is_some());
+    }
+    let line = format!("{name}: {caught} of {} mutations caught", all.len());
+    match caught == all.len() {
+        true => Ok(line),
+        false => Err(line),
+    }
+}
+
+/// A comparison with the program named: NAME PROGRAM [--mutations].
+pub fn with_program(
+    name: &str,
+    compare: fn(&Path) -> Ended,
+    mutations: fn(&Path) -> Ended,
+) -> ExitCode {
+    let words: Vec<String> = env::args().skip(1).collect();
+    let words: Vec<&str> = words.iter().map(String::as_str).collect();
+    match words[..] {
+        [program] => told(compare(Path::new(program))),
+        [program, "--mutations"] => told(mutations(Path::new(program))),
+        _ => {
+            eprintln!("{name} PROGRAM [--mutations]");
+            eprintln!("LIRVEDD_FACTOR: how many times as many (1); LIRVEDD_SEED: the drawn numbers' seed (1)");
+            ExitCode::from(2)
+        }
+    }
+}

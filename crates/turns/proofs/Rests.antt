@@ -1,11 +1,12 @@
 -- What an input prints where no complete line is left: nothing, or refusal 1. Assumes nothing.
 use mathlib.Core.Path.{_≡_, refl, sym, ap, _∙_}
+use mathlib.Core.Bool.{false}
 use mathlib.Core.Logic.{inl, inr}
 use mathlib.Core.List.{List, [], _∷_, _++_, append-nil}
-use Prim.Native.Nat.{ℕ, suc, _+_, _-_, _≤_, _<_}
+use Prim.Native.Nat.{ℕ, suc, _+_, _*_, _-_, _≤_, _<_}
 use native.Mathlib.Omega.{arith}
-use lib.ListN.{length, getD, length-append}
-use lib.Seq.{append-snoc}
+use lib.ListN.{length, getD, take, drop, length-append, length-take}
+use lib.Seq.{append-snoc, getD-take, getD-drop}
 use borrow.Author.Tests.{ne-eqb}
 use Rattle.rules.specs.Calls.{refused}
 use Rattle.rules.specs.Lines.{Command, open-line, take-line, send-line, broken, read, lines-from, reply-text, turn, printed-from, line-end}
@@ -13,8 +14,9 @@ use Rattle.theory.specs.Tests.{eqb?}
 use Rattle.theory.specs.Lines.{Reads, Ended}
 use Rattle.lines.specs.Ends.{None}
 use Rattle.lines.proofs.Commands.{read-not, length-body, unended}
-use Rattle.lines.proofs.Cuts.{cut-unended, cut-end}
-use Rattle.turns.specs.Serving.{prints}
+use Rattle.lines.proofs.Cuts.{cut-unended}
+use Rattle.turns.specs.declared.Progress.{Progress}
+use Rattle.turns.specs.Serving.{prints, Serves, Kept}
 
 -- a line that is broken prints refusal 1, whatever follows it
 broken-first : (line : List ℕ) (lines : List (List ℕ)) (t : List ℕ) → broken ≡ read line → printed-from (line ∷ lines) t ≡ reply-text (refused 1)
@@ -62,3 +64,17 @@ begun-on xs (b ∷ ys) more f =
 pub overlong-printed : (rest more t : List ℕ) → None rest 0 (length rest) → 63 < length rest → prints (rest ++ more) t ≡ reply-text (refused 1)
 overlong-printed rest more t f h =
     ap (λ ls. printed-from ls t) (begun-on [] rest more (λ k g. f k (omega arith) g)) ∙ long-printed rest more t h
+
+-- WHAT IS HELD once the complete lines among the first n bytes are answered: none of them, if the output had room for five times as many
+pub rest-unended : {input z t t′ o o′ : List ℕ} {n : ℕ} {p : Progress} → Serves (take n input) t t′ o o′ p → p .stopped ≡ false →
+    5 * n + 15 ≤ length o → n ≤ length input → Kept input z (p .read) n → None z 0 (n - p .read)
+rest-unended {input} {z} {o = o} {n = n} {p = p} s e room h m k g l q =
+    let f = s .whole e (omega (arith, s .small, s .within, length-take n input)) in
+    let r = p .read in
+    f (r + k) (omega arith) (omega (arith, length-take n input))
+    (getD-take n input (r + k) 0 (omega arith)
+    ∙ sym (getD-drop r input k 0)
+    ∙ sym (getD-take (n - r) (drop r input) k 0 l)
+    ∙ ap (λ (xs : List ℕ). getD xs k 0) (sym (m .moved))
+    ∙ getD-take (n - r) z k 0 l
+    ∙ q)

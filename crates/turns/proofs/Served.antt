@@ -1,16 +1,20 @@
 -- Lines of an input answered one after another, whatever comes after the input. Assumes nothing.
+use mathlib.Core.Logic.{inl, inr}
 use mathlib.Core.Path.{_≡_, refl, sym, ap, _∙_}
 use mathlib.Core.Bool.{Bool, true, false, cond}
 use mathlib.Core.List.{List, [], _∷_, _++_, append-nil, append-assoc}
-use Prim.Native.Nat.{ℕ, _+_, _-_, _≤_, _<_}
+use Prim.Native.Nat.{ℕ, _+_, _*_, _-_, _≤_, _<_}
 use native.Mathlib.Omega.{arith}
 use lib.ListN.{length, getD, take, drop, length-append, length-take, length-drop, drop-of-length-le, List·getD-append}
 use lib.Seq.{length-take-le, take-all, take-append-le, drop-append-le, drop-drop, take-at, drop-at}
 use borrow.Rule.Slice.PartMut.{putMid}
-use Rattle.rules.specs.Calls.{refused, answer, left}
-use Rattle.rules.specs.Lines.{Command, call-of, Reading, command, broken, read, lines-from, reply-text, turn, printed-from, line-end}
+use Rattle.rules.specs.Calls.{Reply, refused, done, ticket, step, amount, blank-due, ordinary, leap, silence, frame, kept-blank, answer, left}
+use Rattle.rules.specs.Lines.{Command, call-of, command, broken, read, reply-digits, reply-text, out-digits, turn, printed-from}
+use Rattle.theory.specs.Tests.{ltb?}
+use Rattle.theory.specs.Digits.{length-digits}
 use Rattle.lines.specs.Ends.{None, First}
 use Rattle.lines.specs.Writing.{Replies}
+use Rattle.lines.proofs.Commands.{short}
 use Rattle.lines.proofs.Cuts.{cut-first}
 use Rattle.turns.specs.declared.Progress.{Progress}
 use Rattle.turns.specs.Turns.{Turns}
@@ -39,8 +43,35 @@ prints-first input more t from at h =
     ap (take n) p ∙ take-append-le n (drop from input) more (omega (arith, length-drop from input, h .after, h .within)) in
     rw (← p) (ap (λ ls. printed-from ls t) (cut-first (input ++ more) from at (first-more input more from at h)) ∙ rw (l, q))
 
+-- HOW LONG lines are: a command's and a reply's
+command-long : (c : Command) (line : List ℕ) → command c ≡ read line → 2 < length line
+command-long c line e =
+    elim (ltb? 2 (length line)) [
+      | inl a ↦ a .1
+      | inr a ↦ absurd (let f = e ∙ sym (short line (a .1)) in let z : _≡_ {A = ℕ} 0 1 = cc in omega arith)
+    ]
+
+pub reply-long : (r : Reply) → length (reply-text r) ≤ 15
+unfolding reply-text reply-digits out-digits
+reply-long (refused n) = simp (length-append, length-digits) (omega arith)
+reply-long done = simp (length-append, length-digits) (omega arith)
+reply-long (ticket k) = simp (length-append, length-digits) (omega arith)
+reply-long (step (ordinary silence)) = simp (length-append, length-digits) (omega arith)
+reply-long (step (ordinary (frame k))) = simp (length-append, length-digits) (omega arith)
+reply-long (step (ordinary (kept-blank k))) = simp (length-append, length-digits) (omega arith)
+reply-long (step (leap silence)) = simp (length-append, length-digits) (omega arith)
+reply-long (step (leap (frame k))) = simp (length-append, length-digits) (omega arith)
+reply-long (step (leap (kept-blank k))) = simp (length-append, length-digits) (omega arith)
+reply-long (amount n) = omega arith
+reply-long (blank-due s) = omega arith
+
+refusal-long : length (reply-text (refused 1)) ≡ 5
+unfolding reply-text reply-digits
+refusal-long = simp (length-append, length-digits)
+
 -- BYTES PUT behind those written: a line at the start of the buffer's part from w on
 pub record Put (line o o′ : List ℕ) (w r : ℕ) : Type 0 where
+  pub size : r ≡ length line
   pub room : w + r ≤ length o
   pub long : length o′ ≡ length o
   pub said : take (w + r) o′ ≡ take w o ++ line
@@ -61,6 +92,7 @@ put-line {line} {o} {part} {w} {r} h p l =
     let whole : putMid w n o part ≡ front ++ rest = rw (none, append-nil, s) (sym (append-assoc (take w o) line rest)) in
     let f : length front ≡ w + r = length-append (take w o) line ∙ omega (arith, p .long, length-take-le w o h) in
     record {
+      size = p .long;
       room = room;
       long = ap length whole ∙ length-append front rest ∙ omega (arith, length-drop (w + r) o);
       said = ap (take (w + r)) whole ∙ take-at front rest (w + r) f;
@@ -73,7 +105,7 @@ reply-within {line} {before} p e =
 
 -- THE LINES ANSWERED so far
 pub serving-none : (input t o : List ℕ) → Serving input t t o o 0 0
-serving-none input t o = record { within = omega arith; room = omega arith; long = refl; kept = refl; said = λ more. refl }
+serving-none input t o = record { within = omega arith; room = omega arith; small = omega arith; long = refl; kept = refl; said = λ more. refl }
 
 kept-on : (a b c : List ℕ) (w r : ℕ) → drop (w + r) a ≡ drop (w + r) b → drop w b ≡ drop w c → drop (w + r) a ≡ drop (w + r) c
 kept-on a b c w r e f = e ∙ sym (drop-drop r w b) ∙ ap (drop r) f ∙ drop-drop r w c
@@ -85,7 +117,9 @@ module _ {input t z before after : List ℕ} {read₀ wrote : ℕ} (s : Serving 
         Put (reply-text (answer (call-of c) z)) after o wrote r → Serving input t z′ before o (at + 1) (wrote + r)
     unfolding turn
     serving-more c e f p =
+        let n = command-long c (take (at + 1 - read₀) (drop read₀ input)) e in
         record {
+          small = omega (arith, s .small, p .size, reply-long (answer (call-of c) z), length-take (at + 1 - read₀) (drop read₀ input), end .after);
           within = omega (arith, end .within);
           room = omega (arith, p .room, s .long);
           long = p .long ∙ s .long;
@@ -103,6 +137,7 @@ module _ {input t z before after : List ℕ} {read₀ wrote : ℕ} (s : Serving 
     unfolding turn
     served-broken e f p =
         record {
+          small = omega (arith, s .small, p .size, refusal-long, end .after);
           within = omega (arith, end .within);
           room = omega (arith, p .room, s .long);
           long = p .long ∙ s .long;
@@ -119,4 +154,4 @@ module _ {input t z before after : List ℕ} {read₀ wrote : ℕ} (s : Serving 
   pub served-so-far : (15 ≤ length before - wrote → None input read₀ (length input)) →
       Serves input t z before after (record { read = read₀; wrote = wrote; stopped = false })
   served-so-far f =
-      record { within = s .within; room = s .room; long = s .long; kept = s .kept; said = s .said; whole = λ e. f }
+      record { within = s .within; room = s .room; small = s .small; long = s .long; kept = s .kept; said = s .said; whole = λ e. f }

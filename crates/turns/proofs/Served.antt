@@ -1,0 +1,157 @@
+-- Lines of an input answered one after another, whatever comes after the input. Assumes nothing.
+use mathlib.Core.Logic.{inl, inr}
+use mathlib.Core.Path.{_≡_, refl, sym, ap, _∙_}
+use mathlib.Core.Bool.{Bool, true, false, cond}
+use mathlib.Core.List.{List, [], _∷_, _++_, append-nil, append-assoc}
+use Prim.Native.Nat.{ℕ, _+_, _*_, _-_, _≤_, _<_}
+use native.Mathlib.Omega.{arith}
+use lib.ListN.{length, getD, take, drop, length-append, length-take, length-drop, drop-of-length-le, List·getD-append}
+use lib.Seq.{length-take-le, take-all, take-append-le, drop-append-le, drop-drop, take-at, drop-at}
+use borrow.Rule.Slice.PartMut.{putMid}
+use Rattle.rules.specs.Calls.{Reply, refused, done, ticket, step, amount, blank-due, ordinary, leap, silence, frame, kept-blank, answer, left}
+use Rattle.rules.specs.Lines.{Command, call-of, command, broken, read, reply-digits, reply-text, out-digits, turn, printed-from}
+use Rattle.theory.specs.Tests.{ltb?}
+use Rattle.theory.specs.Digits.{length-digits}
+use Rattle.lines.specs.Ends.{None, First}
+use Rattle.lines.specs.Writing.{Replies}
+use Rattle.lines.proofs.Commands.{short}
+use Rattle.lines.proofs.Cuts.{cut-first}
+use Rattle.turns.specs.declared.Progress.{Progress}
+use Rattle.turns.specs.Turns.{Turns}
+use Rattle.turns.specs.Serving.{prints, Serving, Serves}
+
+-- A LINE and what follows it: the first line of an input stays the first with more behind
+first-more : (input more : List ℕ) (from at : ℕ) → First input from at → First (input ++ more) from at
+first-more input more from at h =
+    record {
+      after = h .after;
+      within = omega (arith, length-append input more, h .within);
+      ends = List·getD-append input more 0 at (h .within) ∙ h .ends;
+      first = λ k f g e. h .first k f g (sym (List·getD-append input more 0 k (omega (arith, h .within))) ∙ e);
+    }
+
+-- its turn comes first, and then what follows it
+pub prints-first : (input more t : List ℕ) (from at : ℕ) → First input from at →
+    prints (drop from input ++ more) t
+    ≡ turn (read (take (at + 1 - from) (drop from input))) t (λ z. prints (drop (at + 1) input ++ more) z)
+unfolding printed-from
+prints-first input more t from at h =
+    let n = at + 1 - from in
+    let p = drop-append-le from input more (omega (arith, h .after, h .within)) in
+    let q = drop-append-le (at + 1) input more (omega (arith, h .within)) in
+    let l : take n (drop from (input ++ more)) ≡ take n (drop from input) =
+    ap (take n) p ∙ take-append-le n (drop from input) more (omega (arith, length-drop from input, h .after, h .within)) in
+    rw (← p) (ap (λ ls. printed-from ls t) (cut-first (input ++ more) from at (first-more input more from at h)) ∙ rw (l, q))
+
+-- HOW LONG lines are: a command's and a reply's
+command-long : (c : Command) (line : List ℕ) → command c ≡ read line → 2 < length line
+command-long c line e =
+    elim (ltb? 2 (length line)) [
+      | inl a ↦ a .1
+      | inr a ↦ absurd (let f = e ∙ sym (short line (a .1)) in let z : _≡_ {A = ℕ} 0 1 = cc in omega arith)
+    ]
+
+pub reply-long : (r : Reply) → length (reply-text r) ≤ 15
+unfolding reply-text reply-digits out-digits
+reply-long (refused n) = simp (length-append, length-digits) (omega arith)
+reply-long done = simp (length-append, length-digits) (omega arith)
+reply-long (ticket k) = simp (length-append, length-digits) (omega arith)
+reply-long (step (ordinary silence)) = simp (length-append, length-digits) (omega arith)
+reply-long (step (ordinary (frame k))) = simp (length-append, length-digits) (omega arith)
+reply-long (step (ordinary (kept-blank k))) = simp (length-append, length-digits) (omega arith)
+reply-long (step (leap silence)) = simp (length-append, length-digits) (omega arith)
+reply-long (step (leap (frame k))) = simp (length-append, length-digits) (omega arith)
+reply-long (step (leap (kept-blank k))) = simp (length-append, length-digits) (omega arith)
+reply-long (amount n) = omega arith
+reply-long (blank-due s) = omega arith
+
+refusal-long : length (reply-text (refused 1)) ≡ 5
+unfolding reply-text reply-digits
+refusal-long = simp (length-append, length-digits)
+
+-- BYTES PUT behind those written: a line at the start of the buffer's part from w on
+pub record Put (line o o′ : List ℕ) (w r : ℕ) : Type 0 where
+  pub size : r ≡ length line
+  pub room : w + r ≤ length o
+  pub long : length o′ ≡ length o
+  pub said : take (w + r) o′ ≡ take w o ++ line
+  pub kept : drop (w + r) o′ ≡ drop (w + r) o
+
+pub put-line : {line o part : List ℕ} {w r : ℕ} → w ≤ length o → Replies line (take (length o - w) (drop w o)) part r →
+    length part ≡ length o - w → Put line o (putMid w (length o - w) o part) w r
+put-line {line} {o} {part} {w} {r} h p l =
+    let n = length o - w in
+    let d = length-drop w o in
+    let front = take w o ++ line in
+    let rest = drop (w + r) o in
+    let all : take n (drop w o) ≡ drop w o = take-all n (drop w o) (omega arith) in
+    let none : drop n (drop w o) ≡ [] = drop-of-length-le (drop w o) {i = n} (omega arith) in
+    let s : part ≡ line ++ rest = p .left ∙ rw (all, drop-drop, p .long) in
+    let m : length part ≡ length line + length rest = ap length s ∙ length-append line rest in
+    let room : w + r ≤ length o = omega (arith, p .long, length-drop (w + r) o) in
+    let whole : putMid w n o part ≡ front ++ rest = rw (none, append-nil, s) (sym (append-assoc (take w o) line rest)) in
+    let f : length front ≡ w + r = length-append (take w o) line ∙ omega (arith, p .long, length-take-le w o h) in
+    record {
+      size = p .long;
+      room = room;
+      long = ap length whole ∙ length-append front rest ∙ omega (arith, length-drop (w + r) o);
+      said = ap (take (w + r)) whole ∙ take-at front rest (w + r) f;
+      kept = ap (drop (w + r)) whole ∙ drop-at front rest (w + r) f;
+    }
+
+pub reply-within : {line before after : List ℕ} {r : ℕ} → Replies line before after r → length after ≡ length before → r ≤ length after
+reply-within {line} {before} p e =
+    omega (arith, p .long, ap length (p .left), length-append line (drop (length line) before), length-drop (length line) before)
+
+-- THE LINES ANSWERED so far
+pub serving-none : (input t o : List ℕ) → Serving input t t o o 0 0
+serving-none input t o = record { within = omega arith; room = omega arith; small = omega arith; long = refl; kept = refl; said = λ more. refl }
+
+kept-on : (a b c : List ℕ) (w r : ℕ) → drop (w + r) a ≡ drop (w + r) b → drop w b ≡ drop w c → drop (w + r) a ≡ drop (w + r) c
+kept-on a b c w r e f = e ∙ sym (drop-drop r w b) ∙ ap (drop r) f ∙ drop-drop r w c
+
+module _ {input t z before after : List ℕ} {read₀ wrote : ℕ} (s : Serving input t z before after read₀ wrote) where
+  module _ {at r : ℕ} {o z′ : List ℕ} (end : First input read₀ at) where
+    -- a command's line more
+    pub serving-more : (c : Command) → command c ≡ read (take (at + 1 - read₀) (drop read₀ input)) → z′ ≡ left (call-of c) z →
+        Put (reply-text (answer (call-of c) z)) after o wrote r → Serving input t z′ before o (at + 1) (wrote + r)
+    unfolding turn
+    serving-more c e f p =
+        let n = command-long c (take (at + 1 - read₀) (drop read₀ input)) e in
+        record {
+          small = omega (arith, s .small, p .size, reply-long (answer (call-of c) z), length-take (at + 1 - read₀) (drop read₀ input), end .after);
+          within = omega (arith, end .within);
+          room = omega (arith, p .room, s .long);
+          long = p .long ∙ s .long;
+          kept = kept-on o after before wrote r (p .kept) (s .kept);
+          said = λ more.
+              s .said more
+              ∙ ap (λ (xs : List ℕ). take wrote after ++ xs) (prints-first input more z read₀ at end ∙ rw (← e, ← f))
+              ∙ sym (append-assoc (take wrote after) (reply-text (answer (call-of c) z)) (prints (drop (at + 1) input ++ more) z′))
+              ∙ rw (← p .said);
+        }
+
+    -- a broken line, which nothing follows
+    pub served-broken : broken ≡ read (take (at + 1 - read₀) (drop read₀ input)) → z′ ≡ z → Put (reply-text (refused 1)) after o wrote r →
+        Serves input t z′ before o (record { read = at + 1; wrote = wrote + r; stopped = true })
+    unfolding turn
+    served-broken e f p =
+        record {
+          small = omega (arith, s .small, p .size, refusal-long, end .after);
+          within = omega (arith, end .within);
+          room = omega (arith, p .room, s .long);
+          long = p .long ∙ s .long;
+          kept = kept-on o after before wrote r (p .kept) (s .kept);
+          said = λ more.
+              s .said more
+              ∙ ap (λ (xs : List ℕ). take wrote after ++ xs) (prints-first input more z read₀ at end ∙ rw (← e))
+              ∙ sym (p .said)
+              ∙ sym (append-nil (take (wrote + r) o));
+          whole = λ e. let x : _≡_ {A = ℕ} 0 1 = cc in absurd (omega arith);
+        }
+
+  -- no complete line is left, or no room for a reply
+  pub served-so-far : (15 ≤ length before - wrote → None input read₀ (length input)) →
+      Serves input t z before after (record { read = read₀; wrote = wrote; stopped = false })
+  served-so-far f =
+      record { within = s .within; room = s .room; small = s .small; long = s .long; kept = s .kept; said = s .said; whole = λ e. f }

@@ -1,0 +1,167 @@
+-- `turns::serving::answer_lines` meets its contract: the lines so far are answered; what is left of the input falls. Assumes nothing.
+use mathlib.Core.Path.{_≡_, refl, sym, ap, subst, _∙_}
+use Prim.Native.Nat.{_-_}
+use native.Mathlib.Omega.{arith}
+use lib.ListN.{length}
+use borrow.Author.Needs.{needs}
+use Rattle.lines.specs.Cases.{command-of, reading-of}
+use Rattle.lines.specs.Ends.{Ends, First}
+use Rattle.turns.specs.Serving.{Serving}
+use Rattle.turns.proofs.Served.{put-line, reply-within, serving-none, serving-more, served-broken, served-so-far}
+use Rattle.turns.proofs.serving.answer_lines.Statement.{statement}
+use Rattle.turns.proofs.serving.answer_lines.Tie as tie
+
+abbrev Inv-loop : tie.InvT-loop
+Inv-loop input table₀ out₀ read₀ wrote₀ table out read wrote = Serving input table₀ table out₀ out read wrote × (length table ≡ length table₀)
+
+abbrev μ-loop : tie.MeasureT-loop
+μ-loop input table₀ out₀ read₀ wrote₀ table out read wrote = length input - read
+
+-- the line's end that was found
+here : (c : tie.After-known-told Inv-loop μ-loop) → First (c .before .before .before .before .before .before .before .before .before .args .input .now) (c .before .before .before .before .before .loop .read) (c .before .end .given .0 .0)
+here c = subst (Ends (c .before .before .before .before .before .before .before .before .before .args .input .now) (c .before .before .before .before .before .loop .read)) (c .before .end .given .1) (c .before .before .before .line-end .ensures)
+
+loop-holds : tie.Need-loop-holds Inv-loop μ-loop
+loop-holds c = (serving-none (c .before .before .before .args .input .now) (c .before .before .before .args .table .now) (c .before .before .before .args .out .now), refl)
+
+sub-loop : tie.Need-sub-loop Inv-loop μ-loop
+sub-loop c = search needs
+
+line-end-requires : tie.Need-line-end-requires Inv-loop μ-loop
+line-end-requires c κs = search needs
+
+enum-known-end : tie.Need-enum-known-end Inv-loop μ-loop
+enum-known-end c = search needs
+
+enum-told : tie.Need-enum-told Inv-loop μ-loop
+enum-told c = search needs
+
+same-length : tie.Need-same-length Inv-loop μ-loop
+same-length c = search needs
+
+same-length-2 : tie.Need-same-length-2 Inv-loop μ-loop
+same-length-2 c = search needs
+
+returns : tie.Need-returns Inv-loop μ-loop
+returns c = served-so-far (c .before .before .before .before .loop .inv .0) (λ h. subst (Ends (c .before .before .before .before .before .before .before .before .args .input .now) (c .before .before .before .before .loop .read)) (c .enum-told .given .1) (c .before .before .line-end .ensures))
+
+add-next : tie.Need-add-next Inv-loop μ-loop
+add-next c = omega (arith, here c .within)
+
+sub-read-command : tie.Need-sub-read-command Inv-loop μ-loop
+sub-read-command c = omega (arith, here c .after)
+
+part-read-command-start : tie.Need-part-read-command-start Inv-loop μ-loop
+part-read-command-start c = omega (arith, here c .after)
+
+part-read-command-end : tie.Need-part-read-command-end Inv-loop μ-loop
+part-read-command-end c = omega (arith, here c .within)
+
+read-command-requires : tie.Need-read-command-requires Inv-loop μ-loop
+read-command-requires c κs = search needs
+
+enum-known-command : tie.Need-enum-known-command Inv-loop μ-loop
+enum-known-command c = search needs
+
+enum-told-2 : tie.Need-enum-told-2 Inv-loop μ-loop
+enum-told-2 c = search needs
+
+sub-write-refusal : tie.Need-sub-write-refusal Inv-loop μ-loop
+sub-write-refusal c = search needs
+
+part-write-refusal-start : tie.Need-part-write-refusal-start Inv-loop μ-loop
+part-write-refusal-start c = search needs
+
+part-write-refusal-end : tie.Need-part-write-refusal-end Inv-loop μ-loop
+part-write-refusal-end c = search needs
+
+write-refusal-requires : tie.Need-write-refusal-requires Inv-loop μ-loop
+write-refusal-requires c κs = search needs
+
+add-wrote : tie.Need-add-wrote Inv-loop μ-loop
+add-wrote c = omega (arith, reply-within (c .before .before .write-refusal .ensures) (search needs))
+
+same-length-3 : tie.Need-same-length-3 Inv-loop μ-loop
+same-length-3 c = search needs
+
+same-length-4 : tie.Need-same-length-4 Inv-loop μ-loop
+same-length-4 c = search needs
+
+returns-2 : tie.Need-returns-2 Inv-loop μ-loop
+returns-2 c =
+    let broken-here = sym (ap reading-of (c .before .before .before .before .enum-told2 .given .1)) ∙ c .before .before .before .before .before .before .read-command .ensures in
+    served-broken (c .before .before .before .before .before .before .before .before .before .before .before .before .before .loop .inv .0) (here (c .before .before .before .before .before .before .before .before)) broken-here refl (put-line (search needs) (c .before .before .write-refusal .ensures) (search needs))
+
+sub-take-turn : tie.Need-sub-take-turn Inv-loop μ-loop
+sub-take-turn c = search needs
+
+part-take-turn-start : tie.Need-part-take-turn-start Inv-loop μ-loop
+part-take-turn-start c = search needs
+
+part-take-turn-end : tie.Need-part-take-turn-end Inv-loop μ-loop
+part-take-turn-end c = search needs
+
+take-turn-requires : tie.Need-take-turn-requires Inv-loop μ-loop
+take-turn-requires c κs = search needs
+
+add-wrote-2 : tie.Need-add-wrote-2 Inv-loop μ-loop
+add-wrote-2 c = omega (arith, reply-within (c .before .before .before .before .take-turn .ensures .said) (search needs))
+
+loop-less : tie.Need-loop-less Inv-loop μ-loop
+loop-less c = omega (arith, here (c .before .before .before .before .before .before .before .before .before .before .before .before) .within, here (c .before .before .before .before .before .before .before .before .before .before .before .before) .after)
+
+loop-again : tie.Need-loop-again Inv-loop μ-loop
+loop-again c =
+    let command = c .before .before .before .before .before .before .before .before .command .given in
+    let taken = c .before .before .before .before .take-turn .ensures in
+    let read-here = sym (ap reading-of (command .1)) ∙ c .before .before .before .before .before .before .before .before .before .before .read-command .ensures in
+    (serving-more (c .before .before .before .before .before .before .before .before .before .before .before .before .before .before .before .before .before .loop .inv .0) (here (c .before .before .before .before .before .before .before .before .before .before .before .before)) (command-of (command .0 .0)) read-here (taken .moved) (put-line (search needs) (taken .said) (search needs)), search needs)
+
+same-length-5 : tie.Need-same-length-5 Inv-loop μ-loop
+same-length-5 c = search needs
+
+same-length-6 : tie.Need-same-length-6 Inv-loop μ-loop
+same-length-6 c = search needs
+
+returns-3 : tie.Need-returns-3 Inv-loop μ-loop
+returns-3 c = served-so-far (c .before .loop .inv .0) (λ h. absurd (omega (arith, c .before .loop .inv .0 .long)))
+
+pub answer-lines-spec : {M : Type 1} → statement M
+answer-lines-spec =
+    tie.close
+    (tie.spec
+    Inv-loop
+    μ-loop
+    loop-holds
+    sub-loop
+    line-end-requires
+    enum-known-end
+    enum-told
+    same-length
+    same-length-2
+    returns
+    add-next
+    sub-read-command
+    part-read-command-start
+    part-read-command-end
+    read-command-requires
+    enum-known-command
+    enum-told-2
+    sub-write-refusal
+    part-write-refusal-start
+    part-write-refusal-end
+    write-refusal-requires
+    add-wrote
+    same-length-3
+    same-length-4
+    returns-2
+    sub-take-turn
+    part-take-turn-start
+    part-take-turn-end
+    take-turn-requires
+    add-wrote-2
+    loop-less
+    loop-again
+    same-length-5
+    same-length-6
+    returns-3)

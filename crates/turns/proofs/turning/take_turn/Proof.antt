@@ -1,0 +1,99 @@
+-- `turns::turning::take_turn` meets its contract: the call that the command asks for, and its reply's line. Assumes nothing.
+use mathlib.Core.Path.{ap}
+use Rattle.rules.specs.Lines.{call-of, reply-text}
+use Rattle.turns.proofs.Said.{said-by}
+use borrow.Author.Needs.{needs}
+use Rattle.turns.proofs.turning.take_turn.Statement.{statement}
+use Rattle.turns.proofs.turning.take_turn.Tie as tie
+
+enum-known-command : tie.Need-enum-known-command
+enum-known-command c = search needs
+
+open-round-requires : tie.Need-open-round-requires
+open-round-requires c κs = search needs
+
+say-opened-requires : tie.Need-say-opened-requires
+say-opened-requires c κs = search needs
+
+enum-known-command-2 : tie.Need-enum-known-command-2
+enum-known-command-2 c = search needs
+
+take-frame-requires : tie.Need-take-frame-requires
+take-frame-requires c κs = search needs
+
+say-taken-requires : tie.Need-say-taken-requires
+say-taken-requires c κs = search needs
+
+enum-told : tie.Need-enum-told
+enum-told c = search needs
+
+send-slot-requires : tie.Need-send-slot-requires
+send-slot-requires c κs = search needs
+
+say-sent-requires : tie.Need-say-sent-requires
+say-sent-requires c κs = search needs
+
+same-length : tie.Need-same-length
+same-length c = search needs
+
+same-length-2 : tie.Need-same-length-2
+same-length-2 c = search needs
+
+returns : tie.Need-returns
+unfolding call-of
+returns c =
+    record {
+      said = said-by (c .before .before .say-opened .ensures) (rw (c .before .before .before .before .before .before .before .before .before .command .given .1) (ap reply-text (c .before .before .before .before .before .before .open-round .ensures .0)));
+      moved = rw (c .before .before .before .before .before .before .before .before .before .command .given .1) (c .before .before .before .before .before .before .open-round .ensures .1);
+    }
+
+same-length-3 : tie.Need-same-length-3
+same-length-3 c = search needs
+
+same-length-4 : tie.Need-same-length-4
+same-length-4 c = search needs
+
+returns-2 : tie.Need-returns-2
+unfolding call-of
+returns-2 c =
+    record {
+      said = said-by (c .before .before .say-taken .ensures) (rw (c .before .before .before .before .before .before .before .before .before .command2 .given .1) (ap reply-text (c .before .before .before .before .before .before .take-frame .ensures .0)));
+      moved = rw (c .before .before .before .before .before .before .before .before .before .command2 .given .1) (c .before .before .before .before .before .before .take-frame .ensures .1);
+    }
+
+same-length-5 : tie.Need-same-length-5
+same-length-5 c = search needs
+
+same-length-6 : tie.Need-same-length-6
+same-length-6 c = search needs
+
+returns-3 : tie.Need-returns-3
+unfolding call-of
+returns-3 c =
+    record {
+      said = said-by (c .before .before .say-sent .ensures) (rw (c .before .before .before .before .before .before .before .before .enum-told .given .1) (ap reply-text (c .before .before .before .before .before .before .send-slot .ensures .0)));
+      moved = rw (c .before .before .before .before .before .before .before .before .enum-told .given .1) (c .before .before .before .before .before .before .send-slot .ensures .1);
+    }
+
+pub take-turn-spec : {M : Type 1} → statement M
+take-turn-spec =
+    tie.close
+    (tie.spec
+    enum-known-command
+    open-round-requires
+    say-opened-requires
+    enum-known-command-2
+    take-frame-requires
+    say-taken-requires
+    enum-told
+    send-slot-requires
+    say-sent-requires
+    same-length
+    same-length-2
+    returns
+    same-length-3
+    same-length-4
+    returns-2
+    same-length-5
+    same-length-6
+    returns-3)

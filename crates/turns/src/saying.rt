@@ -1,0 +1,76 @@
+// The line of each call's reply, written into a lent buffer.
+ghost use Prim.Native.Nat.{_≤_};
+ghost use lib.ListN.{length};
+ghost use Rattle.rules.specs.Calls.{step};
+ghost use Rattle.rules.specs.Lines.{reply-text};
+ghost use Rattle.calls.specs.Replies.{of-opened, of-taken};
+ghost use Rattle.calls.specs.Steps.{of-out, of-step, of-sent};
+ghost use Rattle.lines.specs.Cases.{out-number, out-ticket};
+ghost use Rattle.lines.specs.Writing.{Replies, step-text};
+use calls::opening::Opened;
+use calls::sending::Out;
+use calls::sending::Sent;
+use calls::sending::Step;
+use calls::taking::Taken;
+use lines::write_done;
+use lines::write_refusal;
+use lines::write_step;
+use lines::write_ticket;
+use round::Ticket;
+
+pub fn say_opened(opened: Opened, reply: &mut [u8]) -> usize
+    requires { ⌜ 15 ≤ length (now reply) ⌝ }
+    ensures { λ r. ⌜ Replies (reply-text (of-opened opened)) (now (reply .entry)) (now (reply .exit)) r ⌝ }
+{
+    match opened {
+        Opened::Done => write_done(reply),
+        Opened::Refused(n) => write_refusal(n, reply),
+    }
+}
+
+pub fn say_taken(taken: Taken, reply: &mut [u8]) -> usize
+    requires { ⌜ 15 ≤ length (now reply) ⌝ }
+    ensures { λ r. ⌜ Replies (reply-text (of-taken taken)) (now (reply .entry)) (now (reply .exit)) r ⌝ }
+{
+    match taken {
+        Taken::As(ticket) => write_ticket(ticket, reply),
+        Taken::Refused(n) => write_refusal(n, reply),
+    }
+}
+
+pub fn say_sent(sent: Sent, reply: &mut [u8]) -> usize
+    requires { ⌜ 15 ≤ length (now reply) ⌝ }
+    ensures { λ r. ⌜ Replies (reply-text (of-sent sent)) (now (reply .entry)) (now (reply .exit)) r ⌝ }
+{
+    match sent {
+        Sent::Went(step) => say_step(step, reply),
+        Sent::Refused(n) => write_refusal(n, reply),
+    }
+}
+
+// A step's two numbers.
+const ORDINARY: u32 = 0;
+
+const LEAP: u32 = 1;
+
+fn say_step(went: Step, reply: &mut [u8]) -> usize
+    requires { ⌜ 15 ≤ length (now reply) ⌝ }
+    ensures { λ r. ⌜ Replies (reply-text (step (of-step went))) (now (reply .entry)) (now (reply .exit)) r ⌝ }
+{
+    match went {
+        Step::Ordinary(out) => say_out(out, ORDINARY, reply),
+        Step::Leap(out) => say_out(out, LEAP, reply),
+    }
+}
+
+// What went out, in a step of either number; silence has no ticket.
+fn say_out(out: Out, leap: u32, reply: &mut [u8]) -> usize
+    requires { ⌜ 15 ≤ length (now reply) ⌝ }
+    ensures { λ r. ⌜ Replies (step-text (out-number (of-out out)) leap (out-ticket (of-out out))) (now (reply .entry)) (now (reply .exit)) r ⌝ }
+{
+    match out {
+        Out::Silence => write_step(0, leap, Ticket(0), reply),
+        Out::Frame(ticket) => write_step(1, leap, ticket, reply),
+        Out::KeptBlank(ticket) => write_step(2, leap, ticket, reply),
+    }
+}

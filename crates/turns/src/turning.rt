@@ -1,0 +1,23 @@
+// A command's turn: its call on the table, and the line of the reply.
+ghost use Prim.Native.Nat.{_≤_};
+ghost use lib.ListN.{length};
+ghost use Rattle.lines.specs.Cases.{command-of};
+ghost use Rattle.turns.specs.Turns.{Turns};
+use crate::saying::say_opened;
+use crate::saying::say_sent;
+use crate::saying::say_taken;
+use calls::opening::open_round;
+use calls::sending::send_slot;
+use calls::taking::take_frame;
+use lines::Command;
+
+pub fn take_turn(command: Command, table: &mut [u8], reply: &mut [u8]) -> usize
+    requires { ⌜ 15 ≤ length (now reply) ⌝ }
+    ensures { λ r. ⌜ Turns (command-of command) (now (table .entry)) (now (table .exit)) (now (reply .entry)) (now (reply .exit)) r ⌝ }
+{
+    match command {
+        Command::Open(last) => say_opened(open_round(last, table), reply),
+        Command::Take(due, weight) => say_taken(take_frame(due, weight, table), reply),
+        Command::Send => say_sent(send_slot(table), reply),
+    }
+}

@@ -139,8 +139,8 @@ module _ {t : List ℕ} {h : Head} {fs : List ℕ} {x : Reach} {pk : Pick} (w : 
   pub going-as : {q : Pick} → pk ≡ q → Goes-by t h fs x q
   going-as e = subst (λ (y : Pick). Goes-by t h fs x y) e w
 
-pub noted-as : {t : List ℕ} {h : Head} {fs : List ℕ} {x : Reach} {cs ks ms : List ℕ} {p q : Pick} → Noted t h fs x cs ks ms p → p ≡ q → Noted t h fs x cs ks ms q
-noted-as {t} {h} {fs} {x} {cs} {ks} {ms} w e = subst (λ (y : Pick). Noted t h fs x cs ks ms y) e w
+pub noted-as : {t : List ℕ} {h : Head} {fs : List ℕ} {x : Reach} {cs ks : List ℕ} {p q : Pick} → Noted t h fs x cs ks p → p ≡ q → Noted t h fs x cs ks q
+noted-as {t} {h} {fs} {x} {cs} {ks} w e = subst (λ (y : Pick). Noted t h fs x cs ks y) e w
 
 take-same : (n m v : ℕ) → n ≤ m → take {A = ℕ} n (replicate m v) ≡ replicate n v
 take-same zero m v l = refl

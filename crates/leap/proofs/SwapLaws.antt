@@ -48,7 +48,7 @@ use Rattle.shifting.proofs.MoveLaws.{table-weight, moves-other, length-having}
 use Rattle.leap.proofs.StandLaws.{Rows-fit, Stood, stood, stood-closed, sent-says, fit-self, fit-changed, fit-moves}
 use Rattle.leap.proofs.SendLaws.{named-row, named-used, named-there, going-scene, going-rows}
 
-module _ {t : List ℕ} {h : Head} {fs : List ℕ} {x : Reach} {cs ks ms₀ : List ℕ} {o b e oo : ℕ} (nt : Noted t h fs x cs ks ms₀ (Swapped o b e oo)) where
+module _ {t : List ℕ} {h : Head} {fs : List ℕ} {x : Reach} {cs ks : List ℕ} {o b e oo : ℕ} (nt : Noted t h fs x cs ks (Swapped o b e oo)) where
   abbrev r : Round
   r = round-in t
 

@@ -39,12 +39,11 @@ pub record Goes-by (t : List ℕ) (h : Head) (fs : List ℕ) (x : Reach) (p : Pi
   pub reach : Reaches (round-in t) x
   pub picked : Picked (round-in t) fs (x .free) p
 
--- with counts and greatest keys of the plan's rows by bucket, and an array to work in
-pub record Noted (t : List ℕ) (h : Head) (fs : List ℕ) (x : Reach) (cs ks ms : List ℕ) (p : Pick) : Type 0 where
+-- with counts and greatest keys of the plan's rows by bucket
+pub record Noted (t : List ℕ) (h : Head) (fs : List ℕ) (x : Reach) (cs ks : List ℕ) (p : Pick) : Type 0 where
   pub goes : Goes-by t h fs x p
   pub counts : Counted (round-in t) (with-flag (round-in t) fs) cs
   pub kept : Tops (place (round-in t)) (kept-key (round-in t) fs) (length (round-in t .rows)) ks
-  pub size : length ms ≡ 1025
 
 -- what went out
 unfoldable pub went-out : Went → Out

@@ -104,7 +104,6 @@ fn send_swapped(
     flags: &[u8],
     counts: &[u16; 1025],
     kept: &[u64; 1025],
-    marks: &mut [u32; 1025],
     round: Round,
     reach: Reach,
     key: u64,
@@ -112,15 +111,16 @@ fn send_swapped(
     last: usize,
     other: u64,
 ) -> Went
-    requires { ⌜ Noted (now table) round (now flags) reach (now counts) (now kept) (now marks) (Pick.Swapped key first last other) ⌝ }
+    requires { ⌜ Noted (now table) round (now flags) reach (now counts) (now kept) (Pick.Swapped key first last other) ⌝ }
     ensures { λ r. ⌜ Sent-says (now (table .entry)) (now (table .exit)) r ⌝ }
 {
     let went = went_of(table, round, row_of(key), true);
     let sent = went.ticket;
     let bucket = ahead_of(other, round.slot.0);
     let to = stretch_of(counts, reach.free, bucket).last;
-    marks_by(table, flags, round, marks, to);
-    shift_chain(table, flags, counts, kept, marks, round, reach, last, to);
+    let mut marks = [0u32; 1025];
+    marks_by(table, flags, round, &mut marks, to);
+    shift_chain(table, flags, counts, kept, &marks, round, reach, last, to);
     write_weight(table, row_of(other), Weight(marks[to]));
     close_up(table, round, sent);
     went
@@ -132,12 +132,11 @@ pub fn send_picked(
     flags: &[u8],
     counts: &[u16; 1025],
     kept: &[u64; 1025],
-    marks: &mut [u32; 1025],
     round: Round,
     reach: Reach,
     pick: Pick,
 ) -> Went
-    requires { ⌜ Noted (now table) round (now flags) reach (now counts) (now kept) (now marks) pick ⌝ }
+    requires { ⌜ Noted (now table) round (now flags) reach (now counts) (now kept) pick ⌝ }
     ensures { λ r. ⌜ Sent-says (now (table .entry)) (now (table .exit)) r ⌝ }
 {
     match pick {
@@ -154,7 +153,6 @@ pub fn send_picked(
             flags,
             counts,
             kept,
-            marks,
             round,
             reach,
             key,

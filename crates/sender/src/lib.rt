@@ -6,11 +6,12 @@ ghost use Rattle.rules.specs.Table.{round-in};
 ghost use Rattle.theory.specs.Flags.{Chosen};
 ghost use Rattle.tally.specs.Rows.{Ready};
 ghost use Rattle.tally.specs.Near.{Counted, Reaches};
-ghost use Rattle.leap.specs.Send.{Sent-says};
+ghost use Rattle.leap.specs.Send.{Noted, Sent-says};
 use leap::send::Went;
 use leap::send::send_all;
 use leap::send::send_picked;
 use leap::send::send_silence;
+use pick::choice::Pick;
 use pick::choice::choose;
 use pick::whole::choose_all;
 use plan::choose::choose_rows;
@@ -43,6 +44,23 @@ pub fn flag_rows(table: &[u8], flags: &mut [u8], round: Round, reach: Reach)
     choose_rows(table, flags, round.used, round.slot.0 as usize, edge);
 }
 
+// Which row goes by the plan's flags. Counts and kept become those of the plan's rows.
+fn pick_row(
+    table: &[u8],
+    flags: &[u8],
+    counts: &mut [u16; 1025],
+    kept: &mut [u64; 1025],
+    round: Round,
+    reach: Reach,
+) -> Pick
+    requires { ⌜ Ready (now table) round × (1 ≤ round .used) × Chosen (round-in (now table)) (now flags) × Counted (round-in (now table)) (round-in (now table) .rows) (now counts) × Reaches (round-in (now table)) reach × (now kept ≡ replicate 1025 0) ⌝ }
+    ensures { λ r. ⌜ Noted (now (table .entry)) round (now (flags .entry)) reach (now (counts .exit)) (now (kept .exit)) r ⌝ }
+{
+    let mut left = [0u64; 1025];
+    tally(table, flags, counts, kept, &mut left, round);
+    choose(table, flags, counts, kept, &left, round, reach)
+}
+
 // What goes out by the plan's flags, and what it leaves.
 fn send_flagged(
     table: &mut [u8],
@@ -55,11 +73,8 @@ fn send_flagged(
     ensures { λ r. ⌜ Sent-says (now (table .entry)) (now (table .exit)) r ⌝ }
 {
     let mut kept = [0u64; 1025];
-    let mut left = [0u64; 1025];
-    tally(table, flags, counts, &mut kept, &mut left, round);
-    let pick = choose(table, flags, counts, &kept, &left, round, reach);
-    let mut marks = [0u32; 1025];
-    send_picked(table, flags, counts, &kept, &mut marks, round, reach, pick)
+    let pick = pick_row(table, flags, counts, &mut kept, round, reach);
+    send_picked(table, flags, counts, &kept, round, reach, pick)
 }
 
 // Nothing is left out: every row is in the plan.

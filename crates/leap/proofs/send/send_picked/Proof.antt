@@ -26,7 +26,7 @@ enum-known-pick-4 : tie.Need-enum-known-pick-4
 enum-known-pick-4 c = search needs
 
 send-swapped-requires : tie.Need-send-swapped-requires
-send-swapped-requires c κs = noted-as (c .before .before .before .before .before .before .before .pre) (c .before .before .before .pick4 .given .1)
+send-swapped-requires c κs = noted-as (c .before .before .before .before .before .before .pre) (c .before .before .pick4 .given .1)
 
 same-length : tie.Need-same-length
 same-length c = search needs

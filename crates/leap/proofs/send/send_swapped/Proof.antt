@@ -1,4 +1,5 @@
 -- `leap::send::send_swapped` meets its contract. Assumes nothing.
+use mathlib.Core.Path.{refl}
 use native.Mathlib.Omega.{arith}
 use borrow.Author.Needs.{needs}
 use Rattle.leap.proofs.SwapLaws.{swap-row, swap-ahead, swap-walk, to-small, swap-chained, swap-there, swap-stood, swap-says}
@@ -18,7 +19,7 @@ stretch-of-requires : tie.Need-stretch-of-requires
 stretch-of-requires c κs = swap-walk (c .before .before .before .before .before .before .before .pre) (c .ahead-of .ensures)
 
 marks-by-requires : tie.Need-marks-by-requires
-marks-by-requires c κs = (c .before .before .before .before .before .before .before .before .before .before .pre .goes .ready, c .before .before .before .before .before .before .before .before .before .before .pre .goes .chosen, c .before .before .before .before .before .before .before .before .before .before .pre .size, to-small (c .before .before .before .before .before .before .before .before .before .before .pre) (c .before .before .before .ahead-of .ensures) (c .before .before .stretch-of .ensures))
+marks-by-requires c κs = (c .before .before .before .before .before .before .before .before .before .before .pre .goes .ready, c .before .before .before .before .before .before .before .before .before .before .pre .goes .chosen, refl, to-small (c .before .before .before .before .before .before .before .before .before .before .pre) (c .before .before .before .ahead-of .ensures) (c .before .before .stretch-of .ensures))
 
 shift-chain-requires : tie.Need-shift-chain-requires
 shift-chain-requires c κs = swap-chained (c .before .before .before .before .before .before .before .before .before .before .before .before .before .pre) (c .before .before .before .before .before .before .ahead-of .ensures) (c .before .before .before .before .before .stretch-of .ensures) (c .before .before .marks-by .ensures)
@@ -29,20 +30,20 @@ row-of-requires-2 c κs = search needs
 mul-t29 : tie.Need-mul-t29
 mul-t29 c = omega (arith, to-small (c .before .before .before .before .before .before .before .before .before .before .before .before .before .before .before .before .before .before .pre) (c .before .before .before .before .before .before .before .before .before .before .before .ahead-of .ensures) (c .before .before .before .before .before .before .before .before .before .before .stretch-of .ensures))
 
-element-copy-out-t32 : tie.Need-element-copy-out-t32
-element-copy-out-t32 c = omega (arith, to-small (c .before .before .before .before .before .before .before .before .before .before .before .before .before .before .before .before .before .before .pre) (c .before .before .before .before .before .before .before .before .before .before .before .ahead-of .ensures) (c .before .before .before .before .before .before .before .before .before .before .stretch-of .ensures))
+array-read-t32 : tie.Need-array-read-t32
+array-read-t32 c = omega (arith, to-small (c .before .before .before .before .before .before .before .before .before .before .before .before .before .before .before .before .before .before .pre) (c .before .before .before .before .before .before .before .before .before .before .before .ahead-of .ensures) (c .before .before .before .before .before .before .before .before .before .before .stretch-of .ensures))
 
 write-weight-requires : tie.Need-write-weight-requires
-write-weight-requires c κs = swap-there (c .before .before .before .before .before .before .before .before .before .before .before .before .before .before .before .before .before .before .before .pre) (c .before .before .before .before .before .before .before .before .before .before .before .before .ahead-of .ensures) (c .before .before .before .before .before .before .before .before .before .before .before .stretch-of .ensures) (c .before .before .before .before .before .before .before .before .marks-by .ensures) (c .before .before .before .before .before .shift-chain .ensures) (c .before .row-of2 .ensures)
+write-weight-requires c κs = swap-there (c .before .before .before .before .before .before .before .before .before .before .before .before .before .before .before .before .before .before .pre) (c .before .before .before .before .before .before .before .before .before .before .before .ahead-of .ensures) (c .before .before .before .before .before .before .before .before .before .before .stretch-of .ensures) (c .before .before .before .before .before .before .before .marks-by .ensures) (c .before .before .before .before .shift-chain .ensures) (c .row-of2 .ensures)
 
 close-up-requires : tie.Need-close-up-requires
-close-up-requires c κs = let s = swap-stood (c .before .before .before .before .before .before .before .before .before .before .before .before .before .before .before .before .before .before .before .before .before .before .before .pre) (c .before .before .before .before .before .before .before .before .before .before .before .before .before .before .before .before .ahead-of .ensures) (c .before .before .before .before .before .before .before .before .before .before .before .before .before .before .before .stretch-of .ensures) (c .before .before .before .before .before .before .before .before .before .before .before .before .marks-by .ensures) (c .before .before .before .before .before .before .before .before .before .shift-chain .ensures) (c .before .before .before .before .before .row-of2 .ensures) (c .before .before .before .write-weight .ensures) (search needs) in (s .sound, s .head)
+close-up-requires c κs = let s = swap-stood (c .before .before .before .before .before .before .before .before .before .before .before .before .before .before .before .before .before .before .before .before .before .before .pre) (c .before .before .before .before .before .before .before .before .before .before .before .before .before .before .before .ahead-of .ensures) (c .before .before .before .before .before .before .before .before .before .before .before .before .before .before .stretch-of .ensures) (c .before .before .before .before .before .before .before .before .before .before .before .marks-by .ensures) (c .before .before .before .before .before .before .before .before .shift-chain .ensures) (c .before .before .before .before .row-of2 .ensures) (c .before .before .before .write-weight .ensures) (search needs) in (s .sound, s .head)
 
 same-length : tie.Need-same-length
 same-length c = search needs
 
 returns : tie.Need-returns
-returns c = swap-says (c .before .before .before .before .before .before .before .before .before .before .before .before .before .before .before .before .before .before .before .before .before .before .before .before .before .before .pre) (c .before .before .before .before .before .before .before .before .before .before .before .before .before .before .before .before .before .before .before .ahead-of .ensures) (c .before .before .before .before .before .before .before .before .before .before .before .before .before .before .before .before .before .before .stretch-of .ensures) (c .before .before .before .before .before .before .before .before .before .before .before .before .before .before .before .marks-by .ensures) (c .before .before .before .before .before .before .before .before .before .before .before .before .shift-chain .ensures) (c .before .before .before .before .before .before .before .before .row-of2 .ensures) (c .before .before .before .before .before .before .write-weight .ensures) (search needs) (c .before .before .before .before .before .before .before .before .before .before .before .before .before .before .before .before .before .before .before .before .before .before .row-of .ensures) (c .before .before .before .before .before .before .before .before .before .before .before .before .before .before .before .before .before .before .before .before .before .went-of .ensures) (c .before .before .close-up .ensures) (search needs)
+returns c = swap-says (c .before .before .before .before .before .before .before .before .before .before .before .before .before .before .before .before .before .before .before .before .before .before .before .before .before .pre) (c .before .before .before .before .before .before .before .before .before .before .before .before .before .before .before .before .before .before .ahead-of .ensures) (c .before .before .before .before .before .before .before .before .before .before .before .before .before .before .before .before .before .stretch-of .ensures) (c .before .before .before .before .before .before .before .before .before .before .before .before .before .before .marks-by .ensures) (c .before .before .before .before .before .before .before .before .before .before .before .shift-chain .ensures) (c .before .before .before .before .before .before .before .row-of2 .ensures) (c .before .before .before .before .before .before .write-weight .ensures) (search needs) (c .before .before .before .before .before .before .before .before .before .before .before .before .before .before .before .before .before .before .before .before .before .row-of .ensures) (c .before .before .before .before .before .before .before .before .before .before .before .before .before .before .before .before .before .before .before .before .went-of .ensures) (c .before .before .close-up .ensures) (search needs)
 
 pub send-swapped-spec : {M : Type 1} → statement M
 send-swapped-spec =
@@ -56,7 +57,7 @@ send-swapped-spec =
     shift-chain-requires
     row-of-requires-2
     mul-t29
-    element-copy-out-t32
+    array-read-t32
     write-weight-requires
     close-up-requires
     same-length

@@ -1,6 +1,6 @@
 -- `marks::mark::mark_at` meets its contract. Assumes nothing.
 use borrow.Author.Needs.{needs}
-use mathlib.Core.Path.{refl, sym}
+use mathlib.Core.Path.{sym}
 use native.Mathlib.Omega.{arith}
 use Rattle.tally.proofs.RowLaws.{known}
 use Rattle.marks.proofs.MarkLaws.{far-is, Nearby, nearby, near-is}
@@ -55,7 +55,7 @@ returns-2 c =
     let s = c .before .before .before .before .before .before .before .before .before .before .before .before .before .before in
     near-is _ _ _ _ _ _ _ _ _ (s .pre .0) (s .pre .1) (s .pre .2) (s .pre .4)
     (close (c .before .before .before .before .before .before .before .before .before .before))
-    (c .before .before .before .before .before .before .before .before .keep-counts .ensures) (c .before .before .before .back-after .ensures) refl
+    (c .before .before .before .before .before .before .before .before .keep-counts .ensures) (c .before .before .before .back-after .ensures) (cc)
     (c .least-by .ensures)
 
 pub mark-at-spec : {M : Type 1} → statement M

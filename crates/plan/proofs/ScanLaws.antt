@@ -3,11 +3,10 @@ use mathlib.Core.Path.{_≡_, refl, sym, ap, _∙_}
 use mathlib.Core.Logic.{inl, inr}
 use mathlib.Core.Bool.{true, false, cond, true≢false}
 use mathlib.Core.List.{List}
-use Prim.Native.Nat.{ℕ, suc, _+_, _%_, _≤_, _<_, max}
+use Prim.Native.Nat.{ℕ, _+_, _%_, _≤_, _<_, max}
 use native.Mathlib.Omega.{arith}
-use native.Mathlib.Numerals.{add-one}
 use lib.ListN.{length, getD}
-use Rattle.theory.specs.Tests.{either, leb?, ltb?, eqb?}
+use Rattle.theory.specs.Tests.{either, leb?, eqb?}
 use Rattle.plan.specs.Keys.{key-in}
 use Rattle.plan.specs.Sweep.{kept?, kept-of, Flagged, Lightest}
 use Rattle.plan.proofs.KeyLaws.{key-some}

@@ -20,7 +20,8 @@ use tally::keys::tally;
 use tally::near::Reach;
 use tally::near::reach_of;
 
-// Up to where a plan takes a heap: one row that leaves late is found at less cost by a pass over all rows.
+// Up to where the plan takes a heap: past the last full slot no row leaves, and one that leaves late is found at less
+// cost by a pass over the rows.
 fn edge_of(round: Round, reach: Reach) -> usize
     ensures { λ r. ⌜ r ≤ reach .free ⌝ }
 {

@@ -38,7 +38,8 @@ loop-again : tie.Need-loop-again Inv-loop μ-loop
 loop-again c =
     let s = c .before .before .before .before .before .before .before .before .before .before in
     let l = c .before .before .before .before .before .before .before .loop in
-    list-more _ _ _ _ (s .args .next .now) _ _ _ _ _ (l .inv) (search needs) (search needs) (c .before .before .before .before .admit .ensures) (s .pre .0) (c .wide .ensures)
+    let a = c .before .before .before .before .admit .ensures in
+    list-more _ _ _ _ (s .args .next .now) _ _ _ _ _ (l .inv) (search needs) (search needs) a (s .pre .0) (c .wide .ensures)
 
 same-length : tie.Need-same-length Inv-loop μ-loop
 same-length c = search needs

@@ -9,7 +9,8 @@ use Rattle.plan.proofs.sweep.admit_list.Statement.{statement}
 use Rattle.plan.proofs.sweep.admit_list.Tie as tie
 
 abbrev Inv-loop : tie.InvT-loop
-Inv-loop table heap₀ flags₀ next start ahead kept row₀ count₀ heap flags row count = Listing table (length flags₀) flags ahead row count × Heaped table heap flags count
+Inv-loop table heap₀ flags₀ next start ahead kept row₀ count₀ heap flags row count =
+    Listing table (length flags₀) flags ahead row count × Heaped table heap flags count
 
 abbrev μ-loop : tie.MeasureT-loop
 μ-loop table heap₀ flags₀ next start ahead kept row₀ count₀ heap flags row count = length flags₀ - row
@@ -18,7 +19,8 @@ loop-holds : tie.Need-loop-holds Inv-loop μ-loop
 loop-holds c = (list-start _ _ _ _ _ (c .before .before .pre .2) (c .before .before .pre .1), c .before .before .pre .3)
 
 admit-requires : tie.Need-admit-requires Inv-loop μ-loop
-admit-requires c κs = (search needs, c .before .before .before .loop .inv .0 .here (search needs), c .before .before .before .loop .inv .0 .swept, c .before .before .before .loop .inv .1)
+admit-requires c κs =
+    let i = c .before .before .before .loop .inv in (search needs, i .0 .here (search needs), i .0 .swept, i .1)
 
 mul-wide : tie.Need-mul-wide Inv-loop μ-loop
 mul-wide c = let f = c .before .before .before .before .before .before .loop .inv .0 .swept .flagged .few in search needs

@@ -1,25 +1,23 @@
 -- What a listing is to do: refused, or the rows in their order. Assumes nothing.
-use mathlib.Core.Path.{_≡_, refl, sym, ap, _∙_}
+use mathlib.Core.Path.{_≡_, sym, ap, _∙_}
 use mathlib.Core.List.{List}
-use Prim.Native.Nat.{ℕ, _+_, _≤_, _<_}
+use Prim.Native.Nat.{ℕ, _≤_, _<_}
 use native.Mathlib.Omega.{arith}
 use borrow.Author.Tests.{lt-ltb, le-ltb, ne-eqb}
 use lib.ListN.{length, getD}
 use Rattle.rules.specs.Rows.{round}
 use Rattle.rules.specs.Table.{round-in, table-refusal}
 use Rattle.rules.specs.Plan.{listed}
-use Rattle.rules.specs.Calls.{amount, refused, first, send-refusal, list-refusal, list-answer, list-left}
+use Rattle.rules.specs.Calls.{first, send-refusal, list-refusal, list-answer, list-left}
 use Rattle.round.specs.declared.Round.{Round}
 use Rattle.round.specs.Head.{Head-of}
 use Rattle.tally.specs.Rows.{Ready}
 use Rattle.tally.proofs.RowLaws.{Known, known, at-is, reads-within}
 use Rattle.order.specs.declared.Order.{Order}
 use Rattle.order.specs.Ordered.{Ordered}
-use Rattle.calls.specs.declared.listing.Entry.{Entry}
 use Rattle.calls.specs.declared.listing.Listing.{Listing}
-use Rattle.calls.specs.declared.listing.Listed.{Listed}
 use Rattle.calls.specs.declared.listing.Listed.the-variants.{Count}
-use Rattle.calls.specs.Entries.{entry, of-listed}
+use Rattle.calls.specs.Entries.{of-listed}
 use Rattle.calls.specs.Listing.{filled, Listing-says, Nothing-listed}
 use Rattle.calls.proofs.ListFilled.{filled-all}
 

@@ -1,6 +1,5 @@
 -- The row of a ticket, whether it is in the plan, and what stands in for it. Assumes nothing.
 use mathlib.Core.Path.{_≡_, refl, sym, ap, _∙_}
-use mathlib.Core.Bool.{Bool, true, false, cond}
 use mathlib.Core.List.{List, [], _∷_}
 use mathlib.Core.Option.{none, some}
 use Prim.Native.Nat.{ℕ, zero, suc, _+_, _≤_, _<_}
@@ -8,7 +7,7 @@ use native.Mathlib.Omega.{arith}
 use lib.Dec.{eqb}
 use borrow.Author.Tests.{eq-eqb, ne-eqb}
 use lib.ListN.{length, getD}
-use Rattle.rules.specs.Rows.{Row, Round, row, blank}
+use Rattle.rules.specs.Rows.{Row, row, blank}
 use Rattle.rules.specs.Plan.{plan, substitute, in-plan}
 use Rattle.rules.specs.Table.{field, round-in, table-refusal}
 use Rattle.rules.specs.Conditions.{row-at}
@@ -20,7 +19,7 @@ use Rattle.theory.specs.Keys.{getD-in}
 use Rattle.theory.specs.Flags.{raised, Chosen, raised-at}
 use Rattle.round.specs.declared.Round.{Round as Head}
 use Rattle.tally.specs.Rows.{Ready, at}
-use Rattle.tally.proofs.RowLaws.{Known, known, at-is}
+use Rattle.tally.proofs.RowLaws.{known, at-is}
 use Rattle.calls.specs.Finding.{Stands}
 
 pub ticket-read : (t : List ℕ) (h : Head) (i a k : ℕ) → Ready t h → i < h .used → a ≡ row-at i → k ≡ field (a + 0) 4 t → k ≡ at (round-in t) i .ticket

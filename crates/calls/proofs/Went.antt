@@ -1,7 +1,6 @@
 -- What went out, as document 01's cases. Assumes nothing.
 use mathlib.Core.Path.{_≡_, sym, ap, _∙_}
 use mathlib.Core.Bool.{Bool, true, false, cond}
-use Prim.Native.Nat.{ℕ}
 use borrow.Author.Tests.{eq-eqb, ne-eqb}
 use Rattle.rules.specs.Rows.{row}
 use Rattle.rules.specs.Calls.{Out, silence, frame, kept-blank, ordinary, leap, out-of}

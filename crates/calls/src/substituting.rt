@@ -1,6 +1,6 @@
 // The substitute of a ticket: refusals 2, 3, 5, 10 and 11.
 ghost use mathlib.Core.Path.{_≡_};
-ghost use Prim.Native.Nat.{ℕ, _<_};
+ghost use Prim.Native.Nat.{_<_};
 ghost use Rattle.rules.specs.Table.{round-in, table-refusal};
 ghost use Rattle.rules.specs.Calls.{substitute-answer};
 ghost use Rattle.theory.specs.Flags.{Chosen};

@@ -1,6 +1,6 @@
 // Taking a frame: refusals 2, 3 and 5 to 9.
 ghost use mathlib.Core.Path.{_≡_};
-ghost use Prim.Native.Nat.{ℕ, _<_};
+ghost use Prim.Native.Nat.{_<_};
 ghost use Rattle.rules.specs.Table.{table-refusal};
 ghost use Rattle.rules.specs.Calls.{taking};
 ghost use Rattle.round.specs.Head.{Head-of};

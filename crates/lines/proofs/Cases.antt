@@ -1,13 +1,10 @@
 -- The numbers and values that the definitions of Cases give forget nothing. Assumes nothing.
 use mathlib.Core.Path.{_≡_, refl, ap}
-use mathlib.Core.List.{List}
 use Prim.Native.Nat.{ℕ}
 use native.Mathlib.Omega.{arith}
 use Rattle.round.specs.declared.Slot.{Slot}
 use Rattle.round.specs.declared.Weight.{Weight}
-use Rattle.rules.specs.Calls.{refused, amount}
 use Rattle.rules.specs.Lines as rules
-use Rattle.rules.specs.Lines.{open-line, take-line, send-line}
 use Rattle.lines.specs.declared.Command.{Command}
 use Rattle.lines.specs.declared.Command.the-variants.{Open, Take, Send}
 use Rattle.lines.specs.declared.Reading.{Reading}

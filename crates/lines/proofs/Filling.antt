@@ -1,11 +1,11 @@
 -- A buffer filled from its start, part by part. Assumes nothing.
 use mathlib.Core.Path.{_≡_, refl, sym, ap, _∙_}
-use mathlib.Core.List.{List, [], _∷_, _++_, append-assoc}
+use mathlib.Core.List.{List, [], _∷_, _++_}
 use Prim.Native.Nat.{ℕ, suc, _+_, _-_, _≤_, _<_}
 use native.Mathlib.Omega.{arith}
 use native.Mathlib.Numerals.{add-one}
 use lib.ListN.{length, getD, set, take, drop, length-append, length-drop}
-use lib.Seq.{length-take-le, take-at, drop-at, drop-cons, drop-drop, set-at, append-snoc}
+use lib.Seq.{take-at, drop-at, drop-cons, drop-drop, set-at, append-snoc}
 use Rattle.rules.specs.Lines.{digits}
 use Rattle.theory.specs.Digits.{length-digits}
 use Rattle.lines.specs.Spelling.{put, Puts}
@@ -17,10 +17,6 @@ pub record Filled (xs zs buffer : List ℕ) : Type 0 where
 
 pub filled-none : (zs : List ℕ) → Filled [] zs zs
 filled-none zs = record { room = omega arith; stand = refl }
-
-pub filled-length : {xs zs b : List ℕ} → Filled xs zs b → length b ≡ length zs
-filled-length {xs} {zs} {b} f =
-    ap length (f .stand) ∙ omega (arith, length-append xs (drop (length xs) zs), length-drop (length xs) zs, f .room)
 
 -- bytes put behind them, and a number v in k digits
 pub filled-put : (a : ℕ) (ys : List ℕ) {xs zs b b′ : List ℕ} → Filled xs zs b → length xs ≡ a → a + length ys ≤ length zs → b′ ≡ put a ys b →

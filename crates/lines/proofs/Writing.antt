@@ -1,20 +1,18 @@
 -- Lines written: what can stand, the front and the payload, the answers; reply lines. Assumes nothing.
-use mathlib.Core.Path.{_≡_, refl, sym, ap, _∙_}
+use mathlib.Core.Path.{_≡_, refl, sym, _∙_}
 use mathlib.Core.Bool.{Bool, true, false, _&&_}
-use mathlib.Core.Logic.{inl, inr}
-use mathlib.Core.List.{List, [], _∷_, _++_}
+use mathlib.Core.List.{List, _++_}
 use Prim.Native.Nat.{ℕ, _+_, _-_, _%_, _^_, _≤_, _<_}
 use native.Mathlib.Omega.{arith}
-use lib.Dec.{ltb, leb, eqb}
-use lib.ListN.{length, set, take, drop, length-append}
-use borrow.Author.Tests.{lt-ltb, le-ltb, le-leb, lt-leb, eq-eqb, ne-eqb}
+use lib.Dec.{leb, eqb}
+use lib.ListN.{length, set, drop, length-append}
+use borrow.Author.Tests.{lt-ltb, le-ltb, le-leb, lt-leb, ne-eqb}
 use Rattle.round.specs.declared.Slot.{Slot}
 use Rattle.round.specs.declared.Weight.{Weight}
 use Rattle.rules.specs.Calls.{Out, silence, frame, kept-blank, ordinary, leap, step}
 use Rattle.rules.specs.Limits.{slot-digits, wide-digits, most-payload}
-use Rattle.rules.specs.Lines.{digits, all-digits, line-end, stands, text, reply-text, reply-digits, out-digits}
+use Rattle.rules.specs.Lines.{digits, all-digits, line-end, stands, reply-text, reply-digits, out-digits}
 use Rattle.rules.specs.Lines as rules
-use Rattle.theory.specs.Tests.{either}
 use Rattle.theory.specs.Lines.{front, front-size, length-front, text-front, length-text, unfit, no-room, room, write-refused, write-done}
 use Rattle.lines.specs.declared.Command.{Command}
 use Rattle.lines.specs.declared.Command.the-variants.{Open, Take, Send}

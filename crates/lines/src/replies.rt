@@ -1,5 +1,4 @@
 // A reply's line, written into a lent buffer: what a call answers, or a refusal's number.
-ghost use mathlib.Core.Path.{_≡_};
 ghost use Prim.Native.Nat.{_≤_};
 ghost use lib.ListN.{length};
 ghost use Rattle.rules.specs.Calls.{refused, done, ticket};

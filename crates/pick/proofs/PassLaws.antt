@@ -23,7 +23,7 @@ use Rattle.pick.specs.Peak.{Peak}
 use Rattle.pick.specs.Choice.{decided, Picked}
 use Rattle.tally.specs.declared.near.Reach.{Reach}
 use Rattle.pick.specs.declared.lead.Leader.{Leader}
-use Rattle.pick.specs.declared.choice.Pick.the-variants.{First, Far}
+use Rattle.pick.specs.declared.choice.Pick.the-variants.{Far}
 use Rattle.tally.proofs.NearLaws.{enough}
 use Rattle.pick.proofs.PeakLaws.{peak-none, peak-more, peak-is}
 use Rattle.pick.proofs.SceneLaws.{Scene, Heaviest, full-edge, plan-rows, fine-at, before-place, free-high, peak-heaviest, heaviest-in, key-most, weight-key, left-far}

@@ -1,6 +1,6 @@
 // Rows by rising due slot: each is kept while a slot is free for it, else the lightest of all leaves.
 ghost use mathlib.Core.Path.{_≡_};
-ghost use Prim.Native.Nat.{ℕ, suc, _≤_, _<_};
+ghost use Prim.Native.Nat.{suc, _≤_, _<_};
 ghost use lib.ListN.{length, replicate};
 ghost use Rattle.plan.specs.Keys.{ahead-in};
 ghost use Rattle.plan.specs.Lists.{Next, Nexts, Listed};

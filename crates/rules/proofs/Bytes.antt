@@ -1,6 +1,6 @@
 -- THE LAYOUT, byte for byte: one table with a value above 255 in every field wider than a byte. Assumes nothing.
 use mathlib.Core.Path.{_≡_, refl}
-use mathlib.Core.List.{List, [], _∷_, _++_}
+use mathlib.Core.List.{List, [], _∷_}
 use Prim.Native.Nat.{ℕ, _*_}
 use lib.ListN.{take, replicate}
 use Rattle.rules.specs.Rows.{Round, row, round}

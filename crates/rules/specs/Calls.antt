@@ -1,5 +1,5 @@
 -- The calls: what each refuses, answers and leaves, on a round and on a lent table; lists of calls. Assumes nothing: these are definitions.
-use mathlib.Core.Bool.{Bool, true, false, _||_, cond}
+use mathlib.Core.Bool.{_||_, cond}
 use mathlib.Core.List.{List, [], _∷_, _++_, map}
 use mathlib.Core.Option.{Option, none, some}
 use Prim.Native.Nat.{ℕ}

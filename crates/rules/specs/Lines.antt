@@ -1,11 +1,11 @@
 -- Text lines: their text, the reader, the payload and its place, the writer, and what stationround prints. Assumes nothing: these are definitions.
-use mathlib.Core.Bool.{Bool, true, false, _&&_, _||_, cond}
+use mathlib.Core.Bool.{Bool, true, _&&_, _||_, cond}
 use mathlib.Core.List.{List, [], _∷_, _++_}
 use Prim.Native.Nat.{ℕ, zero, suc, _+_, _*_, _-_, _/_, _%_, _^_}
 use lib.Dec.{ltb, leb, eqb}
 use lib.ListN.{length, getD, take, drop, replicate}
 use Rattle.rules.specs.Limits.{head-size, row-size, most-rows, slot-digits, wide-digits, most-payload}
-use Rattle.rules.specs.Calls.{Call, opening, taking, sending, Out, silence, frame, kept-blank, Step, ordinary, leap, Reply, refused, done, ticket, step, amount, blank-due, answer, left}
+use Rattle.rules.specs.Calls.{Call, opening, taking, sending, Out, silence, frame, kept-blank, ordinary, leap, Reply, refused, done, ticket, step, amount, blank-due, answer, left}
 
 -- DIGITS 0 to 9 and A to F as bytes, and numbers in digits, high digit first
 unfoldable pub digit : ℕ → ℕ

@@ -1,13 +1,13 @@
 -- Flags on the stack: a front part of an array of ones, lent and back. Assumes nothing.
 use mathlib.Core.Path.{_≡_, refl, sym, ap, _∙_}
-use mathlib.Core.List.{List, [], _∷_, _++_}
+use mathlib.Core.List.{List, _∷_, _++_}
 use Prim.Native.Nat.{ℕ, zero, suc, _+_, _≤_}
 use native.Mathlib.Omega.{arith}
 use lib.ListN.{length, take, drop, replicate, length-replicate, length-append}
 use lib.Seq.{take-at}
 use Rattle.rules.specs.Rows.{round}
-use Rattle.rules.specs.Table.{round-in, table-refusal}
-use Rattle.rules.specs.Conditions.{slot-in, used-in}
+use Rattle.rules.specs.Table.{round-in}
+use Rattle.rules.specs.Conditions.{used-in}
 use Rattle.theory.specs.Clauses.{rows-count}
 use Rattle.theory.specs.Flags.{Chosen, all-chosen}
 use Rattle.round.specs.declared.Round.{Round as Head}

@@ -1,5 +1,5 @@
 -- What opening and taking answer is within the packing's bounds. Assumes nothing.
-use mathlib.Core.Path.{_≡_, sym, ap, _∙_}
+use mathlib.Core.Path.{_≡_}
 use mathlib.Core.Logic.{inl, inr}
 use mathlib.Core.Bool.{Bool, true, false, _||_, _&&_, not, cond}
 use mathlib.Core.List.{List}
@@ -10,7 +10,7 @@ use borrow.Author.Tests.{eqb-false}
 use lib.ListN.{length}
 use Rattle.rules.specs.Rows.{Round}
 use Rattle.rules.specs.Table.{round-in, round-good, same, table, table-refusal, length-good}
-use Rattle.rules.specs.Calls.{Call, opening, taking, refused, first, open-refusal, take-refusal, table-first, round-refusal, refusal, says, answer}
+use Rattle.rules.specs.Calls.{Call, opening, taking, first, open-refusal, take-refusal, table-first, round-refusal, refusal, says, answer}
 use Rattle.theory.specs.Tests.{eqb?}
 use Rattle.theory.specs.Calls.{no-refusal}
 use Rattle.theory.specs.Sane.{sound}

@@ -1,7 +1,6 @@
 -- `calls::marking::mark_ahead` meets its contract. Assumes nothing.
 use Rattle.calls.proofs.Asked.{far-is-zero}
-use mathlib.Core.Path.{_≡_, sym, ap, subst, _∙_}
-use native.Mathlib.Omega.{arith}
+use mathlib.Core.Path.{sym, _∙_}
 use Rattle.sender.proofs.FlagLaws.{ones-front, ones-long, few-rows, flagged-long, flagged-chosen}
 use borrow.Author.Needs.{needs}
 use Rattle.calls.proofs.marking.mark_ahead.Statement.{statement}

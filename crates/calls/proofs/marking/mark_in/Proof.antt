@@ -3,7 +3,6 @@ use Rattle.calls.proofs.Outcomes.{answers-refused, mark-said}
 use Rattle.rules.specs.Calls.{marking}
 use Rattle.calls.proofs.Asked.{mark-over, mark-before, mark-after, mark-asked}
 use native.Mathlib.Omega.{arith}
-use mathlib.Core.Path.{_≡_, sym, ap, subst, _∙_}
 use borrow.Author.Needs.{needs}
 use Rattle.calls.proofs.marking.mark_in.Statement.{statement}
 use Rattle.calls.proofs.marking.mark_in.Tie as tie

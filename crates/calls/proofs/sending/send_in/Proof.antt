@@ -1,9 +1,9 @@
 -- `calls::sending::send_in` meets its contract. Assumes nothing.
-use Rattle.calls.proofs.Asked.{ready, over}
+use Rattle.calls.proofs.Asked.{over}
 use Rattle.calls.proofs.Outcomes.{says-refused}
 use Rattle.rules.specs.Calls.{sending, step}
 use native.Mathlib.Omega.{arith}
-use mathlib.Core.Path.{_≡_, sym, ap, subst, _∙_}
+use mathlib.Core.Path.{sym, ap, _∙_}
 use borrow.Author.Needs.{needs}
 use Rattle.calls.proofs.sending.send_in.Statement.{statement}
 use Rattle.calls.proofs.sending.send_in.Tie as tie

@@ -4,7 +4,7 @@ use Rattle.tally.specs.Rows.{at}
 use Rattle.rules.specs.Table.{round-in}
 use borrow.Author.Count.{below-more}
 use Prim.Native.Nat.{ℕ, _-_, _≤_, _<_}
-use mathlib.Core.Path.{_≡_, sym, ap, subst, _∙_}
+use mathlib.Core.Path.{_≡_, sym, _∙_}
 use native.Mathlib.Omega.{arith}
 use borrow.Author.Needs.{needs}
 use Rattle.calls.proofs.substituting.find_row.Statement.{statement}

@@ -2,9 +2,8 @@
 use Rattle.marks.specs.Substitute.{Substitutes}
 use Rattle.tally.proofs.RowLaws.{known}
 use Rattle.rules.specs.Table.{round-in}
-use Prim.Native.Nat.{ℕ}
 use Rattle.calls.proofs.Standing.{flag-there, stands-outside, stands-row, stands-blank}
-use mathlib.Core.Path.{_≡_, sym, ap, subst, _∙_}
+use mathlib.Core.Path.{subst}
 use native.Mathlib.Omega.{arith}
 use borrow.Author.Needs.{needs}
 use Rattle.calls.proofs.substituting.substitute_flagged.Statement.{statement}

@@ -4,7 +4,7 @@ use Rattle.calls.proofs.Asked.{ready, over, ahead}
 use Rattle.calls.specs.Finding.{Finds}
 use Rattle.tally.proofs.RowLaws.{known}
 use Rattle.rules.specs.Table.{round-in}
-use mathlib.Core.Path.{_≡_, sym, ap, subst, _∙_}
+use mathlib.Core.Path.{subst, _∙_}
 use native.Mathlib.Omega.{arith}
 use borrow.Author.Needs.{needs}
 use Rattle.calls.proofs.substituting.substitute_in.Statement.{statement}

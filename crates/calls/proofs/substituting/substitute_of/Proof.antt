@@ -1,7 +1,7 @@
 -- `calls::substituting::substitute_of` meets its contract. Assumes nothing.
 use Rattle.calls.proofs.Standing.{substitute-table}
 use Rattle.round.specs.Judge.{Judge-says}
-use mathlib.Core.Path.{_≡_, sym, ap, subst, _∙_}
+use mathlib.Core.Path.{subst}
 use borrow.Author.Needs.{needs}
 use Rattle.calls.proofs.substituting.substitute_of.Statement.{statement}
 use Rattle.calls.proofs.substituting.substitute_of.Tie as tie

@@ -2,7 +2,7 @@
 use Rattle.calls.proofs.Outcomes.{answers-refused, judges, by-table}
 use Rattle.rules.specs.Calls.{totalling}
 use Rattle.round.specs.Judge.{Judge-says}
-use mathlib.Core.Path.{_≡_, sym, ap, subst, _∙_}
+use mathlib.Core.Path.{subst}
 use borrow.Author.Needs.{needs}
 use Rattle.calls.proofs.totalling.plan_total.Statement.{statement}
 use Rattle.calls.proofs.totalling.plan_total.Tie as tie

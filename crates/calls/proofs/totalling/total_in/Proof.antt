@@ -1,9 +1,8 @@
 -- `calls::totalling::total_in` meets its contract. Assumes nothing.
-use Rattle.calls.proofs.Asked.{ready, over, ahead}
+use Rattle.calls.proofs.Asked.{over, ahead}
 use Rattle.calls.proofs.Outcomes.{answers-refused, total-said}
 use Rattle.rules.specs.Calls.{totalling}
 use native.Mathlib.Omega.{arith}
-use mathlib.Core.Path.{_≡_, sym, ap, subst, _∙_}
 use borrow.Author.Needs.{needs}
 use Rattle.calls.proofs.totalling.total_in.Statement.{statement}
 use Rattle.calls.proofs.totalling.total_in.Tie as tie

@@ -1,4 +1,3 @@
-use native.Mathlib.Omega.{arith}
 -- `leap::send::send_alone` meets its contract. Assumes nothing.
 use borrow.Author.Needs.{needs}
 use Rattle.leap.proofs.SendLaws.{alone-row, alone-says}
@@ -18,7 +17,7 @@ same-length : tie.Need-same-length
 same-length c = search needs
 
 returns : tie.Need-returns
-returns c = alone-says (c .before .before .before .before .before .before .before .before .before .pre) (c .before .before .before .before .before .before .row-of .ensures) (c .before .before .before .before .before .went-of .ensures) (c .before .before .close-up .ensures) (search needs)
+returns c = search (alone-says, needs)
 
 pub send-alone-spec : {M : Type 1} → statement M
 send-alone-spec =

@@ -36,7 +36,7 @@ same-length : tie.Need-same-length
 same-length c = search needs
 
 returns : tie.Need-returns
-returns c = kept-says (c .before .before .before .before .before .before .before .before .before .before .before .before .before .before .before .pre) (c .before .before .before .before .before .before .before .before .before .before .before .before .row-of .ensures) (c .before .before .before .before .before .before .before .before .least-by .ensures) (c .before .before .before .before .before .before .write-kept .ensures) (c .before .before .before .before .before .before .before .before .before .before .went-of .ensures) (c .before .before .close-up .ensures) (search needs)
+returns c = search (kept-says, needs)
 
 pub send-kept-spec : {M : Type 1} → statement M
 send-kept-spec =

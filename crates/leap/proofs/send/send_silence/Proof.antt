@@ -11,7 +11,7 @@ same-length : tie.Need-same-length
 same-length c = search needs
 
 returns : tie.Need-returns
-returns c = silence-says (c .before .before .before .before .before .args .table .now) (c .before .before .before .before .before .args .round) (c .before .before .before .before .before .pre .0) (c .before .before .before .before .before .pre .1) _ (c .before .before .close-up .ensures)
+returns c = search (silence-says, needs)
 
 pub send-silence-spec : {M : Type 1} → statement M
 send-silence-spec = tie.close (tie.spec close-up-requires same-length returns)

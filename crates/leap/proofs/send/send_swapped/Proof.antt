@@ -22,7 +22,7 @@ marks-by-requires : tie.Need-marks-by-requires
 marks-by-requires c κs = (c .before .before .before .before .before .before .before .before .before .before .pre .goes .ready, c .before .before .before .before .before .before .before .before .before .before .pre .goes .chosen, refl, to-small (c .before .before .before .before .before .before .before .before .before .before .pre) (c .before .before .before .ahead-of .ensures) (c .before .before .stretch-of .ensures))
 
 shift-chain-requires : tie.Need-shift-chain-requires
-shift-chain-requires c κs = swap-chained (c .before .before .before .before .before .before .before .before .before .before .before .before .before .pre) (c .before .before .before .before .before .before .ahead-of .ensures) (c .before .before .before .before .before .stretch-of .ensures) (c .before .before .marks-by .ensures)
+shift-chain-requires c κs = search (swap-chained, needs)
 
 row-of-requires-2 : tie.Need-row-of-requires-2
 row-of-requires-2 c κs = search needs

@@ -1,5 +1,4 @@
 -- `leap::send::went_of` meets its contract. Assumes nothing.
-use mathlib.Core.Path.{refl}
 use native.Mathlib.Omega.{arith}
 use borrow.Author.Needs.{needs}
 use Rattle.tally.proofs.RowLaws.{reads-within}
@@ -23,7 +22,7 @@ shared-slice-read-t10 : tie.Need-shared-slice-read-t10
 shared-slice-read-t10 c = omega (arith, c .before .before .row-at .ensures, reads-within (c .before .before .before .before .args .table .now) (c .before .before .before .before .args .round) (c .before .before .before .before .pre .0) (c .before .before .before .before .args .row) (c .before .before .before .before .pre .1) .1)
 
 returns : tie.Need-returns
-returns c = went-read (c .before .before .before .before .args .table .now) (c .before .before .before .before .args .round) (c .before .before .before .before .pre .0) (c .before .before .before .before .args .row) _ _ _ (c .before .before .before .before .args .leap) (c .before .before .before .before .pre .1) (c .before .before .row-at .ensures) (c .before .read4 .ensures) refl
+returns c = search (went-read, needs)
 
 pub went-of-spec : {M : Type 1} → statement M
 went-of-spec =

@@ -1,4 +1,3 @@
-use native.Mathlib.Omega.{arith}
 -- `shifting::chain::pass_end` meets its contract. Assumes nothing.
 use borrow.Author.Needs.{needs}
 use Rattle.shifting.proofs.LinkLaws.{ended-keeps, ended-takes, ended-still, ended-moved}

@@ -6,7 +6,7 @@ use Rattle.shifting.proofs.chain.shift_link.Statement.{statement}
 use Rattle.shifting.proofs.chain.shift_link.Tie as tie
 
 returns : tie.Need-returns
-returns c = linked-none (c .before .before .args .slot .0) (c .before .before .args .key) (c .before .before .args .end) (c .before .before .args .mark) (c .before .before .args .table .now) (search needs)
+returns c = search (linked-none, needs)
 
 cast-due : tie.Need-cast-due
 cast-due c = search needs
@@ -27,7 +27,7 @@ same-length : tie.Need-same-length
 same-length c = search needs
 
 returns-2 : tie.Need-returns-2
-returns-2 c = linked-row (c .before .before .before .before .before .before .before .before .before .args .slot .0) (c .before .before .before .before .before .before .before .before .before .args .key) (c .before .before .before .before .before .before .before .before .before .args .end) (c .before .before .before .before .before .before .before .before .before .args .mark) (c .before .before .before .before .before .before .before .before .before .args .table .now) _ (c .before .before .before .before .row-of .result) (c .before .before .before .weight-with .result) (c .before .before .before .before .before .before .before .if1 .left) (c .before .before .before .before .row-of .ensures) (c .before .before .before .weight-with .ensures) (c .before .before .write-shift .ensures)
+returns-2 c = search (linked-row, needs)
 
 pub shift-link-spec : {M : Type 1} → statement M
 shift-link-spec =

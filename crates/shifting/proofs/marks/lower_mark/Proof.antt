@@ -11,7 +11,7 @@ shared-slice-read-if1 : tie.Need-shared-slice-read-if1
 shared-slice-read-if1 c = omega (arith, c .before .before .before .pre .1 .long, known (c .before .before .before .args .table .now) (c .before .before .before .args .round) (c .before .before .before .pre .0) .used)
 
 returns : tie.Need-returns
-returns c = lowered-out (round-in (c .before .before .before .before .args .table .now)) (c .before .before .before .before .args .flags .now) (c .before .before .before .before .args .last) (c .before .before .before .before .args .row) _ (c .if1 .taken)
+returns c = search (lowered-out, needs)
 
 due-at-requires : tie.Need-due-at-requires
 due-at-requires c κs = search needs

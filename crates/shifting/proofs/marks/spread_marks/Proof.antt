@@ -1,4 +1,3 @@
-use native.Mathlib.Omega.{arith}
 -- `shifting::marks::spread_marks` meets its contract. Assumes nothing.
 use Prim.Native.Nat.{_-_}
 use borrow.Author.Needs.{needs}
@@ -43,7 +42,7 @@ loop-less : tie.Need-loop-less Inv-loop μ-loop
 loop-less c = search needs
 
 loop-again : tie.Need-loop-again Inv-loop μ-loop
-loop-again c = spread-step _ _ (c .before .before .before .before .loop .marks) (c .before .before .before .before .loop .s) _ (c .before .before .before .before .loop .inv) (search needs) (search needs) (search needs) (omega (arith, c .smaller .ensures))
+loop-again c = search (spread-step, needs)
 
 returns : tie.Need-returns Inv-loop μ-loop
 returns c = spread-end _ _ _ _ (c .before .loop .inv) (search needs)

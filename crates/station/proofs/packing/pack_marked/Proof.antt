@@ -1,7 +1,7 @@
 -- `station::packing::pack_marked` meets its contract. Assumes nothing.
 use Rattle.calls.specs.Asking.{of-marked}
 use Rattle.station.specs.Packing.{pack}
-use mathlib.Core.Path.{sym, ap, _∙_}
+use mathlib.Core.Path.{sym, ap}
 use borrow.Author.Needs.{needs}
 use Rattle.station.proofs.packing.pack_marked.Statement.{statement}
 use Rattle.station.proofs.packing.pack_marked.Tie as tie

@@ -1,7 +1,7 @@
 -- `station::packing::pack_sent` meets its contract. Assumes nothing.
 use Rattle.calls.specs.Steps.{of-sent}
 use Rattle.station.specs.Packing.{pack}
-use mathlib.Core.Path.{_≡_, sym, ap, _∙_}
+use mathlib.Core.Path.{sym, ap, _∙_}
 use borrow.Author.Needs.{needs}
 use Rattle.station.proofs.packing.pack_sent.Statement.{statement}
 use Rattle.station.proofs.packing.pack_sent.Tie as tie

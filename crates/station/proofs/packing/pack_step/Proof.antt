@@ -3,7 +3,7 @@ use Rattle.calls.specs.Steps.{of-step}
 use Rattle.rules.specs.Calls.{step}
 use Prim.Native.Nat.{_+_}
 use Rattle.station.specs.Packing.{pack}
-use mathlib.Core.Path.{_≡_, sym, ap, _∙_}
+use mathlib.Core.Path.{sym, ap, _∙_}
 use borrow.Author.Needs.{needs}
 use Rattle.station.proofs.packing.pack_step.Statement.{statement}
 use Rattle.station.proofs.packing.pack_step.Tie as tie

@@ -1,7 +1,7 @@
 -- `station::packing::pack_substituted` meets its contract. Assumes nothing.
 use Rattle.calls.specs.Asking.{of-substituted}
 use Rattle.station.specs.Packing.{pack}
-use mathlib.Core.Path.{sym, ap, _∙_}
+use mathlib.Core.Path.{sym, ap}
 use borrow.Author.Needs.{needs}
 use Rattle.station.proofs.packing.pack_substituted.Statement.{statement}
 use Rattle.station.proofs.packing.pack_substituted.Tie as tie

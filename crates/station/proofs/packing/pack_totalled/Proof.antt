@@ -1,7 +1,7 @@
 -- `station::packing::pack_totalled` meets its contract. Assumes nothing.
 use Rattle.calls.specs.Asking.{of-totalled}
 use Rattle.station.specs.Packing.{pack, Small}
-use Prim.Native.Nat.{ℕ, _≤_}
+use Prim.Native.Nat.{_≤_}
 use native.Mathlib.Omega.{arith}
 use mathlib.Core.Path.{ap, subst}
 use borrow.Author.Needs.{needs}

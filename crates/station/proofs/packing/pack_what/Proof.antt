@@ -1,10 +1,9 @@
 -- `station::packing::pack_what` meets its contract. Assumes nothing.
 use Rattle.station.proofs.Exported.{frame-packed, blank-packed}
-use Rattle.rules.specs.Calls.{frame, kept-blank}
 use native.Mathlib.Omega.{arith}
 use Rattle.calls.specs.Steps.{of-out}
 use Rattle.station.specs.Packing.{pack-out}
-use mathlib.Core.Path.{_≡_, sym, ap, _∙_}
+use mathlib.Core.Path.{sym, ap, _∙_}
 use borrow.Author.Needs.{needs}
 use Rattle.station.proofs.packing.pack_what.Statement.{statement}
 use Rattle.station.proofs.packing.pack_what.Tie as tie

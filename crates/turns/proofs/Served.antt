@@ -43,6 +43,14 @@ prints-first input more t from at h =
     ap (take n) p ∙ take-append-le n (drop from input) more (omega (arith, length-drop from input, h .after, h .within)) in
     rw (← p) (ap (λ ls. printed-from ls t) (cut-first (input ++ more) from at (first-more input more from at h)) ∙ rw (l, q))
 
+-- a turn that was taken is one turn of what is printed
+pub one-turn : {c : Command} {t z before after : List ℕ} {r : ℕ} → Turns c t z before after r → (rest : List ℕ → List ℕ) →
+    turn (command c) t rest ≡ take r after ++ rest z
+unfolding turn
+one-turn {c} {t} {before = before} {r = r} s rest =
+    let line = reply-text (answer (call-of c) t) in
+    rw (s .said .left, take-at line (drop (length line) before) r (sym (s .said .long)), s .moved)
+
 -- HOW LONG lines are: a command's and a reply's
 command-long : (c : Command) (line : List ℕ) → command c ≡ read line → 2 < length line
 command-long c line e =
@@ -110,48 +118,59 @@ serving-none input t o = record { within = omega arith; room = omega arith; smal
 kept-on : (a b c : List ℕ) (w r : ℕ) → drop (w + r) a ≡ drop (w + r) b → drop w b ≡ drop w c → drop (w + r) a ≡ drop (w + r) c
 kept-on a b c w r e f = e ∙ sym (drop-drop r w b) ∙ ap (drop r) f ∙ drop-drop r w c
 
-module _ {input t z before after : List ℕ} {read₀ wrote : ℕ} (s : Serving input t z before after read₀ wrote) where
-  module _ {at r : ℕ} {o z′ : List ℕ} (end : First input read₀ at) where
+module _ {input t z before after : List ℕ} {from wrote : ℕ} (s : Serving input t z before after from wrote) where
+  module _ {at r : ℕ} {o z′ : List ℕ} (end : First input from at) where
     -- a command's line more
-    pub serving-more : (c : Command) → command c ≡ read (take (at + 1 - read₀) (drop read₀ input)) → z′ ≡ left (call-of c) z →
-        Put (reply-text (answer (call-of c) z)) after o wrote r → Serving input t z′ before o (at + 1) (wrote + r)
+    pub serving-more : (c : Command) {next put : ℕ} → command c ≡ read (take (at + 1 - from) (drop from input)) →
+        (next ≡ at + 1) × (put ≡ wrote + r) → z′ ≡ left (call-of c) z →
+        Put (reply-text (answer (call-of c) z)) after o wrote r → Serving input t z′ before o next put
     unfolding turn
-    serving-more c e f p =
-        let n = command-long c (take (at + 1 - read₀) (drop read₀ input)) e in
+    serving-more c {next} {put} e q f p =
+        let n = at + 1 - from in
+        let long = command-long c (take n (drop from input)) e in
         record {
-          small = omega (arith, s .small, p .size, reply-long (answer (call-of c) z), length-take (at + 1 - read₀) (drop read₀ input), end .after);
-          within = omega (arith, end .within);
-          room = omega (arith, p .room, s .long);
+          within = omega (arith, q .0, end .within);
+          room = omega (arith, q .1, p .room, s .long);
+          small = omega (arith, q .0, q .1, s .small, p .size, reply-long (answer (call-of c) z), length-take n (drop from input), end .after);
           long = p .long ∙ s .long;
-          kept = kept-on o after before wrote r (p .kept) (s .kept);
+          kept = rw (q .1) (kept-on o after before wrote r (p .kept) (s .kept));
           said = λ more.
               s .said more
-              ∙ ap (λ (xs : List ℕ). take wrote after ++ xs) (prints-first input more z read₀ at end ∙ rw (← e, ← f))
+              ∙ ap (λ (xs : List ℕ). take wrote after ++ xs) (prints-first input more z from at end ∙ rw (← e, ← f))
               ∙ sym (append-assoc (take wrote after) (reply-text (answer (call-of c) z)) (prints (drop (at + 1) input ++ more) z′))
-              ∙ rw (← p .said);
+              ∙ rw (← p .said, ← q .0, ← q .1);
         }
 
     -- a broken line, which nothing follows
-    pub served-broken : broken ≡ read (take (at + 1 - read₀) (drop read₀ input)) → z′ ≡ z → Put (reply-text (refused 1)) after o wrote r →
-        Serves input t z′ before o (record { read = at + 1; wrote = wrote + r; stopped = true })
+    pub served-broken : {p : Progress} → broken ≡ read (take (at + 1 - from) (drop from input)) →
+        (p .read ≡ at + 1) × (p .wrote ≡ wrote + r) × (p .stopped ≡ true) →
+        Put (reply-text (refused 1)) after o wrote r → Serves input t z′ before o p
     unfolding turn
-    served-broken e f p =
+    served-broken {p} e q l =
         record {
-          small = omega (arith, s .small, p .size, refusal-long, end .after);
-          within = omega (arith, end .within);
-          room = omega (arith, p .room, s .long);
-          long = p .long ∙ s .long;
-          kept = kept-on o after before wrote r (p .kept) (s .kept);
+          within = omega (arith, q .0, end .within);
+          room = omega (arith, q .1, l .room, s .long);
+          small = omega (arith, q .0, q .1, s .small, l .size, refusal-long, end .after);
+          long = l .long ∙ s .long;
+          kept = rw (q .1) (kept-on o after before wrote r (l .kept) (s .kept));
           said = λ more.
               s .said more
-              ∙ ap (λ (xs : List ℕ). take wrote after ++ xs) (prints-first input more z read₀ at end ∙ rw (← e))
-              ∙ sym (p .said)
-              ∙ sym (append-nil (take (wrote + r) o));
-          whole = λ e. let x : _≡_ {A = ℕ} 0 1 = cc in absurd (omega arith);
+              ∙ ap (λ (xs : List ℕ). take wrote after ++ xs) (prints-first input more z from at end ∙ rw (← e))
+              ∙ sym (l .said)
+              ∙ rw (q .1, q .2) (sym (append-nil (take (wrote + r) o)));
+          whole = λ g. let x : _≡_ {A = ℕ} 0 1 = cc in absurd (omega arith);
         }
 
   -- no complete line is left, or no room for a reply
-  pub served-so-far : (15 ≤ length before - wrote → None input read₀ (length input)) →
-      Serves input t z before after (record { read = read₀; wrote = wrote; stopped = false })
-  served-so-far f =
-      record { within = s .within; room = s .room; small = s .small; long = s .long; kept = s .kept; said = s .said; whole = λ e. f }
+  pub served-so-far : {p : Progress} → (p .read ≡ from) × (p .wrote ≡ wrote) × (p .stopped ≡ false) →
+      (15 ≤ length before - wrote → None input from (length input)) → Serves input t z before after p
+  served-so-far {p} q f =
+      record {
+        within = omega (arith, q .0, s .within);
+        room = omega (arith, q .1, s .room);
+        small = omega (arith, q .0, q .1, s .small);
+        long = s .long;
+        kept = rw (q .1) (s .kept);
+        said = rw (q .0, q .1, q .2) (s .said);
+        whole = λ e h. rw (q .0) (f (omega (arith, q .1)));
+      }

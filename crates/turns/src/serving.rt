@@ -1,5 +1,6 @@
 // The complete lines of a buffer answered one after another, and the rest moved to its front.
 ghost use mathlib.Core.Path.{_≡_};
+ghost use mathlib.Core.Bool.{false};
 ghost use Prim.Native.Nat.{_≤_};
 ghost use lib.ListN.{length};
 ghost use Rattle.turns.specs.Serving.{Serves, Kept};
@@ -20,11 +21,7 @@ pub fn answer_lines(input: &[u8], table: &mut [u8], out: &mut [u8]) -> Progress
     let mut wrote = 0;
     while REPLY_ROOM <= out.len() - wrote {
         let LineEnd::At(end) = line_end(input, read) else {
-            return Progress {
-                read,
-                wrote,
-                stopped: false,
-            };
+            return so_far(read, wrote);
         };
         let next = end + 1;
         let Reading::Is(command) = read_command(&input[read..next]) else {
@@ -38,6 +35,13 @@ pub fn answer_lines(input: &[u8], table: &mut [u8], out: &mut [u8]) -> Progress
         wrote += take_turn(command, table, &mut out[wrote..]);
         read = next;
     }
+    so_far(read, wrote)
+}
+
+// Where refusal 1 was not among the replies.
+fn so_far(read: usize, wrote: usize) -> Progress
+    ensures { λ r. ⌜ (r .read ≡ read) × (r .wrote ≡ wrote) × (r .stopped ≡ false) ⌝ }
+{
     Progress {
         read,
         wrote,

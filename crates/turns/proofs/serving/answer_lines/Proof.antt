@@ -18,11 +18,16 @@ abbrev μ-loop : tie.MeasureT-loop
 μ-loop input table₀ out₀ read₀ wrote₀ table out read wrote = length input - read
 
 -- the line's end that was found
-here : (c : tie.After-known-told Inv-loop μ-loop) → First (c .before .before .before .before .before .before .before .before .before .args .input .now) (c .before .before .before .before .before .loop .read) (c .before .end .given .0 .0)
-here c = subst (Ends (c .before .before .before .before .before .before .before .before .before .args .input .now) (c .before .before .before .before .before .loop .read)) (c .before .end .given .1) (c .before .before .before .line-end .ensures)
+here : (c : tie.After-known-told Inv-loop μ-loop) →
+    First (c .before .before .before .before .before .before .before .before .before .args .input .now) (c .before .before .before .before .before .loop .read) (c .before .end .given .0 .0)
+here c =
+    let input = c .before .before .before .before .before .before .before .before .before .args .input .now in
+    subst (Ends input (c .before .before .before .before .before .loop .read)) (c .before .end .given .1) (c .before .before .before .line-end .ensures)
 
 loop-holds : tie.Need-loop-holds Inv-loop μ-loop
-loop-holds c = (serving-none (c .before .before .before .args .input .now) (c .before .before .before .args .table .now) (c .before .before .before .args .out .now), refl)
+loop-holds c =
+    let s = c .before .before .before .args in
+    (serving-none (s .input .now) (s .table .now) (s .out .now), refl)
 
 sub-loop : tie.Need-sub-loop Inv-loop μ-loop
 sub-loop c = search needs
@@ -36,6 +41,9 @@ enum-known-end c = search needs
 enum-told : tie.Need-enum-told Inv-loop μ-loop
 enum-told c = search needs
 
+so-far-requires : tie.Need-so-far-requires Inv-loop μ-loop
+so-far-requires c κs = search needs
+
 same-length : tie.Need-same-length Inv-loop μ-loop
 same-length c = search needs
 
@@ -43,7 +51,10 @@ same-length-2 : tie.Need-same-length-2 Inv-loop μ-loop
 same-length-2 c = search needs
 
 returns : tie.Need-returns Inv-loop μ-loop
-returns c = served-so-far (c .before .before .before .before .loop .inv .0) (λ h. subst (Ends (c .before .before .before .before .before .before .before .before .args .input .now) (c .before .before .before .before .loop .read)) (c .enum-told .given .1) (c .before .before .line-end .ensures))
+returns c =
+    let loop = c .before .before .before .before .before .loop in
+    let none = subst (Ends (c .before .before .before .before .before .before .before .before .before .args .input .now) (loop .read)) (c .before .enum-told .given .1) (c .before .before .before .line-end .ensures) in
+    served-so-far (loop .inv .0) (c .so-far .ensures) (λ h. none)
 
 add-next : tie.Need-add-next Inv-loop μ-loop
 add-next c = omega (arith, here c .within)
@@ -89,8 +100,10 @@ same-length-4 c = search needs
 
 returns-2 : tie.Need-returns-2 Inv-loop μ-loop
 returns-2 c =
-    let broken-here = sym (ap reading-of (c .before .before .before .before .enum-told2 .given .1)) ∙ c .before .before .before .before .before .before .read-command .ensures in
-    served-broken (c .before .before .before .before .before .before .before .before .before .before .before .before .before .loop .inv .0) (here (c .before .before .before .before .before .before .before .before)) broken-here refl (put-line (search needs) (c .before .before .write-refusal .ensures) (search needs))
+    let line = c .before .before .before .before .before .before in
+    let told = ap reading-of (c .before .before .before .before .enum-told2 .given .1) in
+    served-broken (line .before .before .before .before .before .before .before .loop .inv .0) (here (line .before .before)) (cc (told, line .read-command .ensures)) (search needs)
+    (put-line (search needs) (c .before .before .write-refusal .ensures) (search needs))
 
 sub-take-turn : tie.Need-sub-take-turn Inv-loop μ-loop
 sub-take-turn c = search needs
@@ -108,14 +121,21 @@ add-wrote-2 : tie.Need-add-wrote-2 Inv-loop μ-loop
 add-wrote-2 c = omega (arith, reply-within (c .before .before .before .before .take-turn .ensures .said) (search needs))
 
 loop-less : tie.Need-loop-less Inv-loop μ-loop
-loop-less c = omega (arith, here (c .before .before .before .before .before .before .before .before .before .before .before .before) .within, here (c .before .before .before .before .before .before .before .before .before .before .before .before) .after)
+loop-less c = let line = here (c .before .before .before .before .before .before .before .before .before .before .before .before) in omega (arith, line .within, line .after)
 
 loop-again : tie.Need-loop-again Inv-loop μ-loop
 loop-again c =
+    let line = c .before .before .before .before .before .before .before .before .before .before in
     let command = c .before .before .before .before .before .before .before .before .command .given in
-    let taken = c .before .before .before .before .take-turn .ensures in
-    let read-here = sym (ap reading-of (command .1)) ∙ c .before .before .before .before .before .before .before .before .before .before .read-command .ensures in
-    (serving-more (c .before .before .before .before .before .before .before .before .before .before .before .before .before .before .before .before .before .loop .inv .0) (here (c .before .before .before .before .before .before .before .before .before .before .before .before)) (command-of (command .0 .0)) read-here (taken .moved) (put-line (search needs) (taken .said) (search needs)), search needs)
+    let told = ap reading-of (command .1) in
+    let taken = c .before .before .before .before .take-turn .ensures in (
+      serving-more (line .before .before .before .before .before .before .before .loop .inv .0) (here (line .before .before)) (command-of (command .0 .0)) (cc (told, line .read-command .ensures)) (search needs) (taken .moved)
+          (put-line (search needs) (taken .said) (search needs)),
+      search needs,
+    )
+
+so-far-requires-2 : tie.Need-so-far-requires-2 Inv-loop μ-loop
+so-far-requires-2 c κs = search needs
 
 same-length-5 : tie.Need-same-length-5 Inv-loop μ-loop
 same-length-5 c = search needs
@@ -124,7 +144,9 @@ same-length-6 : tie.Need-same-length-6 Inv-loop μ-loop
 same-length-6 c = search needs
 
 returns-3 : tie.Need-returns-3 Inv-loop μ-loop
-returns-3 c = served-so-far (c .before .loop .inv .0) (λ h. absurd (omega (arith, c .before .loop .inv .0 .long)))
+returns-3 c =
+    let inv = c .before .before .loop .inv .0 in
+    served-so-far inv (c .so-far2 .ensures) (λ h. absurd (omega (arith, inv .long)))
 
 pub answer-lines-spec : {M : Type 1} → statement M
 answer-lines-spec =
@@ -137,6 +159,7 @@ answer-lines-spec =
     line-end-requires
     enum-known-end
     enum-told
+    so-far-requires
     same-length
     same-length-2
     returns
@@ -162,6 +185,7 @@ answer-lines-spec =
     add-wrote-2
     loop-less
     loop-again
+    so-far-requires-2
     same-length-5
     same-length-6
     returns-3)

@@ -65,12 +65,21 @@ unpacks sending (step (leap o)) (leap-fits f) = leap-back o f
 unpacks (marking s) (amount n) (mark-fits h) = unpack-accepted (marking s) (256 * n) (omega arith) ∙ ap amount (omega arith)
 unpacks totalling (amount n) (total-fits h) = unpack-accepted totalling (256 * n) (omega arith) ∙ ap amount (omega arith)
 
+-- a substitute: a ticket, or a blank with its due slot
+row-back : (n k : ℕ) → n ≡ value-place * k → 1 ≤ k → k < 16777216 → unpack-substitute n ≡ ticket k
+unfolding unpack-substitute
+row-back n k e h i =
+    let d : n / 256 % 16777216 ≡ k = omega arith in
+    rw (eq-eqb (n % 256) 0 (omega arith), d, ne-eqb k 0 (λ z. omega (arith, z)))
+
+blank-back : (n s : ℕ) → n ≡ out-place * s → unpack-substitute n ≡ blank-due s
+unfolding unpack-substitute
+blank-back n s e =
+    let d : n / 4294967296 ≡ s = omega arith in
+    rw (eq-eqb (n % 256) 0 (omega arith), eq-eqb (n / 256 % 16777216) 0 (omega arith), d)
+
 pub substitute-unpacks : (a : Reply) → Fits-substitute a → unpack-substitute (pack a) ≡ a
 unfolding unpack-substitute pack
 substitute-unpacks (refused n) (refusal-stands h k) = rw (ne-eqb (n % 256) 0 (λ z. omega (arith, z)))
-substitute-unpacks (ticket k) (row-stands h i) =
-    let e : 256 * k / 256 % 16777216 ≡ k = omega arith in
-    rw (eq-eqb (256 * k % 256) 0 (omega arith), e, ne-eqb k 0 (λ z. omega (arith, z)))
-substitute-unpacks (blank-due s) (blank-stands h) =
-    let e : 4294967296 * s / 4294967296 ≡ s = omega arith in
-    rw (eq-eqb (4294967296 * s % 256) 0 (omega arith), eq-eqb (4294967296 * s / 256 % 16777216) 0 (omega arith), e)
+substitute-unpacks (ticket k) (row-stands h i) = row-back (pack (ticket k)) k (omega arith) h i
+substitute-unpacks (blank-due s) (blank-stands h) = blank-back (pack (blank-due s)) s (omega arith)

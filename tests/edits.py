@@ -1,0 +1,128 @@
+#!/usr/bin/env python3
+"""Writes docs/EDITS.md: every must-fail edit, with what the wrong program does, told by the edit's first line, `# ..`.
+
+  edits.py          writes it
+  edits.py --check  fails if it is not what would be written, or an edit has no first line of at most 110 characters
+"""
+import re
+import sys
+from pathlib import Path
+
+TOP = Path(__file__).resolve().parent.parent
+DOC = TOP / "docs" / "EDITS.md"
+
+INTRODUCTION = """# Wrong programs, and that each is refused
+
+An edit, crates/CRATE/must-fail/NAME.edit, makes the program or a definition wrong in one place: it names a file of its crate, a text that
+stands there once, and the text instead. To try one by hand, make that change, run `rt dev CRATE`, and undo it; `rt must-fail CRATE` tries
+all edits of a crate, each on a copy. An edit is *refused for a fact* when the prover meets a goal that holds no more, or two values that
+differ; `./test` tries every edit and fails where one was refused only because a proof no longer fits the text (tests/must_fail_logs.py).
+
+This page is written by tests/edits.py from the first lines of the edits.
+"""
+
+# The nearest is another program, not an edit of this one: it is proved that it sends otherwise.
+PLAYED_OUT = "`played-out-misses`, `canonical-first-differs`, `no-order-serves` in crates/theory/specs/PlayedOut.antt; "
+OVER = " ".join(f"calls/{call}over_in_the_last_slot" for call in ("", "send_", "mark_", "total_")) + " rules/last_slot_over"
+
+BREAKAGES = [
+    ("a sender that plans the first slot and plays that plan out afterwards (demand 2)",
+     "pick/canonical_first_instead_of_the_pick rules/canonical_first"),
+    ("a listing whose count is not the plan's rows (2)", "calls/list_count_of_all_rows order/rows_left_out_are_listed"),
+    ("a table reported full with a row free, or a round reported over in its last slot (1)", "calls/full_with_a_row_free " + OVER),
+    ("a sender always silent (2)", "calls/always_silent sender/silence_with_a_row_waiting"),
+    ("a taker that gives a ticket but stores nothing (2 and 3)", "calls/ticket_but_nothing_stored"),
+    ("a station that turns every call down (1 and 2)", "calls/every_call_turned_down"),
+]
+
+KINDS = [
+    ("a sender always silent", "calls/always_silent"),
+    ("the canonical first instead of the pick", "pick/canonical_first_instead_of_the_pick rules/canonical_first"),
+    ("the heaviest instead of the pick", "pick/the_heaviest_goes"),
+    ("φ by a smaller Fibonacci pair", "pick/smaller_fibonacci_pair rules/golden_ratio_near"),
+    ("r raised without shifting the h frames", "shifting/links_not_shifted"),
+    ("a raised blank dropped", "leap/raised_blank_dropped rules/raised_blank_dropped"),
+    ("the lightest instead of the heaviest h", "shifting/lightest_link"),
+    ("a mark that ignores the first tight slot", "marks/mark_ignores_the_first_tight_slot"),
+    ("a substitute from before the tight slot", "marks/substitute_from_before_the_tight_slot"),
+    ("a sender that forgets to move the slot on", "closing/slot_not_moved_on"),
+    ("an expired row left in", "closing/expired_row_left_in"),
+    ("refusals 10 and 11 exchanged", "calls/ten_and_eleven_exchanged"),
+    ("refusal 5 given in the last slot", OVER),
+    ("a listing whose count is not the plan's rows", "calls/list_count_of_all_rows"),
+    ("a listing that touches an entry past the count", "calls/list_past_the_count"),
+    ("canonical order broken among equals", "order/later_ticket_first order/later_ticket_first_among_equals rules/tie_by_larger_ticket"),
+    ("a reader that takes lower-case digits", "lines/lower_case_digits_read"),
+    ("a payload off by one digit", "lines/payload_off_by_one_digit"),
+    ("a payload taken from a refused line", "lines/payload_of_a_refused_line"),
+    ("a writer that changes a byte on refusal 12", "lines/bytes_changed_on_refusal_12"),
+    ("a reply line of the wrong step", "lines/step_of_the_wrong_kind turns/leap_said_as_ordinary"),
+]
+
+# What the edits of a crate aim at.
+CONTRACTS = {
+    "rules": "the definitions, held to the rounds, bytes and lines worked out by hand in crates/rules/proofs",
+    "round": "`judge` (`Judge-says`): a table is sound, or refused with 2 or 3; numbers in bytes, read and written",
+    "plan": "`choose_rows` (`Chosen`): the flags are those of the plan's rows",
+    "tally": "`reach_of` (`Reaches`): how far the plan is full; `tally` (`Tallied`): the plan's rows by due slot",
+    "pick": "`choose` and `choose_all` (`Picked`): the row that goes is the pick",
+    "closing": "`close_up` (`closed-up`): the bytes once the slot has moved on",
+    "shifting": "`shift_chain` (`Shifts`): the bytes after a leap's shifts; `marks_by` (`Marks`): the marks for them",
+    "leap": "`send_picked` and `send_all` (`Sent-says`): what went out, and the bytes left",
+    "sender": "`send_sound` (`Sent-says`), and `flag_rows` (`Chosen`) beneath it",
+    "marks": "`mark_at` and `total_of`, equal to `mark` and `total`; `substitute_at` (`Substitutes`)",
+    "order": "`order_of` (`Ordered`): the plan's rows in canonical order",
+    "calls": "each public call: reply and bytes (`Says`), reply alone (`answer`, `substitute-answer`), the listing (`Lists`)",
+    "station": "each exported call: the packed reply (`pack`) and the bytes (`Exports`)",
+    "lines": "`read_command` (`read`), `payload` (`Part`), `write_line` (`Writes`), `line_end` (`Ends`), the reply writers (`Replies`)",
+    "turns": "`take_turn` (`Turns`), `answer_lines` (`Serves`), `keep_rest` (`Kept`)",
+}
+
+
+def first_lines():
+    """What each edit says of itself, by crate/label."""
+    said = {}
+    for path in sorted(TOP.glob("crates/*/must-fail/*.edit")):
+        first = path.read_text(encoding="utf-8").splitlines()[0]
+        if not re.fullmatch(r"# .{1,110}", first):
+            sys.exit(f"edits: {path.relative_to(TOP)} does not begin with a line `# ..` of at most 110 characters")
+        said[f"{path.parts[-3]}/{path.stem}"] = first[2:]
+    return said
+
+
+def table(head, rows):
+    return "\n".join(f"| {' | '.join(row)} |" for row in [head, ["---"] * len(head), *rows])
+
+
+def named(wrong, said):
+    """Rows of a table: a wrong program, and the edits that are one."""
+    for what, edits in wrong:
+        missing = [edit for edit in edits.split() if edit not in said]
+        if missing:
+            sys.exit(f"edits: no edit {', '.join(missing)}")
+        yield what, ", ".join(f"`{edit}`" for edit in edits.split())
+
+
+def page():
+    said = first_lines()
+    nearest, *others = named(BREAKAGES, said)
+    parts = [INTRODUCTION, "## What document 01 names, nearest first\n"]
+    parts += [table(("wrong program", "shown by"), [(nearest[0], PLAYED_OUT + nearest[1]), *others]) + "\n"]
+    parts += ["## Wrong programs of every kind\n", table(("wrong program", "edits"), named(KINDS, said)) + "\n"]
+    for crate in re.findall(r"^\s*(\w+)\s*:", (TOP / "crates.txt").read_text(encoding="utf-8"), re.M):
+        rows = [(f"`{edit.split('/')[1]}`", does) for edit, does in said.items() if edit.startswith(crate + "/")]
+        if rows:
+            parts += [f"## {crate}\n", f"Aimed at: {CONTRACTS[crate]}.\n", table(("edit", "what the wrong program does"), rows) + "\n"]
+    return "\n".join(parts)
+
+
+def main():
+    if sys.argv[1:] == ["--check"]:
+        if not DOC.is_file() or DOC.read_text(encoding="utf-8") != page():
+            sys.exit("edits: docs/EDITS.md is not what tests/edits.py writes")
+    else:
+        DOC.write_text(page(), encoding="utf-8")
+
+
+if __name__ == "__main__":
+    main()

@@ -2,7 +2,7 @@
 """Checks docs/AUDIT.md: every file that it names exists, and every name stands in the file named with it.
 
 A line's references are written "`name`, `name` in path"; "and in path" asks the same names of a further file; "Words" in path asks for that
-heading. Each line of a table must have a reference, or begin with *open*; open lines are told. Last line: 'N passed, M failed'.
+heading. Each line of a table must have a reference. Last line: 'N passed, M failed'.
 """
 import re
 import sys
@@ -34,24 +34,19 @@ def wrong_in(line):
 
 
 def main():
-    passed = failed = opened = 0
+    passed = failed = 0
     audit = (TOP / "docs" / "AUDIT.md").read_text(encoding="utf-8")
     for line in audit.splitlines():
         cells = [cell.strip() for cell in line.split("|")]
         if len(cells) < 4 or cells[1] == "requirement" or set(cells[1]) == {"-"}:
             continue
-        is_open = cells[1].startswith("*open*")
         wrong = list(wrong_in(line))
-        if not is_open and not re.search(PATH, line):
+        if not re.search(PATH, line):
             wrong.append("nothing is named")
         for what in wrong:
             print(f"audit: {cells[1]}: {what}")
-        if is_open:
-            print(f"audit: {cells[1]}")
-        opened += is_open
         failed += bool(wrong)
         passed += not wrong
-    print(f"audit: {passed + failed} requirements, {opened} open")
     print(f"{passed} passed, {failed} failed")
     sys.exit(failed != 0)
 

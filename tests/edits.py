@@ -51,7 +51,7 @@ KINDS = [
     ("refusal 5 given in the last slot", OVER),
     ("a listing whose count is not the plan's rows", "calls/list_count_of_all_rows"),
     ("a listing that touches an entry past the count", "calls/list_past_the_count"),
-    ("canonical order broken among equals", "order/later_ticket_first order/later_ticket_first_among_equals rules/tie_by_larger_ticket"),
+    ("canonical order broken among equals", "order/later_ticket_first rules/tie_by_larger_ticket"),
     ("a reader that takes lower-case digits", "lines/lower_case_digits_read"),
     ("a payload off by one digit", "lines/payload_off_by_one_digit"),
     ("a payload taken from a refused line", "lines/payload_of_a_refused_line"),

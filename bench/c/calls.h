@@ -9,9 +9,6 @@ enum call { SOUND, OPEN, TAKE, SEND, MARK, TOTAL, SUBSTITUTE, CALLS };
 
 extern const char *const call_names[CALLS];
 
-/* Whether the archive has it. */
-int has_call(enum call call);
-
 /* Whether its work depends on due slots and weights. */
 int has_shapes(enum call call);
 

@@ -25,7 +25,7 @@ static void shapes_of(struct cell cell, void (*measure)(const struct cell *cell)
 void for_each_cell(int quick, void (*measure)(const struct cell *cell))
 {
     for (int call = 0; call < CALLS; call++) {
-        for (int at = 0; at < 8 && has_call((enum call)call); at++) {
+        for (int at = 0; at < 8; at++) {
             const uint32_t rows = rows_tried[at / 2], slots = slots_tried[at % 2];
             if (!quick || (slots == 1024 && (rows == 16 || rows == 1024))) {
                 shapes_of((struct cell){(enum call)call, HALFOUT, rows, slots}, measure);

@@ -8,7 +8,7 @@ BENCH = Path(__file__).resolve().parent.parent
 ROOT = BENCH.parent
 TARGET = ROOT / "target" / "bench"
 LIBRARY = ROOT / "target" / "staticlib" / "libstation.a"
-CALLS = {"open", "take", "send", "mark", "total", "substitute"}
+CALLS = ("open", "take", "send", "mark", "total", "substitute")
 
 
 class Failed(Exception):
@@ -46,20 +46,11 @@ def tuned():
     return target / "release" / "libtuned.a"
 
 
-def calls_of(archive):
-    """The calls whose symbols the archive defines. (nm would hand objects with LLVM's bitcode to a plugin.)"""
-    listed = said("readelf", "--symbols", "--wide", archive)
-    parts = (line.split() for line in listed.splitlines() if " lirvedd_" in line)
-    symbols = {words[7] for words in parts if words[4] == "GLOBAL" and words[6] != "UND"}
-    return {call for call in CALLS if f"lirvedd_{call}" in symbols}
-
-
-def program(name, archive, calls):
+def program(name, archive):
     """The measuring program linked with an archive. Everything is bound at its start, so that no call pays for that."""
     TARGET.mkdir(parents=True, exist_ok=True)
     made = TARGET / f"measure_{name}"
     sources = sorted((BENCH / "c").glob("*.c"))
-    has = [f"-DHAS_{call.upper()}" for call in sorted(calls)]
-    strict = ["-std=gnu11", "-O2", "-Wall", "-Wextra", "-Werror"]
-    said("gcc", *strict, *has, *sources, archive, "-Wl,-z,now", "-lgcc_s", "-o", made)
+    strict = ["-std=gnu11", "-O2", "-Wall", "-Wextra", "-Werror", f"-I{ROOT / 'include'}"]
+    said("gcc", *strict, *sources, archive, "-Wl,-z,now", "-lgcc_s", "-o", made)
     return made

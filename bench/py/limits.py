@@ -79,8 +79,8 @@ def same_answers(library, tuned):
 
 
 def judge(library, tuned, whole):
-    """Prints each limit with its verdict; those of a call that the library lacks, of cells left out, or of a program
-    that is not built, are not judged. Returns whether all hold."""
+    """Prints each limit with its verdict; those of cells left out, or of a program that is not built,
+    are not judged. Returns whether all hold."""
     print("\nLimits")
     every = [*against_best(tuned), *against_tuned(library, tuned), *against_fewer_slots(library), *stacks(library),
              *against_calls(whole)]

@@ -4,13 +4,13 @@ import re
 import shutil
 from collections import namedtuple
 
-from build import CALLS, TARGET, calls_of, program, said
+from build import CALLS, TARGET, program, said
 
 # Callgrind counts an instruction that repeats, as memset and memmove may use, once a byte: they are to do without it.
 ONCE = {"GLIBC_TUNABLES": "glibc.cpu.x86_rep_stosb_threshold=99999999:glibc.cpu.x86_rep_movsb_threshold=99999999"}
 
 Cell = namedtuple("Cell", "call shape rows slots")
-Side = namedtuple("Side", "calls instructions digest time stack")
+Side = namedtuple("Side", "instructions digest time stack")
 
 
 def cell(text):
@@ -29,7 +29,7 @@ def counted(made, words):
     dumps = TARGET / f"{made.name}_dumps"
     shutil.rmtree(dumps, ignore_errors=True)
     dumps.mkdir()
-    toggles = [f"--toggle-collect=lirvedd_{call}" for call in sorted(CALLS)]
+    toggles = [f"--toggle-collect=lirvedd_{call}" for call in CALLS]
     out = f"--callgrind-out-file={dumps}/out"
     printed = said("valgrind", "--tool=callgrind", out, *toggles, made, "count", *words, env=os.environ | ONCE)
     totals = dict(filter(None, map(dumped, dumps.glob("out.*"))))
@@ -48,10 +48,9 @@ def dumped(dump):
 
 
 def side(name, archive, quick):
-    calls = calls_of(archive)
-    made = program(name, archive, calls)
+    made = program(name, archive)
     words = ["quick"] if quick else []
     instructions, digest = counted(made, words)
     time = {at: float(number) for at, (number,) in lines(said(made, "clock", *words)).items()}
     stack = {at: int(number) for at, (number,) in lines(said(made, "stack")).items()}
-    return Side(calls, instructions, digest, time, stack)
+    return Side(instructions, digest, time, stack)

@@ -38,11 +38,11 @@ BREAKAGES = [
 KINDS = [
     ("a sender always silent", "calls/always_silent"),
     ("the canonical first instead of the pick", "pick/canonical_first_instead_of_the_pick rules/canonical_first"),
-    ("the heaviest instead of the pick", "pick/the_heaviest_goes"),
+    ("the heaviest instead of the pick", "pick/the_heaviest_goes rules/the_heaviest_goes"),
     ("φ by a smaller Fibonacci pair", "pick/smaller_fibonacci_pair rules/golden_ratio_near"),
     ("r raised without shifting the h frames", "shifting/links_not_shifted"),
     ("a raised blank dropped", "leap/raised_blank_dropped rules/raised_blank_dropped"),
-    ("the lightest instead of the heaviest h", "shifting/lightest_link"),
+    ("the lightest instead of the heaviest h", "shifting/lightest_link rules/lightest_shifted"),
     ("a mark that ignores the first tight slot", "marks/mark_ignores_the_first_tight_slot"),
     ("a substitute from before the tight slot", "marks/substitute_from_before_the_tight_slot"),
     ("a sender that forgets to move the slot on", "closing/slot_not_moved_on"),
@@ -76,6 +76,7 @@ CONTRACTS = {
     "station": "each exported call: the packed reply (`pack`) and the bytes (`Exports`)",
     "lines": "`read_command` (`read`), `payload` (`Part`), `write_line` (`Writes`), `line_end` (`Ends`), the reply writers (`Replies`)",
     "turns": "`take_turn` (`Turns`), `answer_lines` (`Serves`), `keep_rest` (`Kept`)",
+    "stationround": "`serve` (`Rests`): no complete line is held back",
 }
 
 

@@ -7,6 +7,7 @@ use borrow.Author.Needs.{needs}
 use Rattle.lines.specs.Cases.{command-of, reading-of}
 use Rattle.lines.specs.Ends.{Ends, First}
 use Rattle.turns.specs.Serving.{Serving}
+use Rattle.turns.proofs.Said.{said-by}
 use Rattle.turns.proofs.Served.{put-line, reply-within, serving-none, serving-more, served-broken, served-so-far}
 use Rattle.turns.proofs.serving.answer_lines.Statement.{statement}
 use Rattle.turns.proofs.serving.answer_lines.Tie as tie
@@ -103,7 +104,7 @@ returns-2 c =
     let line = c .before .before .before .before .before .before in
     let told = ap reading-of (c .before .before .before .before .enum-told2 .given .1) in
     served-broken (line .before .before .before .before .before .before .before .loop .inv .0) (here (line .before .before)) (cc (told, line .read-command .ensures)) (search needs)
-    (put-line (search needs) (c .before .before .write-refusal .ensures) (search needs))
+    (put-line (search needs) (said-by (c .before .before .write-refusal .ensures) (search needs)) (search needs))
 
 sub-take-turn : tie.Need-sub-take-turn Inv-loop μ-loop
 sub-take-turn c = search needs

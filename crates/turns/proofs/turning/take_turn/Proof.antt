@@ -42,9 +42,11 @@ same-length-2 c = search needs
 returns : tie.Need-returns
 unfolding call-of
 returns c =
+    let told = c .before .before .before .before .before .before .before .before .before .command .given .1 in
+    let call = c .before .before .before .before .before .before .open-round .ensures in
     record {
-      said = said-by (c .before .before .say-opened .ensures) (rw (c .before .before .before .before .before .before .before .before .before .command .given .1) (ap reply-text (c .before .before .before .before .before .before .open-round .ensures .0)));
-      moved = rw (c .before .before .before .before .before .before .before .before .before .command .given .1) (c .before .before .before .before .before .before .open-round .ensures .1);
+      said = said-by (c .before .before .say-opened .ensures) (rw told (ap reply-text (cc (call .0))));
+      moved = rw told (cc (call .1));
     }
 
 same-length-3 : tie.Need-same-length-3
@@ -56,9 +58,11 @@ same-length-4 c = search needs
 returns-2 : tie.Need-returns-2
 unfolding call-of
 returns-2 c =
+    let told = c .before .before .before .before .before .before .before .before .before .command2 .given .1 in
+    let call = c .before .before .before .before .before .before .take-frame .ensures in
     record {
-      said = said-by (c .before .before .say-taken .ensures) (rw (c .before .before .before .before .before .before .before .before .before .command2 .given .1) (ap reply-text (c .before .before .before .before .before .before .take-frame .ensures .0)));
-      moved = rw (c .before .before .before .before .before .before .before .before .before .command2 .given .1) (c .before .before .before .before .before .before .take-frame .ensures .1);
+      said = said-by (c .before .before .say-taken .ensures) (rw told (ap reply-text (cc (call .0))));
+      moved = rw told (cc (call .1));
     }
 
 same-length-5 : tie.Need-same-length-5
@@ -70,9 +74,11 @@ same-length-6 c = search needs
 returns-3 : tie.Need-returns-3
 unfolding call-of
 returns-3 c =
+    let told = c .before .before .before .before .before .before .before .before .enum-told .given .1 in
+    let call = c .before .before .before .before .before .before .send-slot .ensures in
     record {
-      said = said-by (c .before .before .say-sent .ensures) (rw (c .before .before .before .before .before .before .before .before .enum-told .given .1) (ap reply-text (c .before .before .before .before .before .before .send-slot .ensures .0)));
-      moved = rw (c .before .before .before .before .before .before .before .before .enum-told .given .1) (c .before .before .before .before .before .before .send-slot .ensures .1);
+      said = said-by (c .before .before .say-sent .ensures) (rw told (ap reply-text (cc (call .0))));
+      moved = rw told (cc (call .1));
     }
 
 pub take-turn-spec : {M : Type 1} → statement M

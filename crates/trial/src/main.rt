@@ -2,12 +2,14 @@
 ghost use mathlib.Core.Path.{_≡_};
 ghost use Prim.Native.Nat.{_≤_};
 ghost use lib.ListN.{length};
+use crate::listing::try_list;
 use crate::reading::try_read;
 use crate::writing::try_write;
 use libc::STDIN_FILENO;
 use libc::STDOUT_FILENO;
 use round::bytes::read4;
 
+mod listing; // listing.rt: the listing
 mod writing; // writing.rt: the line writer
 mod reading; // reading.rt: the command, and the payload with its place
 
@@ -20,6 +22,8 @@ pub struct Request {
     pub slot: u32,
     pub weight: u32,
 }
+
+const LIST: u32 = 0;
 
 const WRITE: u32 = 1;
 
@@ -91,6 +95,10 @@ fn outcome(request: Request, body: &[u8], out: &mut [u8]) -> usize
 {
     let kind = request.kind;
     match kind {
+        LIST => {
+            let room = request.room;
+            try_list(body, room, out)
+        }
         WRITE => try_write(request, body, out),
         READ => try_read(body, out),
         _ => 0,

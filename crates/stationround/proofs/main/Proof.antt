@@ -1,7 +1,6 @@
 -- `stationround::main` is safe and ends: the bytes held are within the buffer, and the turns that are left fall. Assumes nothing.
 use mathlib.Core.Path.{_≡_}
 use Prim.Native.Nat.{_≤_}
-use native.Mathlib.Omega.{arith}
 use lib.ListN.{length}
 use borrow.Author.Needs.{needs}
 use Rattle.stationround.proofs.main.Statement.{statement}

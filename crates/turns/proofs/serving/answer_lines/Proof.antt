@@ -1,5 +1,5 @@
 -- `turns::serving::answer_lines` meets its contract: the lines so far are answered; what is left of the input falls. Assumes nothing.
-use mathlib.Core.Path.{_≡_, refl, sym, ap, subst, _∙_}
+use mathlib.Core.Path.{_≡_, refl, ap, subst}
 use Prim.Native.Nat.{_-_}
 use native.Mathlib.Omega.{arith}
 use lib.ListN.{length}

@@ -1,5 +1,4 @@
 -- `turns::serving::keep_rest` meets its contract: the first i bytes are moved; what is left of the count falls. Assumes nothing.
-use native.Mathlib.Omega.{arith}
 use Rattle.turns.proofs.Moved.{moving-none, moving-more, moved}
 use Prim.Native.Nat.{_-_, _≤_}
 use Rattle.turns.proofs.Moved.{Moving}

@@ -44,7 +44,7 @@ same-length : tie.Need-same-length
 same-length c = search needs
 
 returns : tie.Need-returns
-returns c = search (closed-written, needs)
+returns c = closed-written (c .before .before .before .before .before .before .before .before .before .before .before .before .before .before .before .before .before .before .before .before .pre .0) (c .before .before .before .before .before .before .before .before .before .before .before .before .before .before .before .before .before .before .before .before .pre .1) (search needs) (c .before .before .before .before .before .before .before .before .before .before .before .before .before .before .before .before .close-rows .ensures) (c .before .before .before .before .before .before .before .before .before .before .before .before .row-at2 .ensures) (c .before .before .before .before .before .before .before .before .before .before .before .before .before .row-at .ensures) (c .before .before .before .before .before .before .before .before .before .before .clear .ensures) (c .before .before .before .before .before .before .write2 .ensures) (c .before .before .write22 .ensures)
 
 pub close-up-spec : {M : Type 1} → statement M
 close-up-spec =

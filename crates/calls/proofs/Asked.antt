@@ -49,7 +49,10 @@ module _ (t : List ℕ) (h : Head) (sound : table-refusal t ≡ 0) (head : Head-
       unfolding round-refusal mark-refusal round-in round
       mark-before f =
           by-round (marking s) t (judges 0 0 s .2) sound
-          ∙ rw (le-ltb (round-in t .last) (round-in t .slot) (omega (arith, e, head .slot, head .last)), lt-ltb s (round-in t .slot) (omega (arith, f, head .slot)))
+          ∙ rw (
+            le-ltb (round-in t .last) (round-in t .slot) (omega (arith, e, head .slot, head .last)),
+            lt-ltb s (round-in t .slot) (omega (arith, f, head .slot)),
+          )
 
       pub mark-after : h .slot .0 ≤ s → h .last .0 < s → refusal (marking s) t ≡ 7
       unfolding round-refusal mark-refusal round-in round
@@ -79,5 +82,6 @@ far-is-zero t h x r c s a b e =
     let k = known t h r in
     let f = k .fine in
     let z = leb-true (x .free) (s - h .slot .0) e in
-    sym (far-mark (round-in t) f (planned (round-in t)) (certified-found (round-in t) f (flags (plan (round-in t)) (round-in t .rows)) (plan-certified (round-in t) f))
+    sym (far-mark (round-in t) f (planned (round-in t)) (certified-found (round-in t) f (flags (plan (round-in t)) (round-in t .rows))
+    (plan-certified (round-in t) f))
     (round-in t .slot + x .free) (c .near) s (omega (arith, a, z, k .slot)) (omega (arith, b, k .last)))

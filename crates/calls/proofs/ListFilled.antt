@@ -33,12 +33,14 @@ module _ (t xs : List ℕ) (rows : List Row) (es : List Entry) (room : length ro
       let ys = map entry (take n rows) in
       let e = entry (getD rows n (blank 0)) in
       let l : length ys ≡ n = length-map (take n rows) entry ∙ length-take-le n rows (omega arith) in
-      ap (λ (zs : List Entry). set zs n (entry (row-in t (getD xs n 0)))) (filled-part n (omega arith) ∙ ap (λ (zs : List Entry). ys ++ zs) (drop-cons es n d (omega arith)))
+      ap (λ (zs : List Entry). set zs n (entry (row-in t (getD xs n 0)))) (filled-part n (omega arith)
+      ∙ ap (λ (zs : List Entry). ys ++ zs) (drop-cons es n d (omega arith)))
       ∙ ap (λ (x : Row). set (ys ++ (getD es n d ∷ drop (suc n) es)) n (entry x)) (is n (omega arith))
       ∙ ap (λ (m : ℕ). set (ys ++ (getD es n d ∷ drop (suc n) es)) m e) (sym l)
       ∙ set-behind ys (drop (suc n) es) (getD es n d) e
       ∙ sym (append-assoc ys (e ∷ []) (drop (suc n) es))
-      ∙ ap (λ (zs : List Entry). zs ++ drop (suc n) es) (sym (ap (map entry) (take-suc rows n (blank 0) (omega arith)) ∙ map-append entry (take n rows) (getD rows n (blank 0) ∷ [])))
+      ∙ ap (λ (zs : List Entry). zs ++ drop (suc n) es) (sym (ap (map entry) (take-suc rows n (blank 0) (omega arith))
+      ∙ map-append entry (take n rows) (getD rows n (blank 0) ∷ [])))
 
   pub filled-all : filled (length rows) t xs es ≡ map entry rows ++ drop (length rows) es
   filled-all =

@@ -56,12 +56,15 @@ refused-says t room n l e h g =
 pub table-says : (t : List ℕ) (room n : ℕ) (l : Listing) → (n ≡ table-refusal t) × (n ≡ 0 → ⊥) → Nothing-listed n l → Listing-says t room l
 table-says t room n l j g = refused-says t room n l (list-table t room n (j .0) (j .1)) (j .1) g
 
-pub over-says : (t : List ℕ) (h : Round) (room : ℕ) (l : Listing) → (table-refusal t ≡ 0) × Head-of t h → h .last .0 < h .slot .0 → Nothing-listed 5 l → Listing-says t room l
+pub over-says : (t : List ℕ) (h : Round) (room : ℕ) (l : Listing) → (table-refusal t ≡ 0) × Head-of t h → h .last .0 < h .slot .0 →
+    Nothing-listed 5 l → Listing-says t room l
 unfolding round-in round
 over-says t h room l k e g = refused-says t room 5 l (list-over t room (k .0) (omega (arith, k .1 .slot, k .1 .last))) (λ z. omega (arith, z)) g
 
-pub short-says : (t : List ℕ) (h : Round) (room : ℕ) (o : Order) (l : Listing) → Ready t h → Ordered (round-in t) o → room < o .count → Nothing-listed 12 l → Listing-says t room l
-short-says t h room o l k d e g = refused-says t room 12 l (list-short t room (k .sound) (known t h k .time) (omega (arith, d .count))) (λ z. omega (arith, z)) g
+pub short-says : (t : List ℕ) (h : Round) (room : ℕ) (o : Order) (l : Listing) → Ready t h → Ordered (round-in t) o → room < o .count →
+    Nothing-listed 12 l → Listing-says t room l
+short-says t h room o l k d e g = refused-says t room 12 l (list-short t room (k .sound) (known t h k .time) (omega (arith, d .count)))
+    (λ z. omega (arith, z)) g
 
 -- ACCEPTED: the rows in their order
 pub accepted-says : (t : List ℕ) (h : Round) (room : ℕ) (o : Order) (l : Listing) → Ready t h → Ordered (round-in t) o → o .count ≤ room →
@@ -72,7 +75,10 @@ accepted-says t h room o l k d fit x y z =
       reply = ap of-listed x ∙ rw (f, ← d .count);
       fits = omega (arith, y, fit);
       few = omega (arith, y, d .few);
-      row = λ i a. rw z (omega (arith, y, a, d .within i (omega (arith, y, a)), n .small), reads-within t h k (getD (o .at) i 0) (omega (arith, d .within i (omega (arith, y, a)), n .used)) .1);
+      row = λ i a. rw z (
+        omega (arith, y, a, d .within i (omega (arith, y, a)), n .small),
+        reads-within t h k (getD (o .at) i 0) (omega (arith, d .within i (omega (arith, y, a)), n .used)) .1,
+      );
       left = λ es a.
           rw (y, z, a, f, d .count)
           (filled-all t (o .at) (listed (round-in t)) es (omega (arith, d .count))

@@ -61,7 +61,8 @@ module _ (t : List ℕ) (h : Head) (ready : Ready t h) (fs : List ℕ) (c : Chos
     unfolding stand-in
     stands-row j k s e =
         let u = known t h ready .fine .rising in
-        let m : 1 ≤ at (round-in t) j .ticket = rising-above 1 (round-in t .next) (at (round-in t) j) (round-in t .rows) u (getD-in (round-in t .rows) (blank 0) j (s .0)) in
+        let m : 1 ≤ at (round-in t) j .ticket = rising-above 1 (round-in t .next) (at (round-in t) j) (round-in t .rows) u
+        (getD-in (round-in t .rows) (blank 0) j (s .0)) in
         rw (planned-by ∙ eq-eqb (getD fs i 0) 1 f, s .1, ne-eqb (at (round-in t) j .ticket) 0 (λ z. omega (arith, z, m))) (ap ticket e)
 
     pub stands-blank : (s : ℕ) → substitute (round-in t) (plan (round-in t)) (at (round-in t) i) ≡ blank s → Stands (round-in t) i (blank-due s)

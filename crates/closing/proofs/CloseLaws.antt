@@ -195,7 +195,8 @@ module _ (k : ℕ) (t w : List ℕ) (n : ℕ) (e : table-refusal t ≡ 0) (q : C
       ap₂ (λ (us : List ℕ) (m : ℕ). (us ++ replicate m 0) ++ drop (row-at (length (r .rows))) w) front-is between-is
       ∙ ap (λ (us : List ℕ). ((hd₀ ++ rows-bytes ks) ++ bs) ++ us) behind-is
       ∙ append-assoc (hd₀ ++ rows-bytes ks) bs zs₀
-      ∙ ap (λ (us : List ℕ). (hd₀ ++ rows-bytes ks) ++ us) (zeros-join (length ks) (length (r .rows)) (r .room) (length-closed (suc (r .slot)) k (r .rows)) (h .long))
+      ∙ ap (λ (us : List ℕ). (hd₀ ++ rows-bytes ks) ++ us) (zeros-join (length ks) (length (r .rows)) (r .room)
+      (length-closed (suc (r .slot)) k (r .rows)) (h .long))
       ∙ append-assoc hd₀ (rows-bytes ks) (replicate (24 * (r .room - length ks)) 0)
 
   pub closed-table : (v x : List ℕ) (from end : ℕ) → from ≡ row-at n → end ≡ row-at (length (r .rows)) →

@@ -23,7 +23,8 @@ copied8 t a b h k =
     let q : b + 0 ≡ b = omega arith in
     let first : set t a (getD t b 0) ≡ paste t a (drop b t) 1 =
     ap₂ (λ (m n : ℕ). set t m (getD t n 0)) (sym p) (sym q) ∙ copied-more t t a b 0 h (omega arith) (paste-zero t a (drop b t)) in
-    more 7 _ (omega arith) (more 6 _ (omega arith) (more 5 _ (omega arith) (more 4 _ (omega arith) (more 3 _ (omega arith) (more 2 _ (omega arith) (more 1 _ (omega arith) first))))))
+    more 7 _ (omega arith) (more 6 _ (omega arith)
+    (more 5 _ (omega arith) (more 4 _ (omega arith) (more 3 _ (omega arith) (more 2 _ (omega arith) (more 1 _ (omega arith) first))))))
   where
     more : (j : ℕ) (u : List ℕ) → j < 8 → u ≡ paste t a (drop b t) j → set u (a + j) (getD t (b + j) 0) ≡ paste t a (drop b t) (suc j)
     more j u l e = copied-more t u a b j h (omega arith) e
@@ -40,7 +41,8 @@ paste-next t u a b m n h k e =
     let from : drop (b + m) u ≡ drop m s = ap (λ (x : ℕ). drop x u) (sym e1) ∙ behind (b - a) ∙ ap (λ (x : ℕ). drop x t) e1 ∙ sym (drop-drop m b t) in
     ap₂ (λ (xs ys : List ℕ). xs ++ ys ++ drop (a + m + n) u) front (ap (take n) from)
     ∙ ap (λ (zs : List ℕ). (take a t ++ take m s) ++ take n (drop m s) ++ zs) (behind n ∙ ap (λ (x : ℕ). drop x t) e2)
-    ∙ ap (λ (zs : List ℕ). zs ++ drop (a + (m + n)) t) (append-assoc (take a t) (take m s) (take n (drop m s)) ∙ ap (λ (ys : List ℕ). take a t ++ ys) (sym (take-add m n s)))
+    ∙ ap (λ (zs : List ℕ). zs ++ drop (a + (m + n)) t) (append-assoc (take a t) (take m s) (take n (drop m s))
+    ∙ ap (λ (ys : List ℕ). take a t ++ ys) (sym (take-add m n s)))
   where
     behind : (x : ℕ) → drop (a + m + x) u ≡ drop (a + m + x) t
     behind x =

@@ -37,7 +37,8 @@ use Rattle.shifting.proofs.MoveLaws.{table-kept}
 use Rattle.leap.proofs.StandLaws.{Stood, stood, stood-closed, alone-closed, self-table, sent-says, fit-self, fit-changed}
 
 -- what went out, as read
-pub went-read : (t : List ℕ) (h : Head) → Ready t h → (i a n b : ℕ) (leaps : Bool) → i < h .used → a ≡ row-at i → n ≡ field (a + 0) 4 t → b ≡ getD t (a + 10) 0 →
+pub went-read : (t : List ℕ) (h : Head) → Ready t h → (i a n b : ℕ) (leaps : Bool) → i < h .used → a ≡ row-at i → n ≡ field (a + 0) 4 t →
+    b ≡ getD t (a + 10) 0 →
     Went-of (at (round-in t) i) leaps (record { leap = leaps; ticket = record { 0 = n }; kind = b })
 unfolding row
 went-read t h k i a n b leaps l e f g =
@@ -55,11 +56,13 @@ pub named-row : {t : List ℕ} {h : Head} → Ready t h → (i o : ℕ) → i < 
 named-row {t} {h} k i o l e =
     ap row-named e ∙ key-index (at (round-in t) i .weight) (at (round-in t) i .due) i (omega (arith, l, known t h k .small))
 
-pub named-used : {t : List ℕ} {h : Head} → (k : Ready t h) → (i o : ℕ) → i < length (round-in t .rows) → o ≡ key-at (round-in t) i → {a : ℕ} → a ≡ row-named o → a < h .used
+pub named-used : {t : List ℕ} {h : Head} → (k : Ready t h) → (i o : ℕ) → i < length (round-in t .rows) → o ≡ key-at (round-in t) i → {a : ℕ} →
+    a ≡ row-named o → a < h .used
 named-used {t} {h} k i o l e q = omega (arith, q, named-row k i o l e, l, known t h k .used)
 
 -- its bytes are there
-pub named-there : {t : List ℕ} {h : Head} → (k : Ready t h) → (i o : ℕ) → i < length (round-in t .rows) → o ≡ key-at (round-in t) i → {a : ℕ} → a ≡ row-named o →
+pub named-there : {t : List ℕ} {h : Head} → (k : Ready t h) → (i o : ℕ) → i < length (round-in t .rows) → o ≡ key-at (round-in t) i → {a : ℕ} →
+    a ≡ row-named o →
     (a < 1024) × (row-at (suc a) ≤ length t)
 named-there {t} {h} k i o l e {a} q =
     let n = known t h k in
@@ -69,7 +72,8 @@ named-there {t} {h} k i o l e {a} q =
 pub head-first : (t : List ℕ) (h : Head) → Ready t h → (b : ℕ) → h .slot .0 + b ≡ round-in t .slot + b
 head-first t h k b = ap (λ (s : ℕ). s + b) (known t h k .slot)
 
-pub by-slot : (t : List ℕ) (h : Head) → Ready t h → (fs : List ℕ) (e m : ℕ) → Least-by (round-in t) fs (h .slot .0 + e) m → Least-by (round-in t) fs (round-in t .slot + e) m
+pub by-slot : (t : List ℕ) (h : Head) → Ready t h → (fs : List ℕ) (e m : ℕ) → Least-by (round-in t) fs (h .slot .0 + e) m →
+    Least-by (round-in t) fs (round-in t .slot + e) m
 by-slot t h k fs e m q = subst (λ (s : ℕ). Least-by (round-in t) fs (s + e) m) (known t h k .slot) q
 
 -- SILENCE
@@ -118,7 +122,8 @@ module _ {t : List ℕ} {h : Head} {fs : List ℕ} {x : Reach} {pk : Pick} (w : 
         below = p .leading .below;
         key = p .leading .key;
         sends =
-            sends-first r (going-scene .fine) (going-scene .time) (with-flag r fs) going-rows (r .slot + x .free) (w .reach .near) (at r (p .row)) (p .leading .leads) (p .last)
+            sends-first r (going-scene .fine) (going-scene .time) (with-flag r fs) going-rows (r .slot + x .free) (w .reach .near) (at r (p .row))
+            (p .leading .leads) (p .last)
             (p .within .near) (p .within .segment) (p .within .by);
       }
 
@@ -132,7 +137,8 @@ module _ {t : List ℕ} {h : Head} {fs : List ℕ} {x : Reach} {pk : Pick} (w : 
         below = p .leading .below;
         key = p .leading .key;
         sends =
-            sends-far r (going-scene .fine) (going-scene .time) (with-flag r fs) going-rows (r .slot + x .free) (w .reach .near) (at r (p .row)) (p .leading .leads) (p .far);
+            sends-far r (going-scene .fine) (going-scene .time) (with-flag r fs) going-rows (r .slot + x .free) (w .reach .near) (at r (p .row))
+            (p .leading .leads) (p .far);
       }
 
   -- the same with the pick taken apart
@@ -165,7 +171,8 @@ module _ {t : List ℕ} {h : Head} {x : Reach} {pk : Pick} (w : Goes-by t h (eve
   none-swapped {k} {b} {e} {o} d =
       let r = round-in t in
       let q = going-as w d .picked .1 in
-      false≢true (sym (q .outside) ∙ flag-is r (every r) x (going-scene w) (q .row) (q .below) ∙ raised-at (every r) (q .row) (omega (arith, q .below, length-replicate {A = ℕ} (length (r .rows)) 1))
+      false≢true (sym (q .outside) ∙ flag-is r (every r) x (going-scene w) (q .row) (q .below)
+      ∙ raised-at (every r) (q .row) (omega (arith, q .below, length-replicate {A = ℕ} (length (r .rows)) 1))
       ∙ ap (λ (m : ℕ). eqb m 1) (getD-replicate (length (r .rows)) (q .row) 1 0 (q .below)))
 
 -- THE BLANK KEPT
@@ -205,7 +212,8 @@ module _ {t : List ℕ} {h : Head} {fs : List ℕ} {x : Reach} {o b e : ℕ} (g 
     kept-sends =
         let z = going-scene g in
         subst (λ (v : ℕ). Sends r (at r i) false 0 (changed (at r i .ticket) (row (at r i .ticket) (r .slot + b) v 1) (r .rows))) (light .weight)
-        (sends-kept r (z .fine) (z .time) rs (going-rows g) (r .slot + x .free) (g .reach .near) (at r i) (p .leading .leads) (r .slot + b) (r .slot + e) (p .within .near)
+        (sends-kept r (z .fine) (z .time) rs (going-rows g) (r .slot + x .free) (g .reach .near) (at r i) (p .leading .leads) (r .slot + b)
+        (r .slot + e) (p .within .near)
         (p .within .segment) (p .later) (p .within .from) (p .within .by) (g .picked .1) (light .row) (light .inside) (light .due) (light .least))
 
     pub kept-stood : {u : List ℕ} → u ≡ sets t (row-at j + 4) ((low 2 (h .slot .0 + b) ++ low 4 m) ++ (1 ∷ [])) →
@@ -217,14 +225,18 @@ module _ {t : List ℕ} {h : Head} {fs : List ℕ} {x : Reach} {o b e : ℕ} (g 
         let v = of-rows-fine r (z .fine) rs (going-rows g) (light .row) (light .inside) in
         stood t h (changed (at r i .ticket) (row (at r i .ticket) (r .slot + b) m 1) (r .rows)) u (g .ready)
         (fit-changed r (r .rows) (at r i .ticket) (row (at r i .ticket) (r .slot + b) m 1) (fit-self r (sound t (g .ready .sound) .sane)) refl
-        (omega arith, omega (arith, p .within .from, fine-at r fs x z i l .1), omega (arith, v .2, light .weight), omega (arith, v .3, light .weight)) (omega arith))
+        (omega arith, omega (arith, p .within .from, fine-at r fs x z i l .1), omega (arith, v .2, light .weight), omega (arith, v .3, light .weight))
+        (omega arith))
         (a
-        ∙ ap₂ (λ (n d : ℕ). sets t (row-at n + 4) ((low 2 d ++ low 4 m) ++ (1 ∷ []))) (f ∙ named-row (g .ready) i o l (p .leading .key)) (head-first t h (g .ready) b)
+        ∙ ap₂ (λ (n d : ℕ). sets t (row-at n + 4) ((low 2 d ++ low 4 m) ++ (1 ∷ []))) (f ∙ named-row (g .ready) i o l (p .leading .key))
+        (head-first t h (g .ready) b)
         ∙ ap (λ (bs : List ℕ). sets bs (row-at i + 4) ((low 2 (r .slot + b) ++ low 4 m) ++ (1 ∷ []))) (self-table t (g .ready .sound))
         ∙ sym (table-kept r (r .rows) 1 i (z .fine .rising) l (r .slot + b) m))
 
-    pub kept-says : {u v : List ℕ} {w : Went} {n : ℕ} → u ≡ sets t (row-at j + 4) ((low 2 (h .slot .0 + b) ++ low 4 m) ++ (1 ∷ [])) → Went-of (at r j) true w → v ≡ closed-up n u → n ≡ 0 → Sent-says t v w
+    pub kept-says : {u v : List ℕ} {w : Went} {n : ℕ} → u ≡ sets t (row-at j + 4) ((low 2 (h .slot .0 + b) ++ low 4 m) ++ (1 ∷ [])) →
+        Went-of (at r j) true w → v ≡ closed-up n u → n ≡ 0 → Sent-says t v w
     kept-says {u} {v} {w} a d s z =
         sent-says t h (g .ready) (at r i) true 0 (changed (at r i .ticket) (row (at r i .ticket) (r .slot + b) m 1) (r .rows)) v w kept-sends
-        (stood-closed t h (changed (at r i .ticket) (row (at r i .ticket) (r .slot + b) m 1) (r .rows)) u v 0 (kept-stood a) (s ∙ ap (λ (n : ℕ). closed-up n u) z))
+        (stood-closed t h (changed (at r i .ticket) (row (at r i .ticket) (r .slot + b) m 1) (r .rows)) u v 0 (kept-stood a) (s
+        ∙ ap (λ (n : ℕ). closed-up n u) z))
         (subst (λ (n : ℕ). Went-of (at r n) true w) (f ∙ named-row (g .ready) i o (p .leading .below) (p .leading .key)) d)

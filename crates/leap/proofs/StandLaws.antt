@@ -97,14 +97,16 @@ flipped : (b : Bool) (x y : Step) → cond (not b) x y ≡ cond b y x
 flipped true x y = refl
 flipped false x y = refl
 
-pub sent-says : (t : List ℕ) (h : Head) → Ready t h → (p : Row) (leaps : Bool) (g : ℕ) (xs : List Row) (v : List ℕ) (w : Went) → Sends (round-in t) p (not leaps) g xs →
+pub sent-says : (t : List ℕ) (h : Head) → Ready t h → (p : Row) (leaps : Bool) (g : ℕ) (xs : List Row) (v : List ℕ) (w : Went) →
+    Sends (round-in t) p (not leaps) g xs →
     v ≡ table (after-slot (round-in t) (closed (suc (round-in t .slot)) g xs)) → Went-of p leaps w → Sent-says t v w
 unfolding went-step went-out out-of row
 sent-says t h k p leaps g xs v w s e d =
     let o : round-in t .slot ≤ round-in t .last = omega (arith, k .time, known t h k .slot, known t h k .last) in
     record {
       leaves = e ∙ sym (ap table (s .leaves)) ∙ sym (left-sent t (k .sound) o);
-      answers = sends-answer t p (not leaps) g xs (k .sound) o s ∙ ap step (flipped leaps (ordinary (out-of p)) (leap (out-of p)) ∙ (rw (d .leap, d .ticket, d .kind)));
+      answers = sends-answer t p (not leaps) g xs (k .sound) o s ∙ ap step (flipped leaps (ordinary (out-of p)) (leap (out-of p))
+          ∙ (rw (d .leap, d .ticket, d .kind)));
     }
 
 -- ROWS THAT FIT: the round's own, one changed, and those of a chain moved
@@ -120,7 +122,8 @@ fit-changed r xs k y f e a b =
       long = length-changed k y xs ∙ f .long;
     }
 
-pub fit-moves : (r : Round) (z : Sane r) (rs : List Row) (c : Rows r rs) (e g : ℕ) (hs xs : List Row) → Chain r rs e g hs → r .slot ≤ e → e ≤ r .last → Rows-fit r xs →
+pub fit-moves : (r : Round) (z : Sane r) (rs : List Row) (c : Rows r rs) (e g : ℕ) (hs xs : List Row) → Chain r rs e g hs → r .slot ≤ e →
+    e ≤ r .last → Rows-fit r xs →
     Rows-fit r (moves r e hs xs)
 unfolding moves moved-to row mark
 fit-moves r z rs c e g [] xs k a b f = f

@@ -136,8 +136,10 @@ module _ {t : List ℕ} {h : Head} {fs : List ℕ} {x : Reach} {cs ks : List ℕ
 
     y-segment : Segment r rs (r .slot + st .first) (r .slot + to)
     y-segment =
-        segment-made r (sc .fine) (top-of r) (x .over) (x .free) (omega (arith, sc .time)) (enough r (sc .time)) (nt .goes .reach .sweep) rs the-rows (st .first) to
-        (omega (arith, f .from, f .by)) (f .near) (sums (st .first) (omega (arith, f .from, f .by, f .near)) (f .edge)) (sums (suc to) (omega (arith, f .near)) (f .end))
+        segment-made r (sc .fine) (top-of r) (x .over) (x .free) (omega (arith, sc .time)) (enough r (sc .time)) (nt .goes .reach .sweep) rs the-rows
+        (st .first) to
+        (omega (arith, f .from, f .by)) (f .near) (sums (st .first) (omega (arith, f .from, f .by, f .near)) (f .edge))
+        (sums (suc to) (omega (arith, f .near)) (f .end))
         (λ u i j v. f .none u i j (upto-is r rs cs (nt .counts) (suc u) (omega (arith, j, f .near, free-high r fs x sc)) ∙ v))
       where
         sums : (s : ℕ) → s ≤ x .free → upto s cs ≡ s → before r rs s ≡ s
@@ -183,7 +185,8 @@ module _ {t : List ℕ} {h : Head} {fs : List ℕ} {x : Reach} {cs ks : List ℕ
           all-map {Q = λ z. z .ticket ≢ y .ticket}
           (λ z (v : (In z rs) × (r .slot + e < z .due) × (z .due ≤ r .slot + to)) (g : z .ticket ≡ y .ticket).
           not-found r (sc .fine) rs the-rows y y-in (q .outside)
-          (subst (λ (w : Row). In w rs) (rising-same 1 (r .next) z y (r .rows) (sc .fine .rising) (of-rows-in r (sc .fine) rs the-rows z (v .0)) y-in g) (v .0)))
+          (subst (λ (w : Row). In w rs) (rising-same 1 (r .next) z y (r .rows) (sc .fine .rising) (of-rows-in r (sc .fine) rs the-rows z (v .0)) y-in
+          g) (v .0)))
           (s .links) (chain-after r (sc .fine) rs the-rows (r .slot + e) (r .slot + to) (s .links) (s .chain))
 
       y-there : getD xs (q .row) (blank 0) ≡ y
@@ -207,9 +210,12 @@ module _ {t : List ℕ} {h : Head} {fs : List ℕ} {x : Reach} {cs ks : List ℕ
 
       swap-sends : Sends r (at r (p .row)) false (at r (p .row) .ticket) ys
       swap-sends =
-          subst (λ (v : ℕ). Sends r (at r (p .row)) false (at r (p .row) .ticket) (changed (y .ticket) (row (y .ticket) (y .due) v (y .kind)) xs)) (light .weight)
-          (sends-row r (sc .fine) (sc .time) rs the-rows zn near-z (at r (p .row)) (p .leading .leads) (r .slot + b) (r .slot + e) (p .within .near) (p .within .segment)
-          (p .later) (p .within .from) (p .within .by) y y-in (q .outside) (q .from) (q .most) (r .slot + st .first) (r .slot + to) (omega (arith, f .near)) y-segment (omega (arith, d-is, f .from)) (omega (arith, d-is, f .by))
+          subst (λ (v : ℕ). Sends r (at r (p .row)) false (at r (p .row) .ticket) (changed (y .ticket) (row (y .ticket) (y .due) v (y .kind)) xs))
+          (light .weight)
+          (sends-row r (sc .fine) (sc .time) rs the-rows zn near-z (at r (p .row)) (p .leading .leads) (r .slot + b) (r .slot + e) (p .within .near)
+          (p .within .segment)
+          (p .later) (p .within .from) (p .within .by) y y-in (q .outside) (q .from) (q .most) (r .slot + st .first) (r .slot + to)
+          (omega (arith, f .near)) y-segment (omega (arith, d-is, f .from)) (omega (arith, d-is, f .by))
           (s .links) (s .chain)
           (light .row) (light .inside) (light .due) (light .least))
 
@@ -220,7 +226,8 @@ module _ {t : List ℕ} {h : Head} {fs : List ℕ} {x : Reach} {cs ks : List ℕ
           let g = p .within .segment in
           let w = of-rows-fine r (sc .fine) rs the-rows (light .row) (light .inside) in
           fit-changed r xs (y .ticket) (row (y .ticket) (y .due) mk (y .kind))
-          (fit-moves r z rs the-rows (r .slot + e) (r .slot + to) (s .links) (r .rows) (s .chain) (omega arith) (omega (arith, p .within .near, near-z .by)) (fit-self r z))
+          (fit-moves r z rs the-rows (r .slot + e) (r .slot + to) (s .links) (r .rows) (s .chain) (omega arith)
+          (omega (arith, p .within .near, near-z .by)) (fit-self r z))
           refl (y-fine .0, y-fine .1, omega (arith, w .2, light .weight), omega (arith, w .3, light .weight)) (all-in Kind y (r .rows) (z .size .kinds) y-in)
 
       pub swap-stood : {v : List ℕ} {n : ℕ} → v ≡ sets u (row-at j + 6) (low 4 n) → n ≡ mk → Stood t h ys v

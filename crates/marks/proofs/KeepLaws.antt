@@ -105,6 +105,7 @@ pub keep-all : (t : List ℕ) (h : Head) (fs cs : List ℕ) (x : Reach) → Read
 keep-all t h fs cs x k c w g e =
     let n = known t h k in
     let r = round-in t in
-    let o = sweep-out r (n .fine) (top-of r) (x .over) (x .free) (omega (arith, n .time)) (enough r (n .time)) (w .sweep) (with-flag r fs) (chosen-rows r (n .fine) fs c) in
+    let o = sweep-out r (n .fine) (top-of r) (x .over) (x .free) (omega (arith, n .time)) (enough r (n .time)) (w .sweep) (with-flag r fs)
+    (chosen-rows r (n .fine) fs c) in
     let q = chosen-whole (raised fs) (r .rows) (omega (arith, o, e)) in
     record { size = g .size; count = λ v h. g .count v h ∙ ap (sum (in-bucket (r .slot) (top-of r) v)) (sym q) }

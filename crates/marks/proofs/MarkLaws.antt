@@ -100,7 +100,8 @@ pub record Nearby (h : Head) (x : Reach) (s : ℕ) : Type 0 where
   pub under : s - h .slot .0 < x .free
   pub small : x .free ≤ 1025
 
-pub nearby : (t : List ℕ) (h : Head) (x : Reach) (s : ℕ) (far : Bool) → Ready t h → Reaches (round-in t) x → far ≡ leb (x .free) (s - h .slot .0) → far ≡ false →
+pub nearby : (t : List ℕ) (h : Head) (x : Reach) (s : ℕ) (far : Bool) → Ready t h → Reaches (round-in t) x → far ≡ leb (x .free) (s - h .slot .0) →
+    far ≡ false →
     Nearby h x s
 nearby t h x s far k w d e =
     let n = known t h k in

@@ -154,7 +154,8 @@ module _ (r : Round) (f : Fine r) (rs : List Row) (c : Rows r rs) (s : ℕ) (fro
         none = λ u a d t.
             let q : w .low + (suc u - w .low) ≡ suc u = omega (arith, a) in
             g .none (suc u - w .low) (omega (arith, a)) (omega (arith, d, m .mid))
-            (level-flat (suc u - w .low) (omega (arith, d, m .mid, m .top)) (rw q (tight-level r f rs c u (omega (arith, m .low, a)) (omega (arith, d, by)) t)));
+            (level-flat (suc u - w .low) (omega (arith, d, m .mid, m .top))
+            (rw q (tight-level r f rs c u (omega (arith, m .low, a)) (omega (arith, d, by)) t)));
       })
     where
       edge : (v : ℕ) → r .slot ≤ v → v ≤ r .last → Level rs v → num 0 v (plan r) ≡ v - r .slot

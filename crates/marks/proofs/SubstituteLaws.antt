@@ -73,7 +73,8 @@ pub offer-read : (r : Round) (fs : List ℕ) (x : Span) (i t d w k n : ℕ) → 
 offer-read r fs x i t d w k n a b c e g = let p = b .is in let q = c .is in cc
 
 -- WHAT AN OFFER SAYS
-pub light? : (f d e k : ℕ) → k < 70368748371968 → ((light-offer f d e k + k ≡ 70368748371968) × (f ≡ 1) × (d ≤ e)) ⊎ ((light-offer f d e k ≡ 0) × (f ≡ 1 → e < d))
+pub light? : (f d e k : ℕ) → k < 70368748371968 → ((light-offer f d e k + k ≡ 70368748371968) × (f ≡ 1) × (d ≤ e))
+    ⊎ ((light-offer f d e k ≡ 0) × (f ≡ 1 → e < d))
 light? f d e k h = elim (eqb? f 1) [
   | inl a ↦ elim (ltb? e d) [
     | inl b ↦ inr (rw (a .0, b .0), λ _. b .1)
@@ -151,7 +152,8 @@ module _ (r : Round) (f : Fine r) (time : r .slot ≤ r .last) (small : length (
   first-sub e =
       let g = first-by e in
       let s = b .some (first-some e) in
-      let p = found-member r f (with-flag r fs) (chosen-rows r f fs c) (at r i) (flag-in (blank 0) (raised fs) (r .rows) i h (flag-on fs i (omega (arith, c .long, h)) on)) in
+      let p = found-member r f (with-flag r fs) (chosen-rows r f fs c) (at r i) (flag-in (blank 0) (raised fs) (r .rows) i h
+      (flag-on fs i (omega (arith, c .long, h)) on)) in
       elim (light? (getD fs (o .row) 0) (at r (o .row) .due) (x .last) (key-at r (o .row)) (key-under (o .row) (s .0))) [
         | inr a ↦ absurd (omega (arith, a .0, first-offer e (o .row), s .1, first-some e))
         | inl a ↦ first-at r f (raised fs) (c .certified) small cap (blank 0) time (at r i) p (g .0) (o .row) (s .0)
@@ -215,7 +217,8 @@ module _ (r : Round) (f : Fine r) (time : r .slot ≤ r .last) (small : length (
   ]
 
 -- THE SAME of a ready table
-module _ (t : List ℕ) (h : Head) (fs : List ℕ) (i d : ℕ) (x : Span) (o : Offer) (k : Ready t h) (c : Chosen (round-in t) fs) (l : i < h .used) (on : getD fs i 0 ≡ 1)
+module _ (t : List ℕ) (h : Head) (fs : List ℕ) (i d : ℕ) (x : Span) (o : Offer) (k : Ready t h) (c : Chosen (round-in t) fs) (l : i < h .used)
+    (on : getD fs i 0 ≡ 1)
     (a : Due-at (round-in t) i d) (w : Spans (round-in t) d x) (b : Best-offer (round-in t) fs x o) where
   pub row-is : (o .number ≡ 0 → ⊥) → Substitutes (round-in t) i (Row-at (o .row))
   row-is =

@@ -109,7 +109,8 @@ window-end r fs w i cs c e s =
     }
 
 -- SUMS of counts are rows due in the window before a slot
-pub upto-in : (xs : List Row) (w : Window) (cs : List ℕ) → Counted-in xs w cs → (k : ℕ) → k ≤ suc (w .top) → upto k cs + num 0 (w .low) xs ≡ num 0 (w .low + k) xs
+pub upto-in : (xs : List Row) (w : Window) (cs : List ℕ) → Counted-in xs w cs → (k : ℕ) → k ≤ suc (w .top) →
+    upto k cs + num 0 (w .low) xs ≡ num 0 (w .low + k) xs
 upto-in xs w cs c zero h = let e : w .low ≡ w .low + 0 = omega arith in omega (arith, ap (λ (v : ℕ). num 0 v xs) e)
 upto-in xs w cs c (suc k) h =
     let e : suc (w .low + k) ≡ w .low + suc k = omega arith in

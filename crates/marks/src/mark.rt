@@ -36,7 +36,8 @@ fn out(flag: u8) -> u16
 
 // Counts of all rows by bucket become those of the plan's; they are where none is left out.
 fn keep_counts(table: &[u8], flags: &[u8], counts: &mut [u16; 1025], round: Round, reach: Reach)
-    requires { ⌜ Ready (now table) round × Chosen (round-in (now table)) (now flags) × Reaches (round-in (now table)) reach × Counted (round-in (now table)) (round-in (now table) .rows) (now counts) ⌝ }
+    requires { ⌜ Ready (now table) round × Chosen (round-in (now table)) (now flags) × Reaches (round-in (now table)) reach
+        × Counted (round-in (now table)) (round-in (now table) .rows) (now counts) ⌝ }
     ensures { λ _. ⌜ Counted (round-in (now (table .entry))) (with-flag (round-in (now (table .entry))) (now (flags .entry))) (now (counts .exit)) ⌝ }
 {
     if reach.over == 0 {
@@ -63,7 +64,8 @@ pub fn mark_at(
     reach: Reach,
     slot: u32,
 ) -> u32
-    requires { ⌜ Ready (now table) round × Chosen (round-in (now table)) (now flags) × Reaches (round-in (now table)) reach × Counted (round-in (now table)) (round-in (now table) .rows) (now counts) × (round .slot .0 ≤ slot) × (slot ≤ round .last .0) ⌝ }
+    requires { ⌜ Ready (now table) round × Chosen (round-in (now table)) (now flags) × Reaches (round-in (now table)) reach
+        × Counted (round-in (now table)) (round-in (now table) .rows) (now counts) × (round .slot .0 ≤ slot) × (slot ≤ round .last .0) ⌝ }
     ensures { λ r. ⌜ r ≡ mark (round-in (now (table .entry))) slot ⌝ }
 {
     if is_far(round, reach, slot) {

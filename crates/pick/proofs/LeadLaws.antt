@@ -90,12 +90,14 @@ lesser-key u d i v e j h k a b l = omega arith
 
 module _ (r : Round) (fs : List ℕ) (x : Reach) (s : Scene r fs x) where
   -- ROWS FROM A BUCKET ON
-  pub late-over : (e k i : ℕ) → e ≤ x .free → Heaviest r fs e (suc (top-of r)) k i → (q : Row) → In q (with-flag r fs) → r .slot + e ≤ q .due → heavier q (at r i) ≡ false
+  pub late-over : (e k i : ℕ) → e ≤ x .free → Heaviest r fs e (suc (top-of r)) k i → (q : Row) → In q (with-flag r fs) → r .slot + e ≤ q .due →
+      heavier q (at r i) ≡ false
   late-over e k i m h =
       each-chosen (λ q. r .slot + e ≤ q .due → heavier q (at r i) ≡ false) (blank 0) (raised fs) (r .rows)
       (λ j l f u. not-over r fs x s j i l (h .below) (omega (arith, h .most j l f (place-from r fs x s j e l m u) (omega (arith, place-by r j)), h .key)))
 
-  pub late-none : (e : ℕ) → e ≤ x .free → Peak (place r) (kept-key r fs) (length (r .rows)) e (suc (top-of r)) 0 → (q : Row) → In q (with-flag r fs) → q .due < r .slot + e
+  pub late-none : (e : ℕ) → e ≤ x .free → Peak (place r) (kept-key r fs) (length (r .rows)) e (suc (top-of r)) 0 → (q : Row) → In q (with-flag r fs) →
+      q .due < r .slot + e
   late-none e m p =
       each-chosen (λ q. q .due < r .slot + e) (blank 0) (raised fs) (r .rows) (λ j l f. elim (ltb? (at r j .due) (r .slot + e)) [
         | inl b ↦ b .1
@@ -103,7 +105,8 @@ module _ (r : Round) (fs : List ℕ) (x : Reach) (s : Scene r fs x) where
       ])
 
   -- FAR ROWS
-  pub far-led : (k : ℕ) → Peak (place r) (kept-key r fs) (length (r .rows)) (x .free) (suc (top-of r)) k → Led r fs (x .free) (r .slot + x .free) (made k (x .free) (x .free) 0)
+  pub far-led : (k : ℕ) → Peak (place r) (kept-key r fs) (length (r .rows)) (x .free) (suc (top-of r)) k →
+      Led r fs (x .free) (r .slot + x .free) (made k (x .free) (x .free) 0)
   far-led k p = elim (ltb? 0 k) [
     | inl a ↦
         let w = peak-heaviest r fs x s (x .free) (suc (top-of r)) k p (a .1) in
@@ -119,7 +122,8 @@ module _ (r : Round) (fs : List ℕ) (x : Reach) (s : Scene r fs x) where
               row = i;
               below = h .below;
               key = h .key;
-              leads = lead-far r (s .fine) (s .time) (with-flag r fs) c (r .slot + x .free) (s .reach .near) (at r i) g d (late-over (x .free) k i (omega arith) h);
+              leads = lead-far r (s .fine) (s .time) (with-flag r fs) c (r .slot + x .free) (s .reach .near) (at r i) g d
+                  (late-over (x .free) k i (omega arith) h);
               score = omega (
                 arith,
                 far-score r (s .fine) (with-flag r fs) c (r .slot + x .free) (s .reach .near) (s .time) (at r i) g d,
@@ -133,14 +137,21 @@ module _ (r : Round) (fs : List ℕ) (x : Reach) (s : Scene r fs x) where
         let z : k ≡ 0 = omega (arith, a .1) in
         record {
           fair = record { key = omega (arith, z); other = omega arith };
-          who = inl (z, refl, late-none (x .free) (omega arith) (subst (λ (v : ℕ). Peak (place r) (kept-key r fs) (length (r .rows)) (x .free) (suc (top-of r)) v) z p));
+          who = inl (
+            z,
+            refl,
+            late-none (x .free) (omega arith)
+                (subst (λ (v : ℕ). Peak (place r) (kept-key r fs) (length (r .rows)) (x .free) (suc (top-of r)) v) z p),
+          );
         }
   ]
 
   -- A SEGMENT's heaviest row
-  pub segment-key : (b e k : ℕ) → b < e → e ≤ x .free → Segment r (with-flag r fs) (r .slot + b) (r .slot + (e - 1)) → Peak (place r) (kept-key r fs) (length (r .rows)) b e k → 1 ≤ k
+  pub segment-key : (b e k : ℕ) → b < e → e ≤ x .free → Segment r (with-flag r fs) (r .slot + b) (r .slot + (e - 1)) →
+      Peak (place r) (kept-key r fs) (length (r .rows)) b e k → 1 ≤ k
   segment-key b e k h m g p =
-      let y = segment-some r (s .fine) (s .time) (with-flag r fs) (plan-rows r fs x s) (r .slot + x .free) (s .reach .near) (r .slot + b) (r .slot + (e - 1)) (omega (arith, h, m)) g in
+      let y = segment-some r (s .fine) (s .time) (with-flag r fs) (plan-rows r fs x s) (r .slot + x .free) (s .reach .near) (r .slot + b)
+      (r .slot + (e - 1)) (omega (arith, h, m)) g in
       let q = chosen-index (blank 0) (y .0) (raised fs) (r .rows) (y .1) in
       let d = ap (λ (v : Row). v .due) (q .3) in
       peak-row r fs x s b e k (q .0) p (q .1) (q .2) (place-from r fs x s (q .0) b (q .1) (omega (arith, h, m)) (omega (arith, d, y .2)))
@@ -151,7 +162,8 @@ module _ (r : Round) (fs : List ℕ) (x : Reach) (s : Scene r fs x) where
   segment-champ b e k i h m g w =
       let q : suc (r .slot + (e - 1)) ≡ r .slot + e = omega (arith, h) in
       subst (λ (d : ℕ). Champion r (with-flag r fs) (r .slot + b) d (at r i)) q
-      (segment-champion r (s .fine) (s .time) (with-flag r fs) (plan-rows r fs x s) (r .slot + x .free) (s .reach .near) (r .slot + b) (r .slot + (e - 1)) (omega (arith, h, m)) g
+      (segment-champion r (s .fine) (s .time) (with-flag r fs) (plan-rows r fs x s) (r .slot + x .free) (s .reach .near) (r .slot + b)
+      (r .slot + (e - 1)) (omega (arith, h, m)) g
       (at r i) (heaviest-in r fs x s b e k i w) (from-place r fs x s i b (w .below) (w .from))
       (omega (arith, before-place r fs x s i e (w .below) m (w .before), h))
       (λ p j u v. heaviest-over r fs x s b e k i (omega (arith, h, m)) w p j u (omega (arith, v, h))))
@@ -187,21 +199,25 @@ module _ (r : Round) (fs : List ℕ) (x : Reach) (s : Scene r fs x) where
 
       by-other : Other r (with-flag r fs) (r .slot + b) o → score-of r (at r i) ≡ score (k / 4194304) (o / 4194304)
       by-other (inl n) =
-          let q = segment-none r (s .fine) (s .time) (with-flag r fs) c (r .slot + x .free) (s .reach .near) (r .slot + b) (r .slot + (e - 1)) near g (omega (arith, a)) (at r i) from by (n .1) in
+          let q = segment-none r (s .fine) (s .time) (with-flag r fs) c (r .slot + x .free) (s .reach .near) (r .slot + b) (r .slot + (e - 1)) near g
+          (omega (arith, a)) (at r i) from by (n .1) in
           omega (
             arith,
-            segment-score-none r (s .fine) (s .time) (with-flag r fs) c (r .slot + x .free) (s .reach .near) (r .slot + b) (r .slot + (e - 1)) near g (at r i) q,
+            segment-score-none r (s .fine) (s .time) (with-flag r fs) c (r .slot + x .free) (s .reach .near) (r .slot + b) (r .slot + (e - 1)) near g
+                (at r i) q,
             weight-key r fs x s i k (w .below) (w .key),
             n .0,
           )
       by-other (inr n) =
           let y = n .1 in
           let q =
-          segment-row r (s .fine) (s .time) (with-flag r fs) c (r .slot + x .free) (s .reach .near) (r .slot + b) (r .slot + (e - 1)) near g (omega (arith, a)) (at r i) from by
+          segment-row r (s .fine) (s .time) (with-flag r fs) c (r .slot + x .free) (s .reach .near) (r .slot + b) (r .slot + (e - 1)) near g
+          (omega (arith, a)) (at r i) from by
           (at r (y .row)) (getD-in (r .rows) (blank 0) (y .row) (y .below)) (y .outside) (y .from) (y .most) in
           omega (
             arith,
-            segment-score-row r (s .fine) (s .time) (with-flag r fs) c (r .slot + x .free) (s .reach .near) (r .slot + b) (r .slot + (e - 1)) near g (at r i) (at r (y .row)) q,
+            segment-score-row r (s .fine) (s .time) (with-flag r fs) c (r .slot + x .free) (s .reach .near) (r .slot + b) (r .slot + (e - 1)) near g
+                (at r i) (at r (y .row)) q,
             weight-key r fs x s i k (w .below) (w .key),
             weight-key r fs x s (y .row) o (y .below) (y .key),
           )
@@ -214,20 +230,23 @@ module _ (r : Round) (fs : List ℕ) (x : Reach) (s : Scene r fs x) where
         arith,
         weight-key r fs x s i k h e,
         weight-key r fs x s (p .row) (l .key) (p .below) (p .key),
-        lesser-key (at r i .weight) (at r i .due) i (at r (p .row) .weight) (at r (p .row) .due) (p .row) (omega (arith, g, p .leads .from)) (omega (arith, u .1, s .cap))
+        lesser-key (at r i .weight) (at r i .due) i (at r (p .row) .weight) (at r (p .row) .due) (p .row) (omega (arith, g, p .leads .from))
+            (omega (arith, u .1, s .cap))
             (omega (arith, h, s .small)) (omega (arith, p .below, s .small)) (omega (arith, e, p .key, m)),
       )
 
   -- THE HEAVIEST ROW of an earlier stretch contests the lead
   pub contest : (b d : ℕ) (l n : Leader) (i : ℕ) → b ≤ d → i < length (r .rows) → n .key ≡ key-at r i → Champion r (with-flag r fs) b d (at r i) →
-      score-of r (at r i) ≡ leader-score n → Stands r (with-flag r fs) (x .free) n (at r i) → Fair n → Led r fs (x .free) d l → Led r fs (x .free) b (ahead-of l n)
+      score-of r (at r i) ≡ leader-score n → Stands r (with-flag r fs) (x .free) n (at r i) → Fair n → Led r fs (x .free) d l →
+      Led r fs (x .free) b (ahead-of l n)
   contest b d l n i h below key c e st f w = elim (w .who) [
     | inl v ↦ elim (takes? l n (λ m. absurd (omega (arith, m, v .0, key, key-some r fs x s i below)))) [
       | inl t ↦ taken (t .0) (lead-first r (s .fine) (s .time) (with-flag r fs) (plan-rows r fs x s) b d (at r i) (v .2) c)
       | inr t ↦ absurd (omega (arith, t .1, v .0, v .1))
     ]
     | inr v ↦ elim (takes? l n (λ m. lesser d (n .key) i l below key (c .before) (v .front) m)) [
-      | inl t ↦ taken (t .0) (lead-takes r (s .fine) (s .time) (with-flag r fs) (plan-rows r fs x s) b d (at r (v .front .row)) (at r i) (v .front .leads) c (omega (arith, t .1, e, v .front .score)))
+      | inl t ↦ taken (t .0) (lead-takes r (s .fine) (s .time) (with-flag r fs) (plan-rows r fs x s) b d (at r (v .front .row)) (at r i)
+          (v .front .leads) c (omega (arith, t .1, e, v .front .score)))
       | inr t ↦ subst (λ (y : Bool). Led r fs (x .free) b (cond y n l)) (sym (t .0)) (record {
         fair = w .fair;
         who = inr (record {
@@ -235,7 +254,8 @@ module _ (r : Round) (fs : List ℕ) (x : Reach) (s : Scene r fs x) where
             row = v .front .row;
             below = v .front .below;
             key = v .front .key;
-            leads = lead-keeps r (s .fine) (s .time) (with-flag r fs) (plan-rows r fs x s) b d (at r (v .front .row)) (at r i) h (v .front .leads) c (omega (arith, t .1, e, v .front .score));
+            leads = lead-keeps r (s .fine) (s .time) (with-flag r fs) (plan-rows r fs x s) b d (at r (v .front .row)) (at r i) h (v .front .leads) c
+                (omega (arith, t .1, e, v .front .score));
             score = v .front .score;
           };
           stands = v .stands;
@@ -256,7 +276,8 @@ module _ (r : Round) (fs : List ℕ) (x : Reach) (s : Scene r fs x) where
     pub other : Other r (with-flag r fs) (r .slot + b) o
 
   pub joins : (b e k o : ℕ) → b < e → e ≤ x .free → Segment r (with-flag r fs) (r .slot + b) (r .slot + (e - 1)) →
-      Peak (place r) (kept-key r fs) (length (r .rows)) b e k → Peak (place r) (left-key r fs) (length (r .rows)) b (suc (top-of r)) o → (i : ℕ) × Joins b e k o i
+      Peak (place r) (kept-key r fs) (length (r .rows)) b e k → Peak (place r) (left-key r fs) (length (r .rows)) b (suc (top-of r)) o → (i : ℕ)
+      × Joins b e k o i
   joins b e k o h m g p q =
       let w = peak-heaviest r fs x s b e k p (segment-key b e k h m g p) in
       let y = other-of b o (omega (arith, h, m)) q in (
@@ -298,8 +319,10 @@ module _ (r : Round) (fs : List ℕ) (x : Reach) (s : Scene r fs x) where
       let y = l .found (at r i) in-plan by in
       omega (
         arith,
-        segment-score-first r (s .fine) (s .time) (with-flag r fs) c (r .slot + x .free) (s .reach .near) (r .slot) (r .slot + (e - 1)) near g refl (at r i) in-plan by,
-        segment-mark r (s .fine) (s .time) (with-flag r fs) c (r .slot + x .free) (s .reach .near) (r .slot) (r .slot + (e - 1)) near g (r .slot) (omega arith) (omega arith) (y .row) (y .inside)
+        segment-score-first r (s .fine) (s .time) (with-flag r fs) c (r .slot + x .free) (s .reach .near) (r .slot) (r .slot + (e - 1)) near g refl
+            (at r i) in-plan by,
+        segment-mark r (s .fine) (s .time) (with-flag r fs) c (r .slot + x .free) (s .reach .near) (r .slot) (r .slot + (e - 1)) near g (r .slot)
+            (omega arith) (omega arith) (y .row) (y .inside)
             (y .due) (y .least),
         y .weight,
         weight-key r fs x s i k (w .below) (w .key),
@@ -313,7 +336,8 @@ module _ (r : Round) (fs : List ℕ) (x : Reach) (s : Scene r fs x) where
       (segment-champ 0 e k i h m (subst (λ (v : ℕ). Segment r (with-flag r fs) v (r .slot + (e - 1))) (sym z) g) w)
 
   pub first-goes : (l : Leader) (e k i m : ℕ) → 0 < e → e ≤ x .free → Segment r (with-flag r fs) (r .slot) (r .slot + (e - 1)) → Heaviest r fs 0 e k i →
-      Least-by r fs (r .slot + (e - 1)) m → Nobody r fs (r .slot + e) l ⊎ Front r fs (r .slot + e) l → leader-score l ≤ score (k / 4194304) m → Picked r fs (x .free) (First k)
+      Least-by r fs (r .slot + (e - 1)) m → Nobody r fs (r .slot + e) l ⊎ Front r fs (r .slot + e) l → leader-score l ≤ score (k / 4194304) m →
+      Picked r fs (x .free) (First k)
   first-goes l e k i m h n g w t d u =
       let c = first-champ e k i h n g w in
       let q = first-score e k i m h n g w t in
@@ -324,7 +348,8 @@ module _ (r : Round) (fs : List ℕ) (x : Reach) (s : Scene r fs x) where
           key = w .key;
           leads = elim d [
             | inl v ↦ lead-first r (s .fine) (s .time) (with-flag r fs) (plan-rows r fs x s) (r .slot) (r .slot + e) (at r i) (v .2) c
-            | inr v ↦ lead-takes r (s .fine) (s .time) (with-flag r fs) (plan-rows r fs x s) (r .slot) (r .slot + e) (at r (v .row)) (at r i) (v .leads) c (omega (arith, u, q, v .score))
+            | inr v ↦ lead-takes r (s .fine) (s .time) (with-flag r fs) (plan-rows r fs x s) (r .slot) (r .slot + e) (at r (v .row)) (at r i)
+                (v .leads) c (omega (arith, u, q, v .score))
           ];
         };
         last = r .slot + (e - 1);
@@ -337,7 +362,8 @@ module _ (r : Round) (fs : List ℕ) (x : Reach) (s : Scene r fs x) where
       }
 
   -- or the leader of the others leaps
-  pub leap-is : (l : Leader) (i : ℕ) → Leading r (with-flag r fs) (l .key) i → Stands r (with-flag r fs) (x .free) l (at r i) → Picked r fs (x .free) (leap-of l (x .free))
+  pub leap-is : (l : Leader) (i : ℕ) → Leading r (with-flag r fs) (l .key) i → Stands r (with-flag r fs) (x .free) l (at r i) →
+      Picked r fs (x .free) (leap-of l (x .free))
   leap-is l i g (inl v) = rw (le-leb (x .free) (l .first) (v .0)) (record { row = i; leading = g; far = v .1 })
   leap-is l i g (inr v) = by-other (v .other)
     where
@@ -349,17 +375,20 @@ module _ (r : Round) (fs : List ℕ) (x : Reach) (s : Scene r fs x) where
       by-other (inr o) = rw (lt-leb (x .free) (l .first) (v .near), ne-eqb (l .other) 0 (λ z. omega (arith, o .0, z))) (later, o .1)
 
   pub front-stays : (l : Leader) (e k i m : ℕ) → 0 < e → e ≤ x .free → Segment r (with-flag r fs) (r .slot) (r .slot + (e - 1)) → Heaviest r fs 0 e k i →
-      Least-by r fs (r .slot + (e - 1)) m → (v : Front r fs (r .slot + e) l) → score (k / 4194304) m < leader-score l → Leading r (with-flag r fs) (l .key) (v .row)
+      Least-by r fs (r .slot + (e - 1)) m → (v : Front r fs (r .slot + e) l) → score (k / 4194304) m < leader-score l →
+      Leading r (with-flag r fs) (l .key) (v .row)
   front-stays l e k i m h n g w t v u =
       record {
         below = v .below;
         key = v .key;
-        leads = lead-keeps r (s .fine) (s .time) (with-flag r fs) (plan-rows r fs x s) (r .slot) (r .slot + e) (at r (v .row)) (at r i) (omega arith) (v .leads) (first-champ e k i h n g w)
+        leads = lead-keeps r (s .fine) (s .time) (with-flag r fs) (plan-rows r fs x s) (r .slot) (r .slot + e) (at r (v .row)) (at r i) (omega arith)
+            (v .leads) (first-champ e k i h n g w)
             (omega (arith, u, first-score e k i m h n g w t, v .score));
       }
 
   pub leap-goes : (l : Leader) (e k i m : ℕ) → 0 < e → e ≤ x .free → Segment r (with-flag r fs) (r .slot) (r .slot + (e - 1)) → Heaviest r fs 0 e k i →
-      Least-by r fs (r .slot + (e - 1)) m → Led r fs (x .free) (r .slot + e) l → score (k / 4194304) m < leader-score l → Picked r fs (x .free) (leap-of l (x .free))
+      Least-by r fs (r .slot + (e - 1)) m → Led r fs (x .free) (r .slot + e) l → score (k / 4194304) m < leader-score l →
+      Picked r fs (x .free) (leap-of l (x .free))
   leap-goes l e k i m h n g w t d u = elim (d .who) [
     | inl v ↦ absurd (omega (arith, u, v .0, v .1))
     | inr v ↦ leap-is l (v .front .row) (front-stays l e k i m h n g w t (v .front) u) (v .stands)
@@ -369,7 +398,8 @@ module _ (r : Round) (fs : List ℕ) (x : Reach) (s : Scene r fs x) where
   fronts z d l w = elim (w .who) [ inl v ↦ inl v | inr v ↦ inr (v .front) ]
 
   -- with no slot full the far rows have them all
-  pub far-goes : (k : ℕ) → x .free ≡ 0 → 1 ≤ length (r .rows) → Peak (place r) (kept-key r fs) (length (r .rows)) (x .free) (suc (top-of r)) k → Picked r fs (x .free) (Far k)
+  pub far-goes : (k : ℕ) → x .free ≡ 0 → 1 ≤ length (r .rows) → Peak (place r) (kept-key r fs) (length (r .rows)) (x .free) (suc (top-of r)) k →
+      Picked r fs (x .free) (Far k)
   far-goes k z n p = elim (far-led k p .who) [
     | inl v ↦
         let y = some-row r (s .fine) (s .time) (with-flag r fs) (plan-rows r fs x s) (at r 0) (getD-in (r .rows) (blank 0) 0 n) in

@@ -97,7 +97,8 @@ module _ (r : Round) (fs cs ks ls : List ℕ) (x : Reach) (s : Scene r fs x) (w 
 
       pub left-more : Peak (place r) (left-key r fs) (length (r .rows)) (b - 1) (suc (top-of r)) o2
       left-more =
-          peak-more (place r) (left-key r fs) (length (r .rows)) b (suc (top-of r)) o o2 ls (omega (arith, h)) (omega (arith, p .by, p .near, free-high r fs x s)) (w .left) (p .left) v
+          peak-more (place r) (left-key r fs) (length (r .rows)) b (suc (top-of r)) o o2 ls (omega (arith, h))
+          (omega (arith, p .by, p .near, free-high r fs x s)) (w .left) (p .left) v
 
       -- the segment goes on
       pub pass-on : (c - n ≡ b - 1 → ⊥) → Passing r fs (x .free) l (b - 1) e (c - n) k2 o2
@@ -123,8 +124,10 @@ module _ (r : Round) (fs cs ks ls : List ℕ) (x : Reach) (s : Scene r fs x) (w 
         pub whole : Segment r (with-flag r fs) (r .slot + (b - 1)) (r .slot + (e - 1))
         whole =
             let y : suc (e - 1) ≡ e = omega (arith, p .by, p .low) in
-            segment-made r (s .fine) (top-of r) (x .over) (x .free) (omega (arith, s .time)) (enough r (s .time)) (s .reach .sweep) (with-flag r fs) (plan-rows r fs x s) (b - 1) (e - 1)
-            (omega (arith, p .by)) (omega (arith, p .by, p .low, p .near)) (omega (arith, g, pass-count n q, p .count)) (ap (before r (with-flag r fs)) y ∙ p .edge ∙ sym y)
+            segment-made r (s .fine) (top-of r) (x .over) (x .free) (omega (arith, s .time)) (enough r (s .time)) (s .reach .sweep) (with-flag r fs)
+            (plan-rows r fs x s) (b - 1) (e - 1)
+            (omega (arith, p .by)) (omega (arith, p .by, p .low, p .near)) (omega (arith, g, pass-count n q, p .count))
+            (ap (before r (with-flag r fs)) y ∙ p .edge ∙ sym y)
             (λ m i j. p .gap (suc m) (omega (arith, i, h)) (omega (arith, j)))
 
         pub joining : (i : ℕ) × Joins r fs x s (b - 1) e k2 o2 i
@@ -148,7 +151,8 @@ module _ (r : Round) (fs cs ks ls : List ℕ) (x : Reach) (s : Scene r fs x) (w 
               led = joined r fs x s l (b - 1) e k2 o2 (joining .0) (omega (arith, h)) (omega (arith, p .by, h)) (p .near) whole (joining .1) (p .led);
             }
 
-        pub pass-lead : (t : Bool) → takes-lead l (made k2 (b - 1) (e - 1) o2) ≡ t → Passing r fs (x .free) (cond t (made k2 (b - 1) (e - 1) o2) l) (b - 1) (b - 1) (c - n) 0 o2
+        pub pass-lead : (t : Bool) → takes-lead l (made k2 (b - 1) (e - 1) o2) ≡ t → Passing r fs (x .free) (cond t (made k2 (b - 1) (e - 1) o2) l)
+            (b - 1) (b - 1) (c - n) 0 o2
         pass-lead t y = subst (λ (v : Bool). Passing r fs (x .free) (cond v (made k2 (b - 1) (e - 1) o2) l) (b - 1) (b - 1) (c - n) 0 o2) y pass-next
 
   -- THE FIRST SEGMENT is left
@@ -158,8 +162,10 @@ module _ (r : Round) (fs cs ks ls : List ℕ) (x : Reach) (s : Scene r fs x) (w 
         let y : suc (e - 1) ≡ e = omega (arith, p .by, p .low) in
         let z : r .slot + 0 ≡ r .slot = omega arith in
         subst (λ (v : ℕ). Segment r (with-flag r fs) v (r .slot + (e - 1))) z
-        (segment-made r (s .fine) (top-of r) (x .over) (x .free) (omega (arith, s .time)) (enough r (s .time)) (s .reach .sweep) (with-flag r fs) (plan-rows r fs x s) 0 (e - 1)
-        (omega arith) (omega (arith, p .by, p .low, p .near)) (counts-none (r .slot) (top-of r) (with-flag r fs)) (ap (before r (with-flag r fs)) y ∙ p .edge ∙ sym y)
+        (segment-made r (s .fine) (top-of r) (x .over) (x .free) (omega (arith, s .time)) (enough r (s .time)) (s .reach .sweep) (with-flag r fs)
+        (plan-rows r fs x s) 0 (e - 1)
+        (omega arith) (omega (arith, p .by, p .low, p .near)) (counts-none (r .slot) (top-of r) (with-flag r fs)) (ap (before r (with-flag r fs)) y
+        ∙ p .edge ∙ sym y)
         (λ m i j. p .gap (suc m) (omega (arith, h)) (omega (arith, j))))
 
     pub first-peak : Peak (place r) (kept-key r fs) (length (r .rows)) 0 e k2
@@ -172,7 +178,8 @@ module _ (r : Round) (fs cs ks ls : List ℕ) (x : Reach) (s : Scene r fs x) (w 
     first-row =
         let z : r .slot ≡ r .slot + 0 = omega arith in
         peak-heaviest r fs x s 0 e k2 first-peak
-        (segment-key r fs x s 0 e k2 (omega (arith, p .by, p .low)) (p .near) (subst (λ (v : ℕ). Segment r (with-flag r fs) v (r .slot + (e - 1))) z first-whole) first-peak)
+        (segment-key r fs x s 0 e k2 (omega (arith, p .by, p .low)) (p .near) (subst (λ (v : ℕ). Segment r (with-flag r fs) v (r .slot + (e - 1))) z
+        first-whole) first-peak)
 
     pub first-fair : k2 / 4194304 ≤ 16777216
     first-fair = omega (arith, first-row .1 .key, key-most r fs x s (first-row .0) (first-row .1 .below))
@@ -198,7 +205,8 @@ module _ (r : Round) (fs cs ks ls : List ℕ) (x : Reach) (s : Scene r fs x) (w 
             due = a;
             least = λ v j h.
                 let n = one-row (below 0 (suc (r .slot))) v (at r i) (with-flag r fs) j own (omega (arith, g .end))
-                (omega (arith, below-yes 0 (suc (r .slot)) v (omega arith) (omega (arith, h, f)))) (omega (arith, below-yes 0 (suc (r .slot)) (at r i) (omega arith) (omega (arith, a, f)))) in
+                (omega (arith, below-yes 0 (suc (r .slot)) v (omega arith) (omega (arith, h, f))))
+                (omega (arith, below-yes 0 (suc (r .slot)) (at r i) (omega arith) (omega (arith, a, f)))) in
                 omega (arith, ap (λ (t : Row). t .weight) n);
             weight = sym m;
           };
@@ -214,7 +222,8 @@ module _ (r : Round) (fs cs ks ls : List ℕ) (x : Reach) (s : Scene r fs x) (w 
             rw (y .0) (first-goes r fs x s l e k2 (first-row .0) m (omega (arith, p .by, p .low)) (p .near) first-whole (first-row .1) least-here
             (fronts r fs x s (x .free) (r .slot + e) l (p .led)) (omega (arith, y .1, q)))
         | inr y ↦
-            rw (y .0) (leap-goes r fs x s l e k2 (first-row .0) m (omega (arith, p .by, p .low)) (p .near) first-whole (first-row .1) least-here (p .led) (omega (arith, y .1, q)))
+            rw (y .0) (leap-goes r fs x s l e k2 (first-row .0) m (omega (arith, p .by, p .low)) (p .near) first-whole (first-row .1) least-here
+            (p .led) (omega (arith, y .1, q)))
       ]
 
   pub pick-far : (top k : ℕ) → top ≡ top-of r → Greatest ks (x .free) top k → x .free ≡ 0 → 1 ≤ length (r .rows) → Picked r fs (x .free) (Far k)

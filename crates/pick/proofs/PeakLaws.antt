@@ -15,7 +15,8 @@ pub peak-none : (at number : ℕ → ℕ) (n a : ℕ) → Peak at number n a a 0
 peak-none at number n a =
     record { most = λ i h k l. absurd (omega (arith, k, l)); some = λ h. absurd (omega (arith, h)) }
 
-pub peak-more : (at number : ℕ → ℕ) (n a e x y : ℕ) (ks : List ℕ) → 0 < a → a ≤ e → Tops at number n ks → Peak at number n a e x → y ≡ max x (getD ks (a - 1) 0) →
+pub peak-more : (at number : ℕ → ℕ) (n a e x y : ℕ) (ks : List ℕ) → 0 < a → a ≤ e → Tops at number n ks → Peak at number n a e x →
+    y ≡ max x (getD ks (a - 1) 0) →
     Peak at number n (a - 1) e y
 peak-more at number n a e x y ks h l t p d =
     record {

@@ -139,7 +139,8 @@ module _ (r : Round) (fs : List ℕ) (x : Reach) (s : Scene r fs x) where
         },
       )
 
-  pub peak-row : (a e k i : ℕ) → Peak (place r) (kept-key r fs) (length (r .rows)) a e k → i < length (r .rows) → getD (raised fs) i false ≡ true → a ≤ place r i → place r i < e →
+  pub peak-row : (a e k i : ℕ) → Peak (place r) (kept-key r fs) (length (r .rows)) a e k → i < length (r .rows) → getD (raised fs) i false ≡ true →
+      a ≤ place r i → place r i < e →
       1 ≤ k
   peak-row a e k i p h f u v = omega (arith, key-some i h, kept-is i f, p .most i h u v)
 
@@ -147,7 +148,8 @@ module _ (r : Round) (fs : List ℕ) (x : Reach) (s : Scene r fs x) where
   heaviest-in a e k i w = flag-in (blank 0) (raised fs) (r .rows) i (w .below) (w .flag)
 
   -- it is heavier than the others by their due slots, too
-  pub heaviest-over : (a e k i : ℕ) → a ≤ x .free → Heaviest r fs a e k i → (q : Row) → In q (with-flag r fs) → r .slot + a ≤ q .due → q .due < r .slot + e → heavier q (at r i) ≡ false
+  pub heaviest-over : (a e k i : ℕ) → a ≤ x .free → Heaviest r fs a e k i → (q : Row) → In q (with-flag r fs) → r .slot + a ≤ q .due →
+      q .due < r .slot + e → heavier q (at r i) ≡ false
   heaviest-over a e k i h w =
       each-chosen (λ q. r .slot + a ≤ q .due → q .due < r .slot + e → heavier q (at r i) ≡ false) (blank 0) (raised fs) (r .rows)
       (λ j l f u v. not-over j i l (w .below) (omega (arith, w .most j l f (place-from j a l h u) (place-before j e l v), w .key)))
@@ -162,7 +164,8 @@ module _ (r : Round) (fs : List ℕ) (x : Reach) (s : Scene r fs x) where
             absurd (omega (arith, p .most j l (place-from j b l h (a .1)) (omega (arith, place-by r j)), left-is j f, key-some j l))
       ])
 
-  pub left-heaviest : (b k : ℕ) → b ≤ x .free → Peak (place r) (left-key r fs) (length (r .rows)) b (suc (top-of r)) k → 1 ≤ k → Heaviest-left r (with-flag r fs) (r .slot + b) k
+  pub left-heaviest : (b k : ℕ) → b ≤ x .free → Peak (place r) (left-key r fs) (length (r .rows)) b (suc (top-of r)) k → 1 ≤ k →
+      Heaviest-left r (with-flag r fs) (r .slot + b) k
   left-heaviest b k h p o =
       let q = p .some o in
       let g = left-some (q .0) (omega (arith, q .4, o)) in
@@ -174,7 +177,12 @@ module _ (r : Round) (fs : List ℕ) (x : Reach) (s : Scene r fs x) where
         outside = flag-is (q .0) (q .1) ∙ g .0;
         from = from-place (q .0) b (q .1) (q .2);
         most = each-row (λ y. in-plan y (with-flag r fs) ≡ false → r .slot + b ≤ y .due → heavier y (at r (q .0)) ≡ false) (blank 0) (r .rows)
-            (λ j l f u. not-over j (q .0) l (q .1) (omega (arith, p .most j l (place-from j b l h u) (omega (arith, place-by r j)), left-is j (sym (flag-is j l) ∙ f), e)));
+            (λ j l f u. not-over j (q .0) l (q .1) (omega (
+              arith,
+              p .most j l (place-from j b l h u) (omega (arith, place-by r j)),
+              left-is j (sym (flag-is j l) ∙ f),
+              e,
+            )));
       }
 
   -- none from where the plan isn't full
@@ -186,7 +194,8 @@ module _ (r : Round) (fs : List ℕ) (x : Reach) (s : Scene r fs x) where
               let g = left-some j (a .1) in
               absurd (omega (
                 arith,
-                near-out r (s .fine) (with-flag r fs) plan-rows (r .slot + x .free) (s .reach .near) (at r j) (getD-in (r .rows) (blank 0) j l) (flag-is j l ∙ g .0),
+                near-out r (s .fine) (with-flag r fs) plan-rows (r .slot + x .free) (s .reach .near) (at r j) (getD-in (r .rows) (blank 0) j l)
+                    (flag-is j l ∙ g .0),
                 from-place j (x .free) l u,
               ))
           | inr a ↦ a .1
@@ -199,6 +208,7 @@ module _ (r : Round) (fs : List ℕ) (x : Reach) (s : Scene r fs x) where
   full-edge =
       omega (
         arith,
-        kept-counts r (s .fine) (top-of r) (x .over) (x .free) (omega (arith, s .time)) (enough r (s .time)) (s .reach .sweep) (with-flag r fs) (plan-rows) (x .free) (omega arith),
+        kept-counts r (s .fine) (top-of r) (x .over) (x .free) (omega (arith, s .time)) (enough r (s .time)) (s .reach .sweep) (with-flag r fs)
+            (plan-rows) (x .free) (omega arith),
         near-edge r (s .fine) (with-flag r fs) (plan-rows) (r .slot + x .free) (s .reach .near),
       )

@@ -87,11 +87,13 @@ pub walk-end : (cs : List ℕ) (free b a c s : ℕ) → free ≤ s → b < free 
 walk-end cs free b a c s h k e w = w .gap free (omega (arith, w .early, k)) h e
 
 -- it is a segment of the plan's rows that are counted
-pub stretch-segment : (r : Round) (fs cs : List ℕ) (x : Reach) → Scene r fs x → Counted r (with-flag r fs) cs → (b : ℕ) (y : Stretch) → Stretches cs (x .free) b y →
+pub stretch-segment : (r : Round) (fs cs : List ℕ) (x : Reach) → Scene r fs x → Counted r (with-flag r fs) cs → (b : ℕ) (y : Stretch) →
+    Stretches cs (x .free) b y →
     Segment r (with-flag r fs) (r .slot + y .first) (r .slot + y .last)
 stretch-segment r fs cs x s c b y w =
     let h = free-high r fs x s in
-    segment-made r (s .fine) (top-of r) (x .over) (x .free) (omega (arith, s .time)) (enough r (s .time)) (s .reach .sweep) (with-flag r fs) (plan-rows r fs x s) (y .first) (y .last)
+    segment-made r (s .fine) (top-of r) (x .over) (x .free) (omega (arith, s .time)) (enough r (s .time)) (s .reach .sweep) (with-flag r fs)
+    (plan-rows r fs x s) (y .first) (y .last)
     (omega (arith, w .from, w .by)) (w .near) (sym (upto-is r (with-flag r fs) cs c (y .first) (omega (arith, w .from, w .by, w .near, h))) ∙ w .edge)
     (sym (upto-is r (with-flag r fs) cs c (suc (y .last)) (omega (arith, w .near, h))) ∙ w .end)
     (λ u i j e. w .none u i j (upto-is r (with-flag r fs) cs c (suc u) (omega (arith, j, w .near, h)) ∙ e))

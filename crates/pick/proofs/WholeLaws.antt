@@ -62,7 +62,8 @@ module _ (r : Round) (from i f l t w d k : ℕ) (g : Gathering r from i f l t) (
       record {
         first = peak-adds (due-of r) (key-at r) i 0 from f f2 (omega arith) (omega (arith, q, h)) (u ∙ ap (max f) e) (g .first);
         later = peak-passes (due-of r) (key-at r) i from (suc (r .last)) l (λ y _. omega (arith, y, q, h)) (g .later);
-        light = peak-adds (due-of r) (light-of r) i 0 from t t2 (omega arith) (omega (arith, q, h)) (v ∙ ap (λ (y : ℕ). max t (16777217 - y)) (a .is)) (g .light);
+        light = peak-adds (due-of r) (light-of r) i 0 from t t2 (omega arith) (omega (arith, q, h)) (v ∙ ap (λ (y : ℕ). max t (16777217 - y)) (a .is))
+            (g .light);
       }
 
   pub gather-late : (l2 : ℕ) → from ≤ d → l2 ≡ max l k → Gathering r from (i + 1) f l2 t
@@ -98,7 +99,8 @@ module _ (r : Round) (x : Reach) (s : Scene r (every r) x) where
       (λ j l o. absurd (true≢false (sym (flag-all j l) ∙ (sym (flag-is r (every r) x s j l) ∙ o))))
 
   -- peaks by due slot are peaks by bucket
-  pub early-peak : (e k : ℕ) → e ≤ x .free → Peak (due-of r) (key-at r) (length (r .rows)) 0 (r .slot + e) k → Peak (place r) (kept-key r (every r)) (length (r .rows)) 0 e k
+  pub early-peak : (e k : ℕ) → e ≤ x .free → Peak (due-of r) (key-at r) (length (r .rows)) 0 (r .slot + e) k →
+      Peak (place r) (kept-key r (every r)) (length (r .rows)) 0 e k
   early-peak e k h p =
       record {
         most = λ i l u v. omega (arith, p .most i l (omega arith) (before-place r (every r) x s i e l h v), kept-is r (every r) x s i (flag-all i l));
@@ -112,7 +114,11 @@ module _ (r : Round) (x : Reach) (s : Scene r (every r) x) where
   late-peak e k h p =
       record {
         most = λ i l u v.
-            omega (arith, p .most i l (from-place r (every r) x s i e l u) (omega (arith, fine-at r (every r) x s i l .1)), kept-is r (every r) x s i (flag-all i l));
+            omega (
+              arith,
+              p .most i l (from-place r (every r) x s i e l u) (omega (arith, fine-at r (every r) x s i l .1)),
+              kept-is r (every r) x s i (flag-all i l),
+            );
         some = λ o.
             let q = p .some o in (
               q .0,
@@ -127,7 +133,8 @@ module _ (r : Round) (x : Reach) (s : Scene r (every r) x) where
   pub all-far : (d : ℕ) (g : Gathered) → d ≡ r .slot → x .free ≡ 0 → 1 ≤ length (r .rows) → Gathers r d g → Picked r (every r) (x .free) (Far (g .later))
   all-far d g f z n w =
       let q : d ≡ r .slot + x .free = omega (arith, f, z) in
-      far-goes r (every r) x s (g .later) z n (late-peak (x .free) (g .later) (omega arith) (subst (λ (v : ℕ). Peak (due-of r) (key-at r) (length (r .rows)) v (suc (r .last)) (g .later)) q (w .later)))
+      far-goes r (every r) x s (g .later) z n (late-peak (x .free) (g .later) (omega arith)
+      (subst (λ (v : ℕ). Peak (due-of r) (key-at r) (length (r .rows)) v (suc (r .last)) (g .later)) q (w .later)))
 
   pub free-few : x .free ≤ 1025
   free-few = omega (arith, free-high r (every r) x s, s .small)
@@ -139,7 +146,8 @@ module _ (r : Round) (x : Reach) (s : Scene r (every r) x) where
   pub counts-edge : (cs : List ℕ) → Counted r (r .rows) cs → upto (x .free) cs ≡ x .free
   counts-edge cs c = upto-is r (with-flag r (every r)) cs (counts-all-rows cs c) (x .free) (free-high r (every r) x s) ∙ full-edge r (every r) x s
 
-  pub first-stretch : (cs : List ℕ) → Counted r (r .rows) cs → (y : Stretch) → Stretches cs (x .free) 0 y → Segment r (with-flag r (every r)) (r .slot) (r .slot + (y .last + 1 - 1))
+  pub first-stretch : (cs : List ℕ) → Counted r (r .rows) cs → (y : Stretch) → Stretches cs (x .free) 0 y →
+      Segment r (with-flag r (every r)) (r .slot) (r .slot + (y .last + 1 - 1))
   first-stretch cs c y w =
       let z : r .slot + y .first ≡ r .slot = omega (arith, w .from) in
       let q : r .slot + y .last ≡ r .slot + (y .last + 1 - 1) = omega arith in
@@ -152,7 +160,8 @@ module _ (r : Round) (x : Reach) (s : Scene r (every r) x) where
     blank-later q i d =
         let c = plan-rows r (every r) x s in
         let f =
-        first-segment r (s .fine) (s .time) (with-flag r (every r)) c (r .slot + x .free) (s .reach .near) (r .slot) (r .slot + (e - 1)) (omega (arith, h, m)) seg refl in
+        first-segment r (s .fine) (s .time) (with-flag r (every r)) c (r .slot + x .free) (s .reach .near) (r .slot) (r .slot + (e - 1))
+        (omega (arith, h, m)) seg refl in
         later-none r (s .fine) (with-flag r (every r)) c q (omega (arith, f, d, h)) (λ y j n. none-out (segment-start r (plan r) (q .due)) y j n)
 
     pub later-front : (k b e2 : ℕ) → Peak (place r) (kept-key r (every r)) (length (r .rows)) e (suc (top-of r)) k →
@@ -204,9 +213,11 @@ module _ (r : Round) (x : Reach) (s : Scene r (every r) x) where
           peak-heaviest r (every r) x s 0 e (g .first) first-peak-all
           (segment-key r (every r) x s 0 e (g .first) h m (subst (λ (v : ℕ). Segment r (with-flag r (every r)) v (r .slot + (e - 1))) z seg) first-peak-all)
 
-      pub later-all : (b e2 : ℕ) → Nobody r (every r) (r .slot + e) (made (g .later) b e2 0) ⊎ ((1 ≤ g .later) × Front r (every r) (r .slot + e) (made (g .later) b e2 0))
+      pub later-all : (b e2 : ℕ) → Nobody r (every r) (r .slot + e) (made (g .later) b e2 0)
+          ⊎ ((1 ≤ g .later) × Front r (every r) (r .slot + e) (made (g .later) b e2 0))
       later-all b e2 =
-          later-front (g .later) b e2 (late-peak e (g .later) m (subst (λ (v : ℕ). Peak (due-of r) (key-at r) (length (r .rows)) v (suc (r .last)) (g .later)) f (w .later)))
+          later-front (g .later) b e2 (late-peak e (g .later) m
+          (subst (λ (v : ℕ). Peak (due-of r) (key-at r) (length (r .rows)) v (suc (r .last)) (g .later)) f (w .later)))
 
       -- the lightest row due by the first segment's end
       pub light-some : (1 ≤ g .light) × (g .light ≤ 16777216)
@@ -262,9 +273,11 @@ module _ (r : Round) (x : Reach) (s : Scene r (every r) x) where
 
         pub goes-leading : Leading r (with-flag r (every r)) (g .later) (goes .row)
         goes-leading =
-            front-stays r (every r) x s (made (g .later) 0 0 0) e (g .first) (first-all .0) (16777217 - g .light) h m seg (first-all .1) light-least goes (omega (arith, u))
+            front-stays r (every r) x s (made (g .later) 0 0 0) e (g .first) (first-all .0) (16777217 - g .light) h m seg (first-all .1) light-least
+            goes (omega (arith, u))
 
-        pub goes-from : (t : ℕ) → t ≡ r .slot → (t ≤ 4095 - g .later / 1024 % 4096) × (r .slot + key-bucket t (g .later) ≡ at r (goes .row) .due) × (e ≤ key-bucket t (g .later))
+        pub goes-from : (t : ℕ) → t ≡ r .slot → (t ≤ 4095 - g .later / 1024 % 4096) × (r .slot + key-bucket t (g .later) ≡ at r (goes .row) .due)
+            × (e ≤ key-bucket t (g .later))
         goes-from t q =
             let a = fine-at r (every r) x s (goes .row) (goes .below) in
             (omega (arith, goes-due, q, a .0), omega (arith, goes-due, q, a .0), omega (arith, goes-due, q, goes .leads .from))

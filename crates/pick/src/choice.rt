@@ -88,7 +88,8 @@ pub fn choose(
     round: Round,
     reach: Reach,
 ) -> Pick
-    requires { ⌜ Ready (now table) round × (1 ≤ round .used) × Chosen (round-in (now table)) (now flags) × Tallied (round-in (now table)) (now flags) (now counts) (now kept) (now left) × Reaches (round-in (now table)) reach ⌝ }
+    requires { ⌜ Ready (now table) round × (1 ≤ round .used) × Chosen (round-in (now table)) (now flags)
+        × Tallied (round-in (now table)) (now flags) (now counts) (now kept) (now left) × Reaches (round-in (now table)) reach ⌝ }
     ensures { λ r. ⌜ Picked (round-in (now (table .entry))) (now (flags .entry)) (reach .free) r ⌝ }
 {
     let free = reach.free;

@@ -97,7 +97,8 @@ pub fn least_by(table: &[u8], flags: &[u8], round: Round, by: u32) -> u32
 
 // The mark of the current slot: in a first segment of one slot its only row's weight, else the least weight due by its end.
 pub fn first_mark(table: &[u8], flags: &[u8], round: Round, key: u64, end: usize) -> u64
-    requires { ⌜ Ready (now table) round × Chosen (round-in (now table)) (now flags) × (1 ≤ end) × (end ≤ 1025) × Alone (round-in (now table)) (now flags) (round .slot .0) key end ⌝ }
+    requires { ⌜ Ready (now table) round × Chosen (round-in (now table)) (now flags) × (1 ≤ end) × (end ≤ 1025)
+        × Alone (round-in (now table)) (now flags) (round .slot .0) key end ⌝ }
     ensures { λ r. ⌜ Least-by (round-in (now (table .entry))) (now (flags .entry)) (round .slot .0 + (end - 1)) r ⌝ }
 {
     if end == 1 {

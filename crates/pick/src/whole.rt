@@ -77,7 +77,8 @@ fn later_leap(counts: &[u16; 1025], slot: u32, free: usize, key: u64) -> Pick
 
 // Which row goes, by what reach_of found, with no row left out.
 pub fn choose_all(table: &[u8], counts: &[u16; 1025], round: Round, reach: Reach) -> Pick
-    requires { ⌜ Ready (now table) round × (1 ≤ round .used) × Counted (round-in (now table)) (round-in (now table) .rows) (now counts) × Reaches (round-in (now table)) reach × (reach .over ≡ 0) ⌝ }
+    requires { ⌜ Ready (now table) round × (1 ≤ round .used) × Counted (round-in (now table)) (round-in (now table) .rows) (now counts)
+        × Reaches (round-in (now table)) reach × (reach .over ≡ 0) ⌝ }
     ensures { λ r. ⌜ Picked (round-in (now (table .entry))) (every (round-in (now (table .entry)))) (reach .free) r ⌝ }
 {
     let slot = round.slot.0;

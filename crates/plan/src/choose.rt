@@ -14,7 +14,8 @@ use round::zeros::clear;
 // Flag i becomes 1 where row i is in the plan, and 0 where it is not. Rows due before edge pass through a heap, later ones
 // do without: where edge is changes the cost alone. The arrays take 12 KB of stack.
 pub fn choose_rows(table: &[u8], flags: &mut [u8], used: usize, slot: usize, edge: usize)
-    requires { ⌜ (table-refusal (now table) ≡ 0) × (used ≡ used-in (now table)) × (slot ≡ slot-in (now table)) × (length (now flags) ≡ used) × (edge ≤ used + 1) ⌝ }
+    requires { ⌜ (table-refusal (now table) ≡ 0) × (used ≡ used-in (now table)) × (slot ≡ slot-in (now table)) × (length (now flags) ≡ used)
+        × (edge ≤ used + 1) ⌝ }
     ensures { λ _. ⌜ Chosen (round-in (now (table .entry))) (now (flags .exit)) ⌝ }
 {
     let mut first = [NONE; 1025];

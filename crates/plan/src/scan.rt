@@ -70,7 +70,8 @@ fn admit_list(
     ahead: usize,
     kept: usize,
 ) -> usize
-    requires { ⌜ Nexts (ahead-in (now table)) (length (now flags)) 0 (now next) × Next (ahead-in (now table)) (length (now flags)) ahead 0 start × Swept (now table) (now flags) ahead 0 kept ⌝ }
+    requires { ⌜ Nexts (ahead-in (now table)) (length (now flags)) 0 (now next) × Next (ahead-in (now table)) (length (now flags)) ahead 0 start
+        × Swept (now table) (now flags) ahead 0 kept ⌝ }
     ensures { λ r. ⌜ Swept (now (table .entry)) (now (flags .exit)) (suc ahead) 0 r ⌝ }
 {
     let mut row = start;
@@ -91,7 +92,8 @@ pub fn scan(
     edge: usize,
     kept: usize,
 )
-    requires { ⌜ Listed (ahead-in (now table)) (length (now flags)) (now first) (now next) × (edge ≤ suc (length (now flags))) × Swept (now table) (now flags) edge 0 kept ⌝ }
+    requires { ⌜ Listed (ahead-in (now table)) (length (now flags)) (now first) (now next) × (edge ≤ suc (length (now flags)))
+        × Swept (now table) (now flags) edge 0 kept ⌝ }
     ensures { λ _. ⌜ Kept (now (table .entry)) (now (flags .exit)) ⌝ }
 {
     let mut ahead = edge;

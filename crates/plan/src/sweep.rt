@@ -21,7 +21,8 @@ fn admit(
     ahead: usize,
     count: usize,
 ) -> usize
-    requires { ⌜ (row < length (now flags)) × (ahead-in (now table) row ≡ ahead) × Swept (now table) (now flags) ahead row count × Heaped (now table) (now heap) (now flags) count ⌝ }
+    requires { ⌜ (row < length (now flags)) × (ahead-in (now table) row ≡ ahead) × Swept (now table) (now flags) ahead row count
+        × Heaped (now table) (now heap) (now flags) count ⌝ }
     ensures { λ r. ⌜ Swept (now (table .entry)) (now (flags .exit)) ahead (suc row) r × Heaped (now (table .entry)) (now (heap .exit)) (now (flags .exit)) r ⌝ }
 {
     let key = key_at(table, row);
@@ -51,7 +52,8 @@ fn admit_list(
     ahead: usize,
     kept: usize,
 ) -> usize
-    requires { ⌜ Nexts (ahead-in (now table)) (length (now flags)) 0 (now next) × Next (ahead-in (now table)) (length (now flags)) ahead 0 start × Swept (now table) (now flags) ahead 0 kept × Heaped (now table) (now heap) (now flags) kept ⌝ }
+    requires { ⌜ Nexts (ahead-in (now table)) (length (now flags)) 0 (now next) × Next (ahead-in (now table)) (length (now flags)) ahead 0 start
+        × Swept (now table) (now flags) ahead 0 kept × Heaped (now table) (now heap) (now flags) kept ⌝ }
     ensures { λ r. ⌜ Swept (now (table .entry)) (now (flags .exit)) (suc ahead) 0 r × Heaped (now (table .entry)) (now (heap .exit)) (now (flags .exit)) r ⌝ }
 {
     let mut row = start;
@@ -71,7 +73,8 @@ pub fn sweep(
     next: &[u16; 1024],
     edge: usize,
 ) -> usize
-    requires { ⌜ Flagged (now table) (now flags) × Listed (ahead-in (now table)) (length (now flags)) (now first) (now next) × (now flags ≡ replicate (length (now flags)) 0) × (edge ≤ suc (length (now flags))) ⌝ }
+    requires { ⌜ Flagged (now table) (now flags) × Listed (ahead-in (now table)) (length (now flags)) (now first) (now next)
+        × (now flags ≡ replicate (length (now flags)) 0) × (edge ≤ suc (length (now flags))) ⌝ }
     ensures { λ r. ⌜ Swept (now (table .entry)) (now (flags .exit)) edge 0 r ⌝ }
 {
     if edge == 0 {

@@ -36,7 +36,8 @@ row-end xs h =
     let kind : getD xs 10 0 ≡ field 10 1 xs = omega (arith, field-suc xs 10 0 k, field-zero xs 11) in
     ap₂ (λ (p : Bool) (q : Bool). p && q) (word-small xs 10 k)
     (word-small xs 16 m ∙ ap (λ (ys : List ℕ). leb (getD xs 16 0) 1 && zeros ys) (take-all 7 (drop 17 xs) o ∙ drop-cons xs 17 0 n))
-    ∙ overlap (leb (getD xs 10 0) 1) (zeros (take 7 (drop 11 xs))) (zeros (drop 18 xs)) (getD xs 16 0) (getD xs 17 0) (λ e. (at e 5 (omega arith), at e 6 (omega arith)))
+    ∙ overlap (leb (getD xs 10 0) 1) (zeros (take 7 (drop 11 xs))) (zeros (drop 18 xs)) (getD xs 16 0) (getD xs 17 0)
+    (λ e. (at e 5 (omega arith), at e 6 (omega arith)))
     ∙ ap₂ (λ (n : ℕ) (t : Bool). leb n 1 && t) kind (sym (zeros-rest xs 11 7))
   where
     at : zeros (take 7 (drop 11 xs)) ≡ true → (i : ℕ) → i < 7 → getD xs (11 + i) 0 ≡ 0
@@ -60,7 +61,8 @@ rows-step s l n b t u i h =
     rw (e, f, ← drop-drop 24 (16 + 24 * i) t)
 
 -- what the judge said of row i goes in front of the rest
-pub rows-more : (s l n b : ℕ) (t : List ℕ) (u i a : ℕ) (x v w : Bool) → i < u → a ≡ 16 + 24 * i → x ≡ row-judged s l n b (take (a + 24 - a) (drop a t)) → x ≡ v →
+pub rows-more : (s l n b : ℕ) (t : List ℕ) (u i a : ℕ) (x v w : Bool) → i < u → a ≡ 16 + 24 * i →
+    x ≡ row-judged s l n b (take (a + 24 - a) (drop a t)) → x ≡ v →
     w ≡ rows-judged (u - i) s l n b (drop (16 + 24 * i) t) → w ≡ v && rows-judged (u - (i + 1)) s l n (field a 4 t) (drop (16 + 24 * (i + 1)) t)
 rows-more s l n b t u i a x v w h e j k inv =
     let f : a + 24 - a ≡ 24 = omega arith in

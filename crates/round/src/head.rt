@@ -65,7 +65,8 @@ pub fn head_is_sound(table: &[u8], round: Round) -> bool
 // A round's numbers written into the head; its zero bytes stay as they are.
 pub fn write_head(table: &mut [u8], round: Round)
     requires { ⌜ (head-zeros-at ≤ length (now table)) × (round .used ≤ most-rows) ⌝ }
-    ensures { λ _. ⌜ now (table .exit) ≡ head-numbers (round .slot .0) (round .last .0) (round .next .0) (round .used) ++ drop head-zeros-at (now (table .entry)) ⌝ }
+    ensures { λ _. ⌜ now (table .exit) ≡ head-numbers (round .slot .0) (round .last .0) (round .next .0) (round .used)
+        ++ drop head-zeros-at (now (table .entry)) ⌝ }
 {
     write2(table, Round::SLOT_AT, round.slot.0);
     write2(table, Round::LAST_AT, round.last.0);

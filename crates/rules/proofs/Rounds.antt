@@ -170,10 +170,13 @@ rounds =
           turn (taking 3 9) (ticket 4) (waits 1 4 2 ∷ waits 2 1 1 ∷ waits 3 4 20 ∷ waits 4 3 9 ∷ []) (0 ∷ 0 ∷ 0 ∷ 0 ∷ 0 ∷ []) ∷
           turn (taking 0 9) (ticket 5) (waits 1 4 2 ∷ waits 2 1 1 ∷ waits 3 4 20 ∷ waits 4 3 9 ∷ waits 5 0 9 ∷ []) (9 ∷ 1 ∷ 1 ∷ 1 ∷ 1 ∷ []) ∷
           turn (taking 2 2) (ticket 6) (waits 1 4 2 ∷ waits 2 1 1 ∷ waits 3 4 20 ∷ waits 4 3 9 ∷ waits 5 0 9 ∷ waits 6 2 2 ∷ []) (9 ∷ 2 ∷ 2 ∷ 2 ∷ 2 ∷ []) ∷
-          turn (taking 1 2) (ticket 7) (waits 1 4 2 ∷ waits 2 1 1 ∷ waits 3 4 20 ∷ waits 4 3 9 ∷ waits 5 0 9 ∷ waits 6 2 2 ∷ waits 7 1 2 ∷ []) (9 ∷ 2 ∷ 2 ∷ 2 ∷ 2 ∷ []) ∷
-          turn (taking 3 4) (ticket 8) (waits 1 4 2 ∷ waits 2 1 1 ∷ waits 3 4 20 ∷ waits 4 3 9 ∷ waits 5 0 9 ∷ waits 6 2 2 ∷ waits 7 1 2 ∷ waits 8 3 4 ∷ []) (9 ∷ 2 ∷ 2 ∷ 2 ∷ 2 ∷ []) ∷
+          turn (taking 1 2) (ticket 7) (waits 1 4 2 ∷ waits 2 1 1 ∷ waits 3 4 20 ∷ waits 4 3 9 ∷ waits 5 0 9 ∷ waits 6 2 2 ∷ waits 7 1 2 ∷ []) (9 ∷ 2
+          ∷ 2 ∷ 2 ∷ 2 ∷ []) ∷
+          turn (taking 3 4) (ticket 8) (waits 1 4 2 ∷ waits 2 1 1 ∷ waits 3 4 20 ∷ waits 4 3 9 ∷ waits 5 0 9 ∷ waits 6 2 2 ∷ waits 7 1 2 ∷ waits 8 3 4
+          ∷ []) (9 ∷ 2 ∷ 2 ∷ 2 ∷ 2 ∷ []) ∷
           listing (5 ∷ 7 ∷ 4 ∷ 8 ∷ 3 ∷ []) (ticket 5 ∷ ticket 6 ∷ ticket 6 ∷ ticket 6 ∷ ticket 1 ∷ []) ∷
-          turn sending (step (ordinary (frame 5))) (waits 1 4 2 ∷ waits 2 1 1 ∷ waits 3 4 20 ∷ waits 4 3 9 ∷ waits 6 2 2 ∷ waits 7 1 2 ∷ waits 8 3 4 ∷ []) (2 ∷ 2 ∷ 2 ∷ 2 ∷ []) ∷
+          turn sending (step (ordinary (frame 5))) (waits 1 4 2 ∷ waits 2 1 1 ∷ waits 3 4 20 ∷ waits 4 3 9 ∷ waits 6 2 2 ∷ waits 7 1 2 ∷ waits 8 3 4
+          ∷ []) (2 ∷ 2 ∷ 2 ∷ 2 ∷ []) ∷
           [];
     } ∷
     -- send, take, send: a kept blank goes out
@@ -230,7 +233,8 @@ rounds =
           turn (taking 1 20) (ticket 4) (waits 1 3 2 ∷ waits 2 2 2 ∷ waits 3 0 4 ∷ waits 4 1 20 ∷ []) (4 ∷ 4 ∷ 2 ∷ 2 ∷ 0 ∷ []) ∷
           turn (taking 3 1) (ticket 5) (waits 1 3 2 ∷ waits 2 2 2 ∷ waits 3 0 4 ∷ waits 4 1 20 ∷ waits 5 3 1 ∷ []) (4 ∷ 4 ∷ 2 ∷ 2 ∷ 0 ∷ []) ∷
           turn (taking 0 5) (ticket 6) (waits 1 3 2 ∷ waits 2 2 2 ∷ waits 3 0 4 ∷ waits 4 1 20 ∷ waits 5 3 1 ∷ waits 6 0 5 ∷ []) (5 ∷ 5 ∷ 2 ∷ 2 ∷ 0 ∷ []) ∷
-          turn (taking 0 1) (ticket 7) (waits 1 3 2 ∷ waits 2 2 2 ∷ waits 3 0 4 ∷ waits 4 1 20 ∷ waits 5 3 1 ∷ waits 6 0 5 ∷ waits 7 0 1 ∷ []) (5 ∷ 5 ∷ 2 ∷ 2 ∷ 0 ∷ []) ∷
+          turn (taking 0 1) (ticket 7) (waits 1 3 2 ∷ waits 2 2 2 ∷ waits 3 0 4 ∷ waits 4 1 20 ∷ waits 5 3 1 ∷ waits 6 0 5 ∷ waits 7 0 1 ∷ []) (5 ∷ 5
+          ∷ 2 ∷ 2 ∷ 0 ∷ []) ∷
           listing (6 ∷ 4 ∷ 2 ∷ 1 ∷ []) (ticket 6 ∷ ticket 5 ∷ ticket 5 ∷ ticket 5 ∷ []) ∷
           turn sending (step (leap (frame 4))) (waits 1 2 2 ∷ waits 2 1 5 ∷ waits 5 3 2 ∷ []) (5 ∷ 2 ∷ 2 ∷ 0 ∷ []) ∷
           [];
@@ -248,7 +252,8 @@ rounds =
           listing (2 ∷ 4 ∷ 1 ∷ 3 ∷ []) (ticket 1 ∷ ticket 1 ∷ ticket 1 ∷ blank-due 3 ∷ []) ∷
           turn sending (step (leap (frame 3))) (waits 1 2 3 ∷ waits 2 1 3 ∷ keeps 3 3 3 ∷ waits 4 2 5 ∷ waits 5 2 2 ∷ []) (3 ∷ 3 ∷ 3 ∷ []) ∷
           turn (taking 2 3) (ticket 6) (waits 1 2 3 ∷ waits 2 1 3 ∷ keeps 3 3 3 ∷ waits 4 2 5 ∷ waits 5 2 2 ∷ waits 6 2 3 ∷ []) (3 ∷ 3 ∷ 3 ∷ []) ∷
-          turn (taking 3 20) (ticket 7) (waits 1 2 3 ∷ waits 2 1 3 ∷ keeps 3 3 3 ∷ waits 4 2 5 ∷ waits 5 2 2 ∷ waits 6 2 3 ∷ waits 7 3 20 ∷ []) (3 ∷ 3 ∷ 3 ∷ []) ∷
+          turn (taking 3 20) (ticket 7) (waits 1 2 3 ∷ waits 2 1 3 ∷ keeps 3 3 3 ∷ waits 4 2 5 ∷ waits 5 2 2 ∷ waits 6 2 3 ∷ waits 7 3 20 ∷ []) (3 ∷ 3
+          ∷ 3 ∷ []) ∷
           turn sending (step (leap (frame 7))) (waits 1 2 3 ∷ keeps 3 3 3 ∷ waits 4 2 5 ∷ waits 5 2 2 ∷ waits 6 2 3 ∷ []) (5 ∷ 3 ∷ []) ∷
           [];
     } ∷
@@ -278,8 +283,10 @@ rounds =
           turn (taking 1 4) (ticket 4) (waits 1 0 3 ∷ waits 2 4 20 ∷ waits 3 1 4 ∷ waits 4 1 4 ∷ []) (4 ∷ 4 ∷ 0 ∷ 0 ∷ 0 ∷ []) ∷
           turn (taking 4 2) (ticket 5) (waits 1 0 3 ∷ waits 2 4 20 ∷ waits 3 1 4 ∷ waits 4 1 4 ∷ waits 5 4 2 ∷ []) (4 ∷ 4 ∷ 0 ∷ 0 ∷ 0 ∷ []) ∷
           turn (taking 4 3) (ticket 6) (waits 1 0 3 ∷ waits 2 4 20 ∷ waits 3 1 4 ∷ waits 4 1 4 ∷ waits 5 4 2 ∷ waits 6 4 3 ∷ []) (4 ∷ 4 ∷ 2 ∷ 2 ∷ 2 ∷ []) ∷
-          turn (taking 4 20) (ticket 7) (waits 1 0 3 ∷ waits 2 4 20 ∷ waits 3 1 4 ∷ waits 4 1 4 ∷ waits 5 4 2 ∷ waits 6 4 3 ∷ waits 7 4 20 ∷ []) (4 ∷ 4 ∷ 3 ∷ 3 ∷ 3 ∷ []) ∷
-          turn (taking 2 20) (ticket 8) (waits 1 0 3 ∷ waits 2 4 20 ∷ waits 3 1 4 ∷ waits 4 1 4 ∷ waits 5 4 2 ∷ waits 6 4 3 ∷ waits 7 4 20 ∷ waits 8 2 20 ∷ []) (4 ∷ 4 ∷ 4 ∷ 4 ∷ 4 ∷ []) ∷
+          turn (taking 4 20) (ticket 7) (waits 1 0 3 ∷ waits 2 4 20 ∷ waits 3 1 4 ∷ waits 4 1 4 ∷ waits 5 4 2 ∷ waits 6 4 3 ∷ waits 7 4 20 ∷ []) (4
+          ∷ 4 ∷ 3 ∷ 3 ∷ 3 ∷ []) ∷
+          turn (taking 2 20) (ticket 8) (waits 1 0 3 ∷ waits 2 4 20 ∷ waits 3 1 4 ∷ waits 4 1 4 ∷ waits 5 4 2 ∷ waits 6 4 3 ∷ waits 7 4 20
+          ∷ waits 8 2 20 ∷ []) (4 ∷ 4 ∷ 4 ∷ 4 ∷ 4 ∷ []) ∷
           listing (3 ∷ 4 ∷ 8 ∷ 2 ∷ 7 ∷ []) (ticket 4 ∷ ticket 4 ∷ ticket 6 ∷ ticket 6 ∷ ticket 6 ∷ []) ∷
           turn sending (step (leap (frame 8))) (waits 2 2 20 ∷ waits 3 1 4 ∷ waits 4 1 4 ∷ waits 5 4 2 ∷ waits 6 4 4 ∷ waits 7 4 20 ∷ []) (4 ∷ 4 ∷ 4 ∷ 4 ∷ []) ∷
           [];
@@ -354,5 +361,9 @@ rounds =
 
 -- THE FACT: played by the definitions, each is as written
 pub rounds-by-hand : played rounds ≡ rounds
-unfolding row blank round slots-left heavier canonical into sorted rows-only due-by fits-from feasible kept blanks-from plan total-weight total tight tight-from tight-after segment-from segment-start first-end least-weight mark-in mark same-row in-plan lightest-by heaviest-outside substitute beats-golden golden-more sends-before best-from best listed opened taken changed without heaviest-between shifted replaced leapt still-due is-ordinary sent low value field row-bytes rows-bytes table rows-in rows-of round-in length-good rows-good round-good same table-refusal first open-refusal take-refusal send-refusal round-refusal out-of says leaves table-first refusal answer left with-ticket stand-in substitute-answer
+unfolding row blank round slots-left heavier canonical into sorted rows-only due-by fits-from feasible kept blanks-from plan total-weight total tight
+    tight-from tight-after segment-from segment-start first-end least-weight mark-in mark same-row in-plan lightest-by heaviest-outside substitute
+    beats-golden golden-more sends-before best-from best listed opened taken changed without heaviest-between shifted replaced leapt still-due
+    is-ordinary sent low value field row-bytes rows-bytes table rows-in rows-of round-in length-good rows-good round-good same table-refusal first
+    open-refusal take-refusal send-refusal round-refusal out-of says leaves table-first refusal answer left with-ticket stand-in substitute-answer
 rounds-by-hand = refl

@@ -68,5 +68,10 @@ abbrev pub shown : List ℕ → List ℕ
 shown input = printed-from (lines-from [] input) zeroed
 
 pub lines-by-hand : (shown sample ≡ sample-printed) × (shown over ≡ over-printed) × (shown early ≡ early-printed)
-unfolding row blank round slots-left heavier canonical into sorted due-by fits-from feasible kept blanks-from plan total-weight tight tight-from tight-after segment-from segment-start first-end least-weight mark-in same-row in-plan lightest-by heaviest-outside substitute beats-golden golden-more sends-before best-from best opened taken changed without heaviest-between shifted replaced leapt still-due is-ordinary sent low value field row-bytes rows-bytes table rows-in rows-of round-in length-good rows-good round-good same table-refusal first open-refusal take-refusal send-refusal round-refusal out-of says leaves table-first refusal answer left digit is-digit digit-value digits number-from all-digits call-of body number-at read-digits read out-digits reply-digits reply-text lines-from turn printed-from
+unfolding row blank round slots-left heavier canonical into sorted due-by fits-from feasible kept blanks-from plan total-weight tight tight-from
+    tight-after segment-from segment-start first-end least-weight mark-in same-row in-plan lightest-by heaviest-outside substitute beats-golden
+    golden-more sends-before best-from best opened taken changed without heaviest-between shifted replaced leapt still-due is-ordinary sent low value
+    field row-bytes rows-bytes table rows-in rows-of round-in length-good rows-good round-good same table-refusal first open-refusal take-refusal
+    send-refusal round-refusal out-of says leaves table-first refusal answer left digit is-digit digit-value digits number-from all-digits call-of
+    body number-at read-digits read out-digits reply-digits reply-text lines-from turn printed-from
 lines-by-hand = (refl, refl, refl)

@@ -54,7 +54,9 @@ fn pick_row(
     round: Round,
     reach: Reach,
 ) -> Pick
-    requires { ⌜ Ready (now table) round × (1 ≤ round .used) × Chosen (round-in (now table)) (now flags) × Counted (round-in (now table)) (round-in (now table) .rows) (now counts) × Reaches (round-in (now table)) reach × (now kept ≡ replicate 1025 0) ⌝ }
+    requires { ⌜ Ready (now table) round × (1 ≤ round .used) × Chosen (round-in (now table)) (now flags)
+        × Counted (round-in (now table)) (round-in (now table) .rows) (now counts) × Reaches (round-in (now table)) reach
+        × (now kept ≡ replicate 1025 0) ⌝ }
     ensures { λ r. ⌜ Noted (now (table .entry)) round (now (flags .entry)) reach (now (counts .exit)) (now (kept .exit)) r ⌝ }
 {
     let mut left = [0u64; 1025];
@@ -70,7 +72,8 @@ fn send_flagged(
     round: Round,
     reach: Reach,
 ) -> Went
-    requires { ⌜ Ready (now table) round × (1 ≤ round .used) × Chosen (round-in (now table)) (now flags) × Counted (round-in (now table)) (round-in (now table) .rows) (now counts) × Reaches (round-in (now table)) reach ⌝ }
+    requires { ⌜ Ready (now table) round × (1 ≤ round .used) × Chosen (round-in (now table)) (now flags)
+        × Counted (round-in (now table)) (round-in (now table) .rows) (now counts) × Reaches (round-in (now table)) reach ⌝ }
     ensures { λ r. ⌜ Sent-says (now (table .entry)) (now (table .exit)) r ⌝ }
 {
     let mut kept = [0u64; 1025];
@@ -80,7 +83,8 @@ fn send_flagged(
 
 // Nothing is left out: every row is in the plan.
 fn send_whole(table: &mut [u8], counts: &[u16; 1025], round: Round, reach: Reach) -> Went
-    requires { ⌜ Ready (now table) round × (1 ≤ round .used) × Counted (round-in (now table)) (round-in (now table) .rows) (now counts) × Reaches (round-in (now table)) reach × (reach .over ≡ 0) ⌝ }
+    requires { ⌜ Ready (now table) round × (1 ≤ round .used) × Counted (round-in (now table)) (round-in (now table) .rows) (now counts)
+        × Reaches (round-in (now table)) reach × (reach .over ≡ 0) ⌝ }
     ensures { λ r. ⌜ Sent-says (now (table .entry)) (now (table .exit)) r ⌝ }
 {
     let pick = choose_all(table, counts, round, reach);
@@ -89,7 +93,8 @@ fn send_whole(table: &mut [u8], counts: &[u16; 1025], round: Round, reach: Reach
 
 // Some rows are left out.
 fn send_planned(table: &mut [u8], counts: &mut [u16; 1025], round: Round, reach: Reach) -> Went
-    requires { ⌜ Ready (now table) round × (1 ≤ round .used) × Counted (round-in (now table)) (round-in (now table) .rows) (now counts) × Reaches (round-in (now table)) reach ⌝ }
+    requires { ⌜ Ready (now table) round × (1 ≤ round .used) × Counted (round-in (now table)) (round-in (now table) .rows) (now counts)
+        × Reaches (round-in (now table)) reach ⌝ }
     ensures { λ r. ⌜ Sent-says (now (table .entry)) (now (table .exit)) r ⌝ }
 {
     let used = round.used;

@@ -129,7 +129,8 @@ module _ (r : Round) (fs : List ℕ) (x : Reach) (z : Scene r fs x) (to : ℕ) (
       let n : r .slot + e < r .slot + x .free = omega (arith, h, near) in
       let y = segment-some r (z .fine) (z .time) rs c (r .slot + x .free) (z .reach .near) b (r .slot + e) n g in
       let w = m .mark e h .found (y .0) (y .1) (y .3) in
-      segment-mark r (z .fine) (z .time) rs c (r .slot + x .free) (z .reach .near) b (r .slot + e) n g (r .slot + e) (g .by) (omega arith) (w .row) (w .inside) (w .due) (w .least)
+      segment-mark r (z .fine) (z .time) rs c (r .slot + x .free) (z .reach .near) b (r .slot + e) n g (r .slot + e) (g .by) (omega arith) (w .row)
+      (w .inside) (w .due) (w .least)
       ∙ w .weight
 
   -- THE START
@@ -186,7 +187,8 @@ module _ (r : Round) (fs : List ℕ) (x : Reach) (z : Scene r fs x) (to : ℕ) (
 
     heavier-end : (w : ℕ) → Heaviest r fs b (suc to) n w → place r w < suc e → tight-after r (plan r) (at r w .due) ≡ r .slot + e
     heavier-end w y d =
-        segment-end r (z .fine) (z .time) rs (plan-rows r fs x z) (r .slot + x .free) (z .reach .near) (r .slot + b) (r .slot + e) (omega (arith, j, near)) g (at r w .due)
+        segment-end r (z .fine) (z .time) rs (plan-rows r fs x z) (r .slot + x .free) (z .reach .near) (r .slot + b) (r .slot + e)
+        (omega (arith, j, near)) g (at r w .due)
         (from-place r fs x z w b (y .below) (y .from)) (omega (arith, before-place r fs x z w (suc e) (y .below) (omega (arith, j, near)) d))
 
     pub waits-next : k < n → Waiting r fs to e k t → Waiting r fs to (b - 1) n (linked (r .slot) k e (getD ms e 0) t)
@@ -205,7 +207,8 @@ module _ (r : Round) (fs : List ℕ) (x : Reach) (z : Scene r fs x) (to : ℕ) (
         })
 
   -- ONE BUCKET: s is passed
-  module _ (cs ks ms : List ℕ) (c : Counted r rs cs) (ts : Tops (place r) (kept-key r fs) (length (r .rows)) ks) (m : Marks r fs to ms) (s : ℕ) (l : Links) (t : List ℕ)
+  module _ (cs ks ms : List ℕ) (c : Counted r rs cs) (ts : Tops (place r) (kept-key r fs) (length (r .rows)) ks) (m : Marks r fs to ms) (s : ℕ)
+      (l : Links) (t : List ℕ)
       (h : 1 ≤ s) (q : Linking r fs to s l t) where
     bucket-in : s ≤ top-of r
     bucket-in = omega (arith, q .by, q .far, near, free-high r fs x z)
@@ -298,7 +301,8 @@ module _ (r : Round) (fs : List ℕ) (x : Reach) (z : Scene r fs x) (to : ℕ) (
   -- counts before a bucket are those of rows due before its slot
   pub before-is : (s : ℕ) → s ≤ suc to → before r rs s ≡ num 0 (r .slot + s) rs
   before-is s h =
-      kept-counts r (z .fine) (top-of r) (x .over) (x .free) (omega (arith, z .time)) (enough r (z .time)) (z .reach .sweep) rs (plan-rows r fs x z) s (omega (arith, h, near))
+      kept-counts r (z .fine) (top-of r) (x .over) (x .free) (omega (arith, z .time)) (enough r (z .time)) (z .reach .sweep) rs (plan-rows r fs x z) s
+      (omega (arith, h, near))
 
   pub end-before : (b e : ℕ) → e ≤ to → Segment r rs b (r .slot + e) → before r rs (suc e) ≡ suc e
   end-before b e h g =
@@ -306,7 +310,8 @@ module _ (r : Round) (fs : List ℕ) (x : Reach) (z : Scene r fs x) (to : ℕ) (
       omega (arith, before-is (suc e) (omega (arith, h)), g .end, ap (λ (v : ℕ). num 0 v rs) p)
 
   -- THE END: every link has moved
-  pub linking-end : (ms : List ℕ) → Marks r fs to ms → (from b : ℕ) → from ≤ to → Segment r rs b (r .slot + from) → (l : Links) (t : List ℕ) → Linking r fs to from l t →
+  pub linking-end : (ms : List ℕ) → Marks r fs to ms → (from b : ℕ) → from ≤ to → Segment r rs b (r .slot + from) → (l : Links) (t : List ℕ) →
+      Linking r fs to from l t →
       Shifts r rs (r .slot + from) (r .slot + to) (linked (r .slot) (l .waiting) from (getD ms from 0) t)
   linking-end ms m from b h g l t q =
       let e : l .end ≡ from = elim (eqb? (l .end) from) [

@@ -27,10 +27,12 @@ module _ (t : ℕ) (ms : List ℕ) (l : Links) (bs : List ℕ) where
   pub ended-moved : (us : List ℕ) → l .waiting < l .most → us ≡ linked t (l .waiting) (l .end) (getD ms (l .end) 0) bs → us ≡ ended-bytes t ms l bs
   ended-moved us h e = rw (lt-leb (l .most) (l .waiting) h) e
 
-pub ended-keeps : (l : Links) (b : ℕ) → l .most ≤ l .waiting → _≡_ {A = Links} (record { under = l .under; most = l .most; waiting = l .waiting; end = b }) (ended l b)
+pub ended-keeps : (l : Links) (b : ℕ) → l .most ≤ l .waiting →
+    _≡_ {A = Links} (record { under = l .under; most = l .most; waiting = l .waiting; end = b }) (ended l b)
 ended-keeps l b h = let e : l .waiting ≡ max (l .waiting) (l .most) = omega arith in rw (← e)
 
-pub ended-takes : (l : Links) (b : ℕ) → l .waiting < l .most → _≡_ {A = Links} (record { under = l .under; most = l .most; waiting = l .most; end = b }) (ended l b)
+pub ended-takes : (l : Links) (b : ℕ) → l .waiting < l .most →
+    _≡_ {A = Links} (record { under = l .under; most = l .most; waiting = l .most; end = b }) (ended l b)
 ended-takes l b h = let e : max (l .waiting) (l .most) ≡ l .most = omega arith in rw e
 
 -- a bucket passed: n its rows of the plan, m the greatest key from it on

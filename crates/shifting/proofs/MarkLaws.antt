@@ -48,7 +48,8 @@ module _ (r : Round) (fs : List ℕ) (l i : ℕ) (ms : List ℕ) (o : Own-marks 
       }
 
   -- a row that lowers its bucket's mark
-  own-lower : getD (raised fs) i false ≡ true → ahead r i ≤ l → l ≤ 1024 → Own-marks r fs l (i + 1) (set ms (ahead r i) (min (getD ms (ahead r i) 0) (at r i .weight)))
+  own-lower : getD (raised fs) i false ≡ true → ahead r i ≤ l → l ≤ 1024 →
+      Own-marks r fs l (i + 1) (set ms (ahead r i) (min (getD ms (ahead r i) 0) (at r i .weight)))
   own-lower f a b =
       let s = ahead r i in
       let v = min (getD ms s 0) (at r i .weight) in
@@ -58,7 +59,13 @@ module _ (r : Round) (fs : List ℕ) (l i : ℕ) (ms : List ℕ) (o : Own-marks 
         least = λ j h g c. elim (eqb? j i) [
           | inl e ↦ rw (e .1) (omega (arith, getD-set-same ms s v 0 k))
           | inr e ↦ let d = e .1 in elim (eqb? (ahead r j) s) [
-            | inl q ↦ omega (arith, ap (λ (x : ℕ). getD (set ms s v) x 0) (q .1), ap (λ (x : ℕ). getD ms x 0) (q .1), getD-set-same ms s v 0 k, o .least j (omega arith) g c)
+            | inl q ↦ omega (
+              arith,
+              ap (λ (x : ℕ). getD (set ms s v) x 0) (q .1),
+              ap (λ (x : ℕ). getD ms x 0) (q .1),
+              getD-set-same ms s v 0 k,
+              o .least j (omega arith) g c,
+            )
             | inr q ↦ omega (arith, getD-set-other ms s (ahead r j) v 0 (q .1), o .least j (omega arith) g c)
           ]
         ];
@@ -158,7 +165,8 @@ lowest-one ms (suc s) = elim (leb? (lowest ms s) (getD ms (suc s) 0)) [
 ]
 
 -- THE MARKS
-module _ (r : Round) (f : Fine r) (fs : List ℕ) (c : Chosen r fs) (l : ℕ) (ms us : List ℕ) (o : Own-marks r fs l (length (r .rows)) ms) (w : Lowered l ms us) where
+module _ (r : Round) (f : Fine r) (fs : List ℕ) (c : Chosen r fs) (l : ℕ) (ms us : List ℕ) (o : Own-marks r fs l (length (r .rows)) ms)
+    (w : Lowered l ms us) where
   row-fine : (i : ℕ) → i < length (r .rows) → Row-fine r (at r i)
   row-fine i h = all-in (Row-fine r) (at r i) (r .rows) (f .fine) (getD-in (r .rows) (blank 0) i h)
 
@@ -191,7 +199,13 @@ module _ (r : Round) (f : Fine r) (fs : List ℕ) (c : Chosen r fs) (l : ℕ) (m
       below-all x j k =
           let q = chosen-index (blank 0) x (raised fs) (r .rows) j in
           let g : ahead r (q .0) ≤ s = omega (arith, ap (λ (z : Row). z .due) (q .3), k) in
-          omega (arith, w .low s h, lowest-below ms s (ahead r (q .0)) g, o .least (q .0) (q .1) (q .2) (omega (arith, g, h)), ap (λ (z : Row). z .weight) (q .3))
+          omega (
+            arith,
+            w .low s h,
+            lowest-below ms s (ahead r (q .0)) g,
+            o .least (q .0) (q .1) (q .2) (omega (arith, g, h)),
+            ap (λ (z : Row). z .weight) (q .3),
+          )
 
       most-of : (x : Row) → In x (with-flag r fs) → x .weight ≤ most-weight
       most-of x j =

@@ -71,16 +71,19 @@ module _ (r : Round) (xs : List Row) (a i : ℕ) (s : Rising a (r .next) xs) (h 
       ≡ head-bytes (r .slot) (r .last) (r .next) (length xs) ++ (rows-bytes (changed (x .ticket) y xs) ++ replicate (24 * (r .room - length xs)) 0)
   with-same y =
       table-is (r .slot) (r .last) (r .next) (r .room) (changed (x .ticket) y xs)
-      ∙ ap (λ (n : ℕ). head-bytes (r .slot) (r .last) (r .next) n ++ (rows-bytes (changed (x .ticket) y xs) ++ replicate (24 * (r .room - n)) 0)) (length-changed (x .ticket) y xs)
+      ∙ ap (λ (n : ℕ). head-bytes (r .slot) (r .last) (r .next) n ++ (rows-bytes (changed (x .ticket) y xs) ++ replicate (24 * (r .room - n)) 0))
+      (length-changed (x .ticket) y xs)
 
-  pub table-shift : (d w : ℕ) → table (having r (changed (x .ticket) (row (x .ticket) d w (x .kind)) xs)) ≡ sets (table (having r xs)) (row-at i + 4) (low 2 d ++ low 4 w)
+  pub table-shift : (d w : ℕ) → table (having r (changed (x .ticket) (row (x .ticket) d w (x .kind)) xs)) ≡ sets (table (having r xs)) (row-at i + 4)
+      (low 2 d ++ low 4 w)
   table-shift d w =
       with-same (row (x .ticket) d w (x .kind))
       ∙ shift-bytes a (r .next) (head-bytes (r .slot) (r .last) (r .next) (length xs)) (replicate (24 * (r .room - length xs)) 0) xs i (blank 0) d w s h
       (length-head (r .slot) (r .last) (r .next) (length xs))
       ∙ ap (λ (bs : List ℕ). sets bs (row-at i + 4) (low 2 d ++ low 4 w)) (sym (table-is (r .slot) (r .last) (r .next) (r .room) xs))
 
-  pub table-weight : (w : ℕ) → table (having r (changed (x .ticket) (row (x .ticket) (x .due) w (x .kind)) xs)) ≡ sets (table (having r xs)) (row-at i + 6) (low 4 w)
+  pub table-weight : (w : ℕ) → table (having r (changed (x .ticket) (row (x .ticket) (x .due) w (x .kind)) xs)) ≡ sets (table (having r xs))
+      (row-at i + 6) (low 4 w)
   table-weight w =
       with-same (row (x .ticket) (x .due) w (x .kind))
       ∙ weight-bytes a (r .next) (head-bytes (r .slot) (r .last) (r .next) (length xs)) (replicate (24 * (r .room - length xs)) 0) xs i (blank 0) w s h

@@ -90,7 +90,9 @@ fn pass_bucket(
     bucket: usize,
 ) -> Links
     requires { ⌜ Fair-links (slot .0) links (now table) × (bucket ≤ 1024) × (getD (now counts) bucket 0 ≤ links .under) × (1 ≤ bucket) ⌝ }
-    ensures { λ r. ⌜ (r ≡ passed (now (counts .entry)) (now (kept .entry)) links bucket) × (now (table .exit) ≡ passed-bytes (slot .0) (now (counts .entry)) (now (kept .entry)) (now (marks .entry)) links bucket (now (table .entry))) ⌝ }
+    ensures { λ r. ⌜ (r ≡ passed (now (counts .entry)) (now (kept .entry)) links bucket)
+        × (now (table .exit) ≡ passed-bytes (slot .0) (now (counts .entry)) (now (kept .entry)) (now (marks .entry)) links bucket
+        (now (table .entry))) ⌝ }
 {
     let under = links.under - wide(counts[bucket]);
     let met = Links {
@@ -118,7 +120,8 @@ pub fn shift_chain(
     to: usize,
 )
     requires { ⌜ Chained (now table) round (now flags) reach (now counts) (now kept) (now marks) from to ⌝ }
-    ensures { λ _. ⌜ Shifts (round-in (now (table .entry))) (with-flag (round-in (now (table .entry))) (now (flags .entry))) (round-in (now (table .entry)) .slot + from) (round-in (now (table .entry)) .slot + to) (now (table .exit)) ⌝ }
+    ensures { λ _. ⌜ Shifts (round-in (now (table .entry))) (with-flag (round-in (now (table .entry))) (now (flags .entry)))
+        (round-in (now (table .entry)) .slot + from) (round-in (now (table .entry)) .slot + to) (now (table .exit)) ⌝ }
 {
     let slot = Slot(round.slot.0);
     let mut links = Links {

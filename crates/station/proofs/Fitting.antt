@@ -76,4 +76,5 @@ pub taking-answers : (d w : ℕ) → Answers-fit (taking d w)
 unfolding Answers-fit refusal table-first round-refusal says
 taking-answers d w t =
     answers-fit (taking d w) t (small-first _ _ (small-table t) (small-taking (round-in t) d w))
-    (λ e. let f = first-none (table-refusal t) (take-refusal (round-in t) d w) e in taking-fits (next-below (round-in t) d w (f .1) (sound t (f .0) .sane .size .next)))
+    (λ e. let f = first-none (table-refusal t) (take-refusal (round-in t) d w) e in
+    taking-fits (next-below (round-in t) d w (f .1) (sound t (f .0) .sane .size .next)))

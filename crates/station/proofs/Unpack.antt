@@ -22,7 +22,8 @@ pub bit : (l : ℕ) → l < 2 → l % 2 ≡ l
 bit l h = omega arith
 
 -- a ticket with what went out, 1 or 2
-pub out-at : (w k l : ℕ) → 1 ≤ w → w ≤ 2 → (n : ℕ) → n ≡ 256 * k + w * out-place + l * leap-place → k < 16777216 → l < 2 → (o : Out) → out-in w k ≡ o → Out-back o l n
+pub out-at : (w k l : ℕ) → 1 ≤ w → w ≤ 2 → (n : ℕ) → n ≡ 256 * k + w * out-place + l * leap-place → k < 16777216 → l < 2 → (o : Out) →
+    out-in w k ≡ o → Out-back o l n
 out-at w k l h i n e f g o d =
     let a : n / leap-place ≡ l = omega arith in
     let b : n / out-place ≡ w + 4 * l = omega arith in

@@ -91,7 +91,15 @@ count-step r i cs b h w c =
           let m = add-one i in
           let g = sum-next (in-bucket (r .slot) (top-of r) v) (blank 0) (r .rows) i h in
           rw m (elim (set? cs b (getD cs b 0 + 1) v (omega (arith, w .small, c .size))) [
-            | inl q ↦ omega (arith, q .1, q .0, ap (λ (n : ℕ). getD cs n 0) (q .0), c .count v k, g, in-own (r .slot) (top-of r) v (at r i) (sym (w .is) ∙ q .0))
+            | inl q ↦ omega (
+              arith,
+              q .1,
+              q .0,
+              ap (λ (n : ℕ). getD cs n 0) (q .0),
+              c .count v k,
+              g,
+              in-own (r .slot) (top-of r) v (at r i) (sym (w .is) ∙ q .0),
+            )
             | inr q ↦ omega (arith, q .1, c .count v k, g, in-other (r .slot) (top-of r) v (at r i) (λ y. q .0 (w .is ∙ y)))
           ]);
     }

@@ -75,7 +75,8 @@ module _ (r : Round) (fs cs ks ls : List ℕ) (i b k : ℕ) (c : Chosen r fs) (h
       }
 
   -- a row left out
-  pub tally-some : getD cs b 0 ≡ sum (in-bucket (r .slot) (top-of r) b) (chosen (take i (raised fs)) (take i (r .rows))) + (1 + sum (in-bucket (r .slot) (top-of r) b) (drop (suc i) (r .rows)))
+  pub tally-some : getD cs b 0 ≡ sum (in-bucket (r .slot) (top-of r) b) (chosen (take i (raised fs)) (take i (r .rows))) + (1 + sum
+      (in-bucket (r .slot) (top-of r) b) (drop (suc i) (r .rows)))
   tally-some =
       omega (
         arith,
@@ -108,7 +109,8 @@ tally-end r fs cs ks ls i c e t =
       left = rw e at (t .left);
     }
   where
-    all : (v : ℕ) → sum (in-bucket (r .slot) (top-of r) v) (chosen (take i (raised fs)) (take i (r .rows))) + sum (in-bucket (r .slot) (top-of r) v) (drop i (r .rows)) ≡ sum (in-bucket (r .slot) (top-of r) v) (chosen (raised fs) (r .rows))
+    all : (v : ℕ) → sum (in-bucket (r .slot) (top-of r) v) (chosen (take i (raised fs)) (take i (r .rows))) + sum (in-bucket (r .slot) (top-of r) v)
+        (drop i (r .rows)) ≡ sum (in-bucket (r .slot) (top-of r) v) (chosen (raised fs) (r .rows))
     all v =
         let d = length-raised fs ∙ c .long in
         let a = ap (λ (n : ℕ). take n (raised fs)) (e ∙ sym d) ∙ take-length (raised fs) in

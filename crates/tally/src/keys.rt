@@ -23,7 +23,8 @@ pub fn tally(
     left: &mut [u64; 1025],
     round: Round,
 )
-    requires { ⌜ Ready (now table) round × Chosen (round-in (now table)) (now flags) × Counted (round-in (now table)) (round-in (now table) .rows) (now counts) × (now kept ≡ replicate 1025 0) × (now left ≡ replicate 1025 0) ⌝ }
+    requires { ⌜ Ready (now table) round × Chosen (round-in (now table)) (now flags) × Counted (round-in (now table)) (round-in (now table) .rows)
+        (now counts) × (now kept ≡ replicate 1025 0) × (now left ≡ replicate 1025 0) ⌝ }
     ensures { λ _. ⌜ Tallied (round-in (now (table .entry))) (now (flags .entry)) (now (counts .exit)) (now (kept .exit)) (now (left .exit)) ⌝ }
 {
     let top = top_of(round);

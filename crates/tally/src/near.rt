@@ -72,7 +72,8 @@ fn sweep(counts: &[u16; 1025], top: usize) -> Reach
 // Counts become those of all rows by bucket.
 pub fn reach_of(table: &[u8], counts: &mut [u16; 1025], round: Round) -> Reach
     requires { ⌜ Ready (now table) round × (now counts ≡ replicate 1025 0) ⌝ }
-    ensures { λ r. ⌜ Reaches (round-in (now (table .entry))) r × Counted (round-in (now (table .entry))) (round-in (now (table .entry)) .rows) (now (counts .exit)) ⌝ }
+    ensures { λ r. ⌜ Reaches (round-in (now (table .entry))) r × Counted (round-in (now (table .entry))) (round-in (now (table .entry)) .rows)
+        (now (counts .exit)) ⌝ }
 {
     count_rows(table, counts, round);
     sweep(counts, top_of(round))

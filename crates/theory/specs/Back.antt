@@ -284,7 +284,8 @@ sub-kind r p k a =
 pub small-leapt : (n : ℕ) (r : Round) (p : Row) → Kind p → Small n (r .rows) → Small n (leapt r (plan r) p)
 unfolding leapt
 small-leapt n r p k s =
-    small-replaced n r (plan r) p (substitute r (plan r) p) _ (sub-kind r p k (s .1)) (small-shifted n (suc (r .last)) r (plan r) _ _ (r .rows) (plan-kinds r (s .1)) s)
+    small-replaced n r (plan r) p (substitute r (plan r) p) _ (sub-kind r p k (s .1)) (small-shifted n (suc (r .last)) r (plan r) _ _ (r .rows)
+    (plan-kinds r (s .1)) s)
 
 pub small-sent : (n : ℕ) (r : Round) → Small n (r .rows) → Small n (sent r .rows)
 unfolding sent round

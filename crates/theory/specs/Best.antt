@@ -216,7 +216,8 @@ module _ (r : Round) (f : Fine r) (o : r .slot ≤ r .last) (rs : List Row) (c :
       substitute r (plan r) q .weight ≡ substitute r (plan r) p .weight
   first-same p q i j h k = first-weight r f q (found-member r f rs c q j) k ∙ sym (first-weight r f p (found-member r f rs c p i) h)
 
-  pub later-same : (p q : Row) → first-end r (plan r) < p .due → first-end r (plan r) < q .due → segment-start r (plan r) (p .due) ≡ segment-start r (plan r) (q .due) →
+  pub later-same : (p q : Row) → first-end r (plan r) < p .due → first-end r (plan r) < q .due → segment-start r (plan r) (p .due) ≡ segment-start r
+      (plan r) (q .due) →
       substitute r (plan r) q ≡ substitute r (plan r) p
   later-same p q h k e =
       later-is r q k ∙ ap (λ b. heaviest-outside b (r .rows) (plan r) (blank b)) (sym e) ∙ sym (later-is r p h)

@@ -50,7 +50,8 @@ module _ (r : Round) (f : Fine r) (rs : List Row) (c : Rows r rs) where
       let z = heaviest-between e g (plan r) (blank (suc g)) in
       let t = heaviest e g (plan r) (blank (suc g)) in
       let w = of-rows-fine r f rs c h (p .inside) .2 in
-      let o : Not-over h z = all-in (λ y. (e < y .due) × (y .due ≤ g) → Not-over y z) h (plan r) (t .most) (found-member r f rs c h (p .inside)) (p .after, p .by) in
+      let o : Not-over h z = all-in (λ y. (e < y .due) × (y .due ≤ g) → Not-over y z) h (plan r) (t .most) (found-member r f rs c h (p .inside))
+      (p .after, p .by) in
       elim (t .found) [
         | inl d ↦ absurd (omega (
           arith,
@@ -162,7 +163,8 @@ module _ (r : Round) (f : Fine r) (rs : List Row) (c : Rows r rs) where
   pub chain-falls : (e g : ℕ) (h : Row) (hs : List Row) → Chain r rs e g (h ∷ hs) → All (λ x. heavier h x ≡ true) hs
   chain-falls e g h hs k =
       all-map {Q = λ x. heavier h x ≡ true}
-      (λ x (u : (In x rs) × (tight-after r (plan r) (h .due) < x .due) × (x .due ≤ g)). falls x (u .0) (omega (arith, u .1, end-of h (k .0 .inside) .from)) (u .2)) hs
+      (λ x (u : (In x rs) × (tight-after r (plan r) (h .due) < x .due) × (x .due ≤ g)). falls x (u .0)
+      (omega (arith, u .1, end-of h (k .0 .inside) .from)) (u .2)) hs
       (chain-after (tight-after r (plan r) (h .due)) g hs (k .1))
     where
       falls : (x : Row) → In x rs → h .due < x .due → x .due ≤ g → heavier h x ≡ true
@@ -178,7 +180,8 @@ module _ (r : Round) (f : Fine r) (rs : List Row) (c : Rows r rs) where
   pub chain-over : (e g : ℕ) (ks ls : List Row) (h m : Row) → Chain r rs e g (ks ++ (h ∷ ls)) → heavier h m ≡ true → All (λ x. heavier x m ≡ true) ks
   chain-over e g [] ls h m k q = tt
   chain-over e g (x ∷ ks) ls h m k q = (
-    over-heavier x m (over-over x h m (heavier-yes x h (all-in (λ y. heavier x y ≡ true) h (ks ++ (h ∷ ls)) (chain-falls e g x (ks ++ (h ∷ ls)) k) (in-mid h ks ls)))
+    over-heavier x m (over-over x h m (heavier-yes x h (all-in (λ y. heavier x y ≡ true) h (ks ++ (h ∷ ls)) (chain-falls e g x (ks ++ (h ∷ ls)) k)
+        (in-mid h ks ls)))
         (over-not h m (heavier-yes h m q))),
     chain-over (tight-after r (plan r) (x .due)) g ks ls h m (k .1) q,
   )
@@ -214,7 +217,8 @@ module _ (r : Round) (f : Fine r) (rs : List Row) (c : Rows r rs) where
       )
 
   -- THERE IS A CHAIN
-  pub some-chain : (s : Row) → In s (r .rows) → in-plan s rs ≡ false → (n e : ℕ) → r .slot ≤ e → Tight-in r (plan r) e → tight-after r (plan r) (s .due) ≤ e + n →
+  pub some-chain : (s : Row) → In s (r .rows) → in-plan s rs ≡ false → (n e : ℕ) → r .slot ≤ e → Tight-in r (plan r) e →
+      tight-after r (plan r) (s .due) ≤ e + n →
       (hs : List Row) × Chain r rs e (tight-after r (plan r) (s .due)) hs
   some-chain s i k zero e l t h = ([], omega arith)
   some-chain s i k (suc n) e l t h =

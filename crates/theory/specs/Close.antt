@@ -131,7 +131,8 @@ module _ (r : Round) (f : Fine r) (rs : List Row) (c : Rows r rs) where
         lt-leb (p .due) (first-end r (plan r)) h,
         leapt-blank r f rs c p i u,
         lt-ltb 0 (mark r (p .due)) m,
-        closed-all (suc (r .slot)) 1 (r .next) (changed (p .ticket) (row (p .ticket) (segment-start r (plan r) (p .due)) (mark r (p .due)) 1) (r .rows)) (omega arith)
+        closed-all (suc (r .slot)) 1 (r .next) (changed (p .ticket) (row (p .ticket) (segment-start r (plan r) (p .due)) (mark r (p .due)) 1)
+            (r .rows)) (omega arith)
             (rising-changed 1 (r .next) (p .ticket) (row (p .ticket) (segment-start r (plan r) (p .due)) (mark r (p .due)) 1) refl (r .rows) (f .rising)),
       )
 

@@ -117,7 +117,8 @@ module _ (r : Round) (f : Fine r) (o : r .slot ≤ r .last) (rs : List Row) (c :
           | inl h ↦ near-sends p l (u .0) (h .1)
         ]
       where
-        near-sends : (p : Row) → Leads r rs (r .slot) p → r .slot ≤ p .due → p .due < z → (plain : Bool) × (gone : ℕ) × (xs : List Row) × Sends r p plain gone xs
+        near-sends : (p : Row) → Leads r rs (r .slot) p → r .slot ≤ p .due → p .due < z → (plain : Bool) × (gone : ℕ) × (xs : List Row)
+            × Sends r p plain gone xs
         near-sends p l h n =
             let b = segment-start r (plan r) (p .due) in
             let e = tight-after r (plan r) (p .due) in
@@ -142,7 +143,8 @@ module _ (r : Round) (f : Fine r) (o : r .slot ≤ r .last) (rs : List Row) (c :
                         let ny = next r (plan r) (y .due) (v .1) (plan-full r f) in
                         let ey = near-after r f rs c z k (y .due) (v .0) yz in
                         let sy = start r (plan r) (y .due) (plan-feas r f) (f .time) (v .0) in
-                        let ch = some-chain r f rs c y (d .waiting) (d .outside) (suc (r .last)) e (omega (arith, h, nx .from)) (nx .tight) (omega (arith, ny .by)) in
+                        let ch = some-chain r f rs c y (d .waiting) (d .outside) (suc (r .last)) e (omega (arith, h, nx .from)) (nx .tight)
+                        (omega (arith, ny .by)) in
                         let m = some-least (tight-after r (plan r) (y .due)) p (l .inside) (far-end p y st d (nx .from)) in (
                           false,
                           p .ticket,
@@ -155,7 +157,8 @@ module _ (r : Round) (f : Fine r) (o : r .slot ≤ r .last) (rs : List Row) (c :
                   ]
             ]
           where
-            far-end : (p y : Row) → Start r (plan r) (p .due) (segment-start r (plan r) (p .due)) → Later-sub r f rs c p y → p .due ≤ tight-after r (plan r) (p .due) →
+            far-end : (p y : Row) → Start r (plan r) (p .due) (segment-start r (plan r) (p .due)) → Later-sub r f rs c p y →
+                p .due ≤ tight-after r (plan r) (p .due) →
                 p .due ≤ tight-after r (plan r) (y .due)
             far-end p y st d q =
                 let v = all-in (Row-fine r) y (r .rows) (f .fine) (d .waiting) in

@@ -100,7 +100,8 @@ module _ (r : Round) (f : Fine r) (fs : List Bool) (w : Certified r fs) (small :
       (each-chosen (λ y. y .due ≤ first-end r (plan r) → heavier (at i) y ≡ false) z fs (r .rows) (λ j l n u. not-heavier-at i j h l (m j l n u)))
 
   -- a later row's substitute, by the greatest key of the rows left out
-  pub later-at : (p : Row) → first-end r (plan r) < p .due → (i : ℕ) → i < length (r .rows) → getD fs i false ≡ false → segment-start r (plan r) (p .due) ≤ at i .due →
+  pub later-at : (p : Row) → first-end r (plan r) < p .due → (i : ℕ) → i < length (r .rows) → getD fs i false ≡ false →
+      segment-start r (plan r) (p .due) ≤ at i .due →
       ((j : ℕ) → j < length (r .rows) → getD fs j false ≡ false → segment-start r (plan r) (p .due) ≤ at j .due → key-at j ≤ key-at i) →
       substitute r (plan r) p ≡ at i
   later-at p a i h b k m =

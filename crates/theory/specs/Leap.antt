@@ -115,7 +115,8 @@ shift-sum r f e g h e′ p xs i w d s v m k =
     ] in
     omega arith
 
-pub shift-kept : (r : Round) → Fine r → (a e g : ℕ) (h : Row) (e′ : ℕ) (xs : List Row) → g ≤ r .last → Shift r e g h e′ → Kept r a e xs → Kept r a e′ (moved r e h xs)
+pub shift-kept : (r : Round) → Fine r → (a e g : ℕ) (h : Row) (e′ : ℕ) (xs : List Row) → g ≤ r .last → Shift r e g h e′ → Kept r a e xs →
+    Kept r a e′ (moved r e h xs)
 unfolding row
 shift-kept r f a e g h e′ xs b p q =
     let hr = member-row r h (p .inside) (p .heavy) in

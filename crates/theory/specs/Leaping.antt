@@ -76,7 +76,8 @@ unfolding changed
 changed-at a b [] i z y s h = absurd (omega arith)
 changed-at a b (x ∷ xs) zero z y s h = rw (eq-eqb (x .ticket) (x .ticket) refl)
 changed-at a b (x ∷ xs) (suc i) z y s h =
-    rw (ne-eqb (x .ticket) (getD xs i z .ticket) (λ e. omega (arith, e, rising-above (suc (x .ticket)) b (getD xs i z) xs (s .1) (getD-in xs z i (omega arith)))))
+    rw (ne-eqb (x .ticket) (getD xs i z .ticket)
+    (λ e. omega (arith, e, rising-above (suc (x .ticket)) b (getD xs i z) xs (s .1) (getD-in xs z i (omega arith)))))
     (ap (λ (zs : List Row). x ∷ zs) (changed-at (suc (x .ticket)) b xs i z y (s .1) (omega arith)))
 
 -- a change after a pass that keeps tickets is one more case of the pass
@@ -90,7 +91,8 @@ changed-each k y m h a b [] s = refl
 changed-each k y m h a b (x ∷ xs) s = elim (eqb? (x .ticket) k) [
   | inl e ↦ rw (e .0, eq-eqb (m x .ticket) k (h x ∙ e .1)) (ap (λ (zs : List Row). y ∷ zs) (rest xs
       (all-map {Q = λ z. z .ticket ≢ k} (λ z (u : x .ticket ≢ z .ticket) (v : z .ticket ≡ k). u (e .1 ∙ sym v)) xs (rising-other b x xs (s .1)))))
-  | inr e ↦ rw (e .0, ne-eqb (m x .ticket) k (λ q. e .1 (sym (h x) ∙ q))) (ap (λ (zs : List Row). m x ∷ zs) (changed-each k y m h (suc (x .ticket)) b xs (s .1)))
+  | inr e ↦ rw (e .0, ne-eqb (m x .ticket) k (λ q. e .1 (sym (h x) ∙ q)))
+      (ap (λ (zs : List Row). m x ∷ zs) (changed-each k y m h (suc (x .ticket)) b xs (s .1)))
 ]
   where
     rest : (zs : List Row) → All (λ z. z .ticket ≢ k) zs → each m zs ≡ each (λ x. cond (eqb (x .ticket) k) y (m x)) zs
@@ -140,7 +142,8 @@ module _ (r : Round) (f : Fine r) (rs : List Row) (c : Rows r rs) where
       let e2 = tight-after r (plan r) (h .due) in
       let y = moved-to r e h in
       let u : final-row r e2 hs y ≡ y =
-      final-other r e2 hs y (all-map {Q = λ z. z .ticket ≢ y .ticket} (λ z (w : h .ticket ≢ z .ticket) (q : z .ticket ≡ y .ticket). w (sym (q ∙ moved-ticket r e h))) hs
+      final-other r e2 hs y (all-map {Q = λ z. z .ticket ≢ y .ticket} (λ z (w : h .ticket ≢ z .ticket) (q : z .ticket ≡ y .ticket). w
+      (sym (q ∙ moved-ticket r e h))) hs
       (chain-other r f rs c e g h hs k)) in
       moves-each a b e2 g hs (changed (h .ticket) y xs) (rising-changed a b (h .ticket) y (moved-ticket r e h) xs s) (k .1)
       ∙ each-changed (final-row r e2 hs) (final-row r e (h ∷ hs)) (h .ticket) a b y

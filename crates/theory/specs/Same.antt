@@ -41,7 +41,8 @@ module _ (rows : List Row) (a b : ℕ) (s : Rising a b rows) where
   pub same-in : (xs ys : List Row) → All (λ x. In x rows) xs → All (λ x. In x rows) ys → Same xs ys → (x : Row) → In x xs → In x ys
   same-in xs ys i j e x h =
       let q = with-tick (x .ticket) ys (omega (arith, e (ticks (x .ticket)), in-sum (ticks (x .ticket)) x xs h, tick-self x)) in
-      subst (λ (z : Row). In z ys) (rising-same a b (q .0) x rows s (all-in (λ z. In z rows) (q .0) ys j (q .1)) (all-in (λ z. In z rows) x xs i h) (q .2)) (q .1)
+      subst (λ (z : Row). In z ys) (rising-same a b (q .0) x rows s (all-in (λ z. In z rows) (q .0) ys j (q .1)) (all-in (λ z. In z rows) x xs i h)
+      (q .2)) (q .1)
 
   pub same-head : (x y : Row) (xs ys : List Row) → All (λ x. In x rows) (x ∷ xs) → All (λ x. In x rows) (y ∷ ys) → Same (x ∷ xs) (y ∷ ys) →
       Sorted (x ∷ xs) → Sorted (y ∷ ys) → x ≡ y
@@ -251,7 +252,8 @@ unfolding member turns
 turn-fresh a b h [] = refl
 turn-fresh a b h (x ∷ xs) = rw (ne-eqb b a (λ e. omega (arith, e))) (turn-fresh a (suc b) (omega arith) xs)
 
-pub in-turn : (r : Round) (a d : ℕ) (xs : List Row) → r .slot ≤ a → Sorted xs → All (λ x. (r .slot ≤ x .due) × (x .due ≤ r .last)) xs → All (λ x. d ≤ x .due) xs →
+pub in-turn : (r : Round) (a d : ℕ) (xs : List Row) → r .slot ≤ a → Sorted xs → All (λ x. (r .slot ≤ x .due) × (x .due ≤ r .last)) xs →
+    All (λ x. d ≤ x .due) xs →
     ((e : ℕ) → d < e → r .slot ≤ e → e ≤ suc (r .last) → a - r .slot + num 0 e xs ≤ e - r .slot) → in-time (r .slot) xs (turns a xs) ≡ true
 unfolding in-time turns
 in-turn r a d [] h o i l g = refl

@@ -29,7 +29,8 @@ pub record Segment (r : Round) (rs : List Row) (b e : ℕ) : Type 0 where
   pub end : num 0 (suc e) rs ≡ suc e - r .slot
   pub none : (u : ℕ) → b ≤ u → u < e → num 0 (suc u) rs ≢ suc u - r .slot
 
-module _ (r : Round) (f : Fine r) (o : r .slot ≤ r .last) (rs : List Row) (c : Rows r rs) (z : ℕ) (k : Near r z) (b e : ℕ) (near : e < z) (s : Segment r rs b e) where
+module _ (r : Round) (f : Fine r) (o : r .slot ≤ r .last) (rs : List Row) (c : Rows r rs) (z : ℕ) (k : Near r z) (b e : ℕ) (near : e < z)
+    (s : Segment r rs b e) where
   pub segment-end : (d : ℕ) → b ≤ d → d ≤ e → tight-after r (plan r) d ≡ e
   segment-end d h i = near-next r f rs c z k d e (omega (arith, s .low, h)) i near (s .end) (λ u a v t. s .none u (omega (arith, h, a)) v t)
 
@@ -98,7 +99,8 @@ module _ (r : Round) (f : Fine r) (o : r .slot ≤ r .last) (rs : List Row) (c :
   segment-score-none p q = score-none r f rs c p b q
 
   -- ONE MARK: the least weight of the rows due by its end
-  pub segment-mark : (d : ℕ) → b ≤ d → d ≤ e → (x : Row) → In x rs → x .due ≤ e → ((y : Row) → In y rs → y .due ≤ e → x .weight ≤ y .weight) → mark r d ≡ x .weight
+  pub segment-mark : (d : ℕ) → b ≤ d → d ≤ e → (x : Row) → In x rs → x .due ≤ e → ((y : Row) → In y rs → y .due ≤ e → x .weight ≤ y .weight) →
+      mark r d ≡ x .weight
   segment-mark d h i x j a g =
       let t = segment-end d h i in
       near-mark-least r f rs c z k d (omega (arith, s .low, h)) (omega (arith, i, near)) x j (omega (arith, t, a)) (λ y l m. g y l (omega (arith, t, m)))

@@ -29,7 +29,8 @@ pub record Selection (r : Round) (ps : List Row) : Type 0 where
   pub out : (x : Row) → In x (r .rows) → in-plan x ps ≡ false → All (λ y. y .due ≤ tight-after r ps (x .due) → heavier y x ≡ true) ps
 
 -- the rows of a list, each once, are the rows with a ticket in it
-pub of-same : (x : Row) (rs : List Row) (μ : Row → ℕ) (ys : List Row) → All (λ y. x .ticket ≢ y .ticket) ys → sum (of-plan (x ∷ rs) μ) ys ≡ sum (of-plan rs μ) ys
+pub of-same : (x : Row) (rs : List Row) (μ : Row → ℕ) (ys : List Row) → All (λ y. x .ticket ≢ y .ticket) ys →
+    sum (of-plan (x ∷ rs) μ) ys ≡ sum (of-plan rs μ) ys
 unfolding of-plan
 of-same x rs μ [] a = refl
 of-same x rs μ (y ∷ ys) a = rw (in-plan-other y x rs (a .0)) (omega (arith, of-same x rs μ ys (a .1)))

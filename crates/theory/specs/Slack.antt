@@ -326,7 +326,8 @@ module _ (r : Round) (f : Fine r) (rs : List Row) (same : Same (rows-only (plan 
         arith,
         rows-num w (suc z),
         c,
-        sum-le (idle (below w (suc z))) (idle (below 0 (suc z))) (idle-le (below w (suc z)) (below 0 (suc z)) (below-weight 0 w (suc z) (omega arith))) (plan r),
+        sum-le (idle (below w (suc z))) (idle (below 0 (suc z))) (idle-le (below w (suc z)) (below 0 (suc z))
+            (below-weight 0 w (suc z) (omega arith))) (plan r),
       ))
 
   -- THE SAME BY COMPUTATION
@@ -375,4 +376,5 @@ module _ (r : Round) (f : Fine r) (rs : List Row) (same : Same (rows-only (plan 
   unfolding segment-from past-last least-here
   segment-from-is zero s b h e = refl
   segment-from-is (suc n) s b h e =
-      rw (tight-is r f rs same s h (omega arith)) (segment-from-is n (suc s) (cond (leb (slack r rs s) (least-from r rs s)) (suc s) b) (omega arith) (omega arith))
+      rw (tight-is r f rs same s h (omega arith)) (segment-from-is n (suc s) (cond (leb (slack r rs s) (least-from r rs s)) (suc s) b) (omega arith)
+      (omega arith))

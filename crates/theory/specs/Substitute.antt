@@ -58,7 +58,8 @@ first-weight r f p i h =
     let l : Lightest-of r x = first-lightest r p i h in
     omega (
       arith,
-      all-in (λ x. x .due ≤ tight-after r (plan r) (r .slot) → mark-in r (plan r) (r .slot) ≤ x .weight) x (plan r) (mark-all r (plan r) (r .slot)) (l .inside) (l .by),
+      all-in (λ x. x .due ≤ tight-after r (plan r) (r .slot) → mark-in r (plan r) (r .slot) ≤ x .weight) x (plan r) (mark-all r (plan r) (r .slot))
+          (l .inside) (l .by),
       least-above (x .weight) (tight-after r (plan r) (r .slot)) (plan r) 16777216 (all-in Bounded x (plan r) (plan-bounded r f) (l .inside))
           (all-of-in (λ y. y .due ≤ tight-after r (plan r) (r .slot) → x .weight ≤ y .weight) (plan r) (λ y j k. not-over-weight x y (l .least y j k))),
     )

@@ -46,7 +46,8 @@ module _ (r : Round) (f : Fine r) (o : r .slot ≤ r .last) (rs : List Row) (c :
       record {
         goes = g;
         step = t;
-        leaves = sent-none r f rs c e (blank (r .slot)) g (leb-true (blank (r .slot) .due) (first-end r (plan r)) (sym (ordinary-is r f o rs c (blank (r .slot)) g) ∙ t));
+        leaves = sent-none r f rs c e (blank (r .slot)) g (leb-true (blank (r .slot) .due) (first-end r (plan r))
+            (sym (ordinary-is r f o rs c (blank (r .slot)) g) ∙ t));
         long = ap length (sym e);
       }
 
@@ -83,7 +84,8 @@ module _ (r : Round) (f : Fine r) (o : r .slot ≤ r .last) (rs : List Row) (c :
             goes = q;
             step = ordinary-is r f o rs c p q ∙ lt-leb (p .due) (first-end r (plan r)) (omega (arith, t, i));
             leaves =
-                sent-kept r f rs c p q (found-member r f rs c p (l .inside)) (omega (arith, t, i)) (segment-none r f o rs c z k b e n s a p i j g ∙ ap blank (sym d))
+                sent-kept r f rs c p q (found-member r f rs c p (l .inside)) (omega (arith, t, i)) (segment-none r f o rs c z k b e n s a p i j g
+                ∙ ap blank (sym d))
                 (omega (arith, w, of-rows-fine r f rs c x u .2))
                 ∙ ap₂ (λ (v : ℕ) (w : ℕ). after-slot r (closed (suc (r .slot)) 0 (changed (p .ticket) (row (p .ticket) v w 1) (r .rows)))) d w;
             long = length-changed (p .ticket) (row (p .ticket) b (x .weight) 1) (r .rows);

@@ -29,7 +29,8 @@ sets-mid ps ms ss (a ∷ vs) c h =
     ∙ sets-mid ps (set ms c a) ss vs (suc c) (omega (arith, h, length-set ms c a))
 
 -- SOME BYTES OF ROW i of a table: hd is its head, zs what follows the rows
-pub row-part : (hd zs vs : List ℕ) (xs : List Row) (i c : ℕ) (z y : Row) → i < length xs → c + length vs ≤ 24 → sets (row-bytes (getD xs i z)) c vs ≡ row-bytes y →
+pub row-part : (hd zs vs : List ℕ) (xs : List Row) (i c : ℕ) (z y : Row) → i < length xs → c + length vs ≤ 24 →
+    sets (row-bytes (getD xs i z)) c vs ≡ row-bytes y →
     hd ++ (rows-bytes (set xs i y) ++ zs) ≡ sets (hd ++ (rows-bytes xs ++ zs)) (length hd + (24 * i + c)) vs
 unfolding rows-bytes
 row-part hd zs vs xs i c z y h k e =
@@ -106,7 +107,8 @@ abbrev pub zero-byte : ℕ
 zero-byte = 0
 
 -- ZEROS behind the rows that left, and those that were there
-pub zeros-join : (m n room : ℕ) → m ≤ n → n ≤ room → replicate (24 * (n - m)) zero-byte ++ replicate (24 * (room - n)) zero-byte ≡ replicate (24 * (room - m)) zero-byte
+pub zeros-join : (m n room : ℕ) → m ≤ n → n ≤ room → replicate (24 * (n - m)) zero-byte ++ replicate (24 * (room - n)) zero-byte ≡ replicate
+    (24 * (room - m)) zero-byte
 zeros-join m n room h k =
     let e : 24 * (n - m) + 24 * (room - n) ≡ 24 * (room - m) = omega arith in
     replicate-append-replicate (24 * (n - m)) (24 * (room - n)) zero-byte ∙ ap (λ (v : ℕ). replicate v zero-byte) e

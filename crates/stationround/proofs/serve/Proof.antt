@@ -49,10 +49,24 @@ returns-2 : tie.Need-returns-2
 returns-2 c = tt
 
 keep-rest-requires : tie.Need-keep-rest-requires
-keep-rest-requires c κs = (omega (arith, c .before .before .before .before .before .before .before .before .before .answer-lines .ensures .within, length-take (c .before .before .before .before .before .before .before .before .before .before .before .before .before .before .before .before .args .n) (c .before .before .before .before .before .before .before .before .before .before .before .before .before .before .before .before .args .input .now)), search needs)
+keep-rest-requires c κs =
+    let s = c .before .before .before .before .before .before .before .before .before .before .before .before .before .before .before .before in (
+      omega (
+        arith,
+        c .before .before .before .before .before .before .before .before .before .answer-lines .ensures .within,
+        length-take (s .args .n) (s .args .input .now),
+      ),
+      search needs,
+    )
 
 sub-t21 : tie.Need-sub-t21
-sub-t21 c = omega (arith, c .before .before .before .before .before .before .before .before .before .before .before .before .answer-lines .ensures .within, length-take (c .before .before .before .before .before .before .before .before .before .before .before .before .before .before .before .before .before .before .before .args .n) (c .before .before .before .before .before .before .before .before .before .before .before .before .before .before .before .before .before .before .before .args .input .now))
+sub-t21 c =
+    let s = c .before .before .before .before .before .before .before .before .before .before .before .before .before .before .before .before .before .before .before in
+    omega (
+      arith,
+      c .before .before .before .before .before .before .before .before .before .before .before .before .answer-lines .ensures .within,
+      length-take (s .args .n) (s .args .input .now),
+    )
 
 same-length-7 : tie.Need-same-length-7
 same-length-7 c = search needs
@@ -65,8 +79,12 @@ same-length-9 c = search needs
 
 returns-3 : tie.Need-returns-3
 returns-3 c =
-    let s = c .before .before .before .before .before .before .before .before .before .before .before .before .before .before .before .before .before .before .before in
-    (search needs, rest-unended (c .before .before .before .before .before .before .before .before .before .before .before .before .answer-lines .ensures) (c .before .before .before .before .if2 .left) (s .pre .1) (s .pre .0) (c .before .before .keep-rest .ensures))
+    let answered = c .before .before .before .before .before .before .before .before .before .before .before .before in
+    let entry = answered .before .before .before .before .before .before .before in (
+      search needs,
+      rest-unended (answered .answer-lines .ensures) (c .before .before .before .before .if2 .left)
+          (entry .pre .1) (entry .pre .0) (c .before .before .keep-rest .ensures),
+    )
 
 pub serve-spec : {M : Type 1} → statement M
 serve-spec =

@@ -25,11 +25,17 @@ refused-requires-2 c κs = search needs
 
 -- src/listing.rt:90:9
 returns-2 : tie.Need-returns-2
-returns-2 c = short-says _ _ _ _ _ (record { sound = c .before .before .before .before .before .before .pre .0; head = c .before .before .before .before .before .before .pre .1; time = search needs }) (c .before .before .order-of .ensures) (search needs) (c .refused2 .ensures)
+returns-2 c =
+    let s = c .before .before .before .before .before .before in
+    short-says _ _ _ _ _ (record { sound = s .pre .0; head = s .pre .1; time = search needs }) (c .before .before .order-of .ensures) (search needs)
+    (c .refused2 .ensures)
 
 -- src/listing.rt:80:1
 returns-3 : tie.Need-returns-3
-returns-3 c = accepted-says _ _ _ _ _ (record { sound = c .before .before .before .before .before .before .pre .0; head = c .before .before .before .before .before .before .pre .1; time = search needs }) (c .before .before .order-of .ensures) (search needs) (search needs) (search needs) (search needs)
+returns-3 c =
+    let s = c .before .before .before .before .before .before in
+    accepted-says _ _ _ _ _ (record { sound = s .pre .0; head = s .pre .1; time = search needs }) (c .before .before .order-of .ensures)
+    (search needs) (search needs) (search needs) (search needs)
 
 pub listing-in-spec : {M : Type 1} → statement M
 listing-in-spec =

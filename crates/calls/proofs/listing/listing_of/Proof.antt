@@ -28,11 +28,13 @@ enum-known-round c = search needs
 
 -- src/listing.rt:75:33
 listing-in-requires : tie.Need-listing-in-requires
-listing-in-requires c κs = subst (Judge-says (c .before .before .before .before .before .args .table .now)) (c .before .round .given .1) (c .before .before .before .judge .ensures)
+listing-in-requires c κs = subst (Judge-says (c .before .before .before .before .before .args .table .now)) (c .before .round .given .1)
+    (c .before .before .before .judge .ensures)
 
 -- src/listing.rt:70:1
 returns : tie.Need-returns
-returns c = table-says _ _ _ _ (subst (Judge-says (c .before .before .before .before .before .before .args .table .now)) (c .before .before .n .given .1) (c .before .before .before .before .judge .ensures)) (c .refused .ensures)
+returns c = table-says _ _ _ _ (subst (Judge-says (c .before .before .before .before .before .before .args .table .now))
+    (c .before .before .n .given .1) (c .before .before .before .before .judge .ensures)) (c .refused .ensures)
 
 -- src/listing.rt:70:1
 returns-2 : tie.Need-returns-2

@@ -15,33 +15,49 @@ is-far-requires c κs = search needs
 returns : tie.Need-returns
 returns c =
     let s = c .before .before .before .before .before in
-    far-is-zero (s .args .table .now) (s .args .round) (c .before .before .reach-of .result) (s .pre .0) (c .before .before .reach-of .ensures .0) (s .args .slot .0) (s .pre .1) (s .pre .2)
+    far-is-zero (s .args .table .now) (s .args .round) (c .before .before .reach-of .result) (s .pre .0) (c .before .before .reach-of .ensures .0)
+    (s .args .slot .0) (s .pre .1) (s .pre .2)
     (sym (c .before .is-far .ensures) ∙ c .if1 .taken)
 
 array-borrow-prefix-flags : tie.Need-array-borrow-prefix-flags
-array-borrow-prefix-flags c = few-rows (c .before .before .before .before .before .args .table .now) (c .before .before .before .before .before .args .round) (c .before .before .before .before .before .pre .0)
+array-borrow-prefix-flags c =
+    let s = c .before .before .before .before .before in
+    few-rows (s .args .table .now) (s .args .round) (s .pre .0)
 
 slice-aggregate-flag-rows : tie.Need-slice-aggregate-flag-rows
-slice-aggregate-flag-rows c = ones-long (c .before .before .before .before .before .before .args .round .used) 1024 (few-rows (c .before .before .before .before .before .before .args .table .now) (c .before .before .before .before .before .before .args .round) (c .before .before .before .before .before .before .pre .0))
+slice-aggregate-flag-rows c =
+    let s = c .before .before .before .before .before .before in
+    ones-long (s .args .round .used) 1024 (few-rows (s .args .table .now) (s .args .round) (s .pre .0))
 
 flag-rows-requires : tie.Need-flag-rows-requires
-flag-rows-requires c κs = (c .before .before .before .before .before .before .pre .0, c .before .before .before .reach-of .ensures .0, ones-front (c .before .before .before .before .before .before .args .round .used) 1024 (few-rows (c .before .before .before .before .before .before .args .table .now) (c .before .before .before .before .before .before .args .round) (c .before .before .before .before .before .before .pre .0)))
+flag-rows-requires c κs =
+    let s = c .before .before .before .before .before .before in (
+      s .pre .0,
+      c .before .before .before .reach-of .ensures .0,
+      ones-front (s .args .round .used) 1024 (few-rows (s .args .table .now) (s .args .round) (s .pre .0)),
+    )
 
 array-share-prefix-flags : tie.Need-array-share-prefix-flags
-array-share-prefix-flags c = flagged-long (c .before .before .before .before .before .before .before .before .args .table .now) (c .before .before .before .before .before .before .before .before .args .round) (c .before .before .before .before .before .before .before .before .pre .0) (c .before .flag-rows .last .1 .0) _ (c .before .flag-rows .ensures) .0
+array-share-prefix-flags c =
+    let s = c .before .before .before .before .before .before .before .before in
+    flagged-long (s .args .table .now) (s .args .round) (s .pre .0) (c .before .flag-rows .last .1 .0) _ (c .before .flag-rows .ensures) .0
 
 slice-aggregate-mark-at : tie.Need-slice-aggregate-mark-at
-slice-aggregate-mark-at c = flagged-long (c .before .before .before .before .before .before .before .before .before .args .table .now) (c .before .before .before .before .before .before .before .before .before .args .round) (c .before .before .before .before .before .before .before .before .before .pre .0) (c .before .before .flag-rows .last .1 .0) _ (c .before .before .flag-rows .ensures) .1
+slice-aggregate-mark-at c =
+    let s = c .before .before .before .before .before .before .before .before .before in
+    flagged-long (s .args .table .now) (s .args .round) (s .pre .0) (c .before .before .flag-rows .last .1 .0) _ (c .before .before .flag-rows .ensures) .1
 
 mark-at-requires : tie.Need-mark-at-requires
-mark-at-requires c κs = (
-  c .before .before .before .before .before .before .before .before .before .before .pre .0,
-  flagged-chosen (c .before .before .before .before .before .before .before .before .before .before .args .table .now) (c .before .before .before .before .before .before .before .before .before .before .args .round) (c .before .before .before .before .before .before .before .before .before .before .pre .0) (c .before .before .before .flag-rows .last .1 .0) _ (c .before .before .before .flag-rows .ensures),
-  c .before .before .before .before .before .before .before .reach-of .ensures .0,
-  c .before .before .before .before .before .before .before .reach-of .ensures .1,
-  c .before .before .before .before .before .before .before .before .before .before .pre .1,
-  c .before .before .before .before .before .before .before .before .before .before .pre .2,
-)
+mark-at-requires c κs =
+    let s = c .before .before .before .before .before .before .before .before .before .before in (
+      s .pre .0,
+      flagged-chosen (s .args .table .now) (s .args .round) (s .pre .0) (c .before .before .before .flag-rows .last .1 .0) _
+          (c .before .before .before .flag-rows .ensures),
+      c .before .before .before .before .before .before .before .reach-of .ensures .0,
+      c .before .before .before .before .before .before .before .reach-of .ensures .1,
+      s .pre .1,
+      s .pre .2,
+    )
 
 returns-2 : tie.Need-returns-2
 returns-2 c = search needs

@@ -8,19 +8,31 @@ use Rattle.calls.proofs.marking.mark_in.Statement.{statement}
 use Rattle.calls.proofs.marking.mark_in.Tie as tie
 
 returns : tie.Need-returns
-returns c = answers-refused (marking (c .before .before .before .args .slot .0)) (c .before .before .before .args .table .now) 5 (mark-over (c .before .before .before .args .table .now) (c .before .before .before .args .round) (c .before .before .before .pre .0) (c .before .before .before .pre .1) (c .before .before .before .args .slot .0) (omega arith)) (λ z. omega (arith, z))
+returns c =
+    let s = c .before .before .before in
+    answers-refused (marking (s .args .slot .0)) (s .args .table .now) 5 (mark-over (s .args .table .now) (s .args .round) (s .pre .0) (s .pre .1)
+    (s .args .slot .0) (omega arith)) (λ z. omega (arith, z))
 
 returns-2 : tie.Need-returns-2
-returns-2 c = answers-refused (marking (c .before .before .before .before .before .before .args .slot .0)) (c .before .before .before .before .before .before .args .table .now) 7 (mark-before (c .before .before .before .before .before .before .args .table .now) (c .before .before .before .before .before .before .args .round) (c .before .before .before .before .before .before .pre .0) (c .before .before .before .before .before .before .pre .1) (c .before .before .before .before .before .before .args .slot .0) (omega arith) (omega arith)) (λ z. omega (arith, z))
+returns-2 c =
+    let s = c .before .before .before .before .before .before in
+    answers-refused (marking (s .args .slot .0)) (s .args .table .now) 7 (mark-before (s .args .table .now) (s .args .round) (s .pre .0) (s .pre .1)
+    (s .args .slot .0) (omega arith) (omega arith)) (λ z. omega (arith, z))
 
 returns-3 : tie.Need-returns-3
-returns-3 c = answers-refused (marking (c .before .before .before .before .before .before .before .before .before .args .slot .0)) (c .before .before .before .before .before .before .before .before .before .args .table .now) 7 (mark-after (c .before .before .before .before .before .before .before .before .before .args .table .now) (c .before .before .before .before .before .before .before .before .before .args .round) (c .before .before .before .before .before .before .before .before .before .pre .0) (c .before .before .before .before .before .before .before .before .before .pre .1) (c .before .before .before .before .before .before .before .before .before .args .slot .0) (omega arith) (omega arith) (omega arith)) (λ z. omega (arith, z))
+returns-3 c =
+    let s = c .before .before .before .before .before .before .before .before .before in
+    answers-refused (marking (s .args .slot .0)) (s .args .table .now) 7 (mark-after (s .args .table .now) (s .args .round) (s .pre .0) (s .pre .1)
+    (s .args .slot .0) (omega arith) (omega arith) (omega arith)) (λ z. omega (arith, z))
 
 mark-ahead-requires : tie.Need-mark-ahead-requires
 mark-ahead-requires c κs = search needs
 
 returns-4 : tie.Need-returns-4
-returns-4 c = mark-said (c .before .before .before .before .before .before .before .before .before .before .args .slot .0) (c .before .before .before .before .before .before .before .before .before .before .args .table .now) (c .mark-ahead .result) (cc (c .mark-ahead .ensures)) (mark-asked (c .before .before .before .before .before .before .before .before .before .before .args .table .now) (c .before .before .before .before .before .before .before .before .before .before .args .round) (c .before .before .before .before .before .before .before .before .before .before .pre .0) (c .before .before .before .before .before .before .before .before .before .before .pre .1) (c .before .before .before .before .before .before .before .before .before .before .args .slot .0) (omega arith) (omega arith) (omega arith))
+returns-4 c =
+    let s = c .before .before .before .before .before .before .before .before .before .before in
+    mark-said (s .args .slot .0) (s .args .table .now) (c .mark-ahead .result) (cc (c .mark-ahead .ensures))
+    (mark-asked (s .args .table .now) (s .args .round) (s .pre .0) (s .pre .1) (s .args .slot .0) (omega arith) (omega arith) (omega arith))
 
 pub mark-in-spec : {M : Type 1} → statement M
 mark-in-spec = tie.close (tie.spec returns returns-2 returns-3 mark-ahead-requires returns-4)

@@ -17,7 +17,8 @@ enum-known-round : tie.Need-enum-known-round
 enum-known-round c = search needs
 
 mark-in-requires : tie.Need-mark-in-requires
-mark-in-requires c κs = subst (Judge-says (c .before .before .before .before .before .args .table .now)) (c .before .round .given .1) (c .before .before .before .judge .ensures)
+mark-in-requires c κs = subst (Judge-says (c .before .before .before .before .before .args .table .now)) (c .before .round .given .1)
+    (c .before .before .before .judge .ensures)
 
 returns : tie.Need-returns
 returns c =

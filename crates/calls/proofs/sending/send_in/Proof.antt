@@ -23,7 +23,10 @@ same-length : tie.Need-same-length
 same-length c = search needs
 
 returns-2 : tie.Need-returns-2
-returns-2 c = (ap step (c .step-of .ensures) ∙ sym (c .before .before .before .send-sound .ensures .answers), c .before .before .before .send-sound .ensures .leaves)
+returns-2 c = (
+  ap step (c .step-of .ensures) ∙ sym (c .before .before .before .send-sound .ensures .answers),
+  c .before .before .before .send-sound .ensures .leaves,
+)
 
 pub send-in-spec : {M : Type 1} → statement M
 send-in-spec =

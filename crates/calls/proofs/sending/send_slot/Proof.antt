@@ -17,7 +17,8 @@ enum-known-round : tie.Need-enum-known-round
 enum-known-round c = search needs
 
 send-in-requires : tie.Need-send-in-requires
-send-in-requires c κs = subst (Judge-says (c .before .before .before .before .before .before .before .args .table .now)) (c .before .before .round .given .1) (c .before .before .before .before .judge .ensures)
+send-in-requires c κs = subst (Judge-says (c .before .before .before .before .before .before .before .args .table .now))
+    (c .before .before .round .given .1) (c .before .before .before .before .judge .ensures)
 
 same-length : tie.Need-same-length
 same-length c = search needs

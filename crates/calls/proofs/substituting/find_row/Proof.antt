@@ -24,7 +24,9 @@ ticket-at-requires : tie.Need-ticket-at-requires Inv-loop μ-loop
 ticket-at-requires c κs = (c .before .before .before .pre, omega arith)
 
 returns : tie.Need-returns Inv-loop μ-loop
-returns c = (omega (arith, known (c .before .before .before .before .before .before .args .table .now) (c .before .before .before .before .before .before .args .round) (c .before .before .before .before .before .before .pre) .used), sym (c .before .before .ticket-at .ensures) ∙ c .if1 .taken)
+returns c =
+    let s = c .before .before .before .before .before .before in
+    (omega (arith, known (s .args .table .now) (s .args .round) (s .pre) .used), sym (c .before .before .ticket-at .ensures) ∙ c .if1 .taken)
 
 add-i : tie.Need-add-i Inv-loop μ-loop
 add-i c = search needs
@@ -33,10 +35,17 @@ loop-less : tie.Need-loop-less Inv-loop μ-loop
 loop-less c = search needs
 
 loop-again : tie.Need-loop-again Inv-loop μ-loop
-loop-again c = (search needs, search needs, below-more _ _ (c .before .before .before .before .loop .inv .2) (λ e. c .if1 .left (c .before .before .ticket-at .ensures ∙ e)))
+loop-again c = (
+  search needs,
+  search needs,
+  below-more _ _ (c .before .before .before .before .loop .inv .2)
+      (λ e. c .if1 .left (c .before .before .ticket-at .ensures ∙ e)),
+)
 
 returns-2 : tie.Need-returns-2 Inv-loop μ-loop
-returns-2 c = λ k h e. c .before .loop .inv .2 k (omega (arith, h, known (c .before .before .before .args .table .now) (c .before .before .before .args .round) (c .before .before .before .pre) .used)) e
+returns-2 c =
+    let s = c .before .before .before in
+    λ k h e. c .before .loop .inv .2 k (omega (arith, h, known (s .args .table .now) (s .args .round) (s .pre) .used)) e
 
 pub find-row-spec : {M : Type 1} → statement M
 find-row-spec =

@@ -10,10 +10,14 @@ use Rattle.calls.proofs.substituting.substitute_flagged.Statement.{stat
 use Rattle.calls.proofs.substituting.substitute_flagged.Tie as tie
 
 shared-slice-read-if1 : tie.Need-shared-slice-read-if1
-shared-slice-read-if1 c = flag-there (c .before .before .before .args .table .now) (c .before .before .before .args .round) (c .before .before .before .pre .0) (c .before .before .before .args .flags .now) (c .before .before .before .pre .2) (c .before .before .before .args .row) (c .before .before .before .pre .1)
+shared-slice-read-if1 c =
+    let s = c .before .before .before in
+    flag-there (s .args .table .now) (s .args .round) (s .pre .0) (s .args .flags .now) (s .pre .2) (s .args .row) (s .pre .1)
 
 returns : tie.Need-returns
-returns c = stands-outside (c .before .before .before .before .args .table .now) (c .before .before .before .before .args .round) (c .before .before .before .before .pre .0) (c .before .before .before .before .args .flags .now) (c .before .before .before .before .pre .2) (c .before .before .before .before .args .row) (c .before .before .before .before .pre .1) (λ z. omega (arith, z))
+returns c =
+    let s = c .before .before .before .before in
+    stands-outside (s .args .table .now) (s .args .round) (s .pre .0) (s .args .flags .now) (s .pre .2) (s .args .row) (s .pre .1) (λ z. omega (arith, z))
 
 substitute-at-requires : tie.Need-substitute-at-requires
 substitute-at-requires c κs = search needs
@@ -33,14 +37,17 @@ enum-known-slot c = search needs
 returns-2 : tie.Need-returns-2
 returns-2 c =
     let s = c .before .before .before .before .before .before .before .before .before in
-    let h = subst (Substitutes (round-in (s .args .table .now)) (s .args .row)) (c .before .before .j .given .1) (c .before .before .before .before .substitute-at .ensures) in
-    stands-row (c .before .before .before .before .before .before .before .before .before .args .table .now) (c .before .before .before .before .before .before .before .before .before .args .round) (c .before .before .before .before .before .before .before .before .before .pre .0) (c .before .before .before .before .before .before .before .before .before .args .flags .now) (c .before .before .before .before .before .before .before .before .before .pre .2) (c .before .before .before .before .before .before .before .before .before .args .row) (c .before .before .before .before .before .before .before .before .before .pre .1) (omega arith) _ _ h (c .ticket-at .ensures)
+    let h = subst (Substitutes (round-in (s .args .table .now)) (s .args .row)) (c .before .before .j .given .1)
+    (c .before .before .before .before .substitute-at .ensures) in
+    stands-row (s .args .table .now) (s .args .round) (s .pre .0) (s .args .flags .now) (s .pre .2) (s .args .row) (s .pre .1) (omega arith) _ _ h
+    (c .ticket-at .ensures)
 
 returns-3 : tie.Need-returns-3
 returns-3 c =
     let s = c .before .before .before .before .before .before .before .before in
-    let h = subst (Substitutes (round-in (s .args .table .now)) (s .args .row)) (c .before .slot .given .1) (c .before .before .before .substitute-at .ensures) in
-    stands-blank (c .before .before .before .before .before .before .before .before .args .table .now) (c .before .before .before .before .before .before .before .before .args .round) (c .before .before .before .before .before .before .before .before .pre .0) (c .before .before .before .before .before .before .before .before .args .flags .now) (c .before .before .before .before .before .before .before .before .pre .2) (c .before .before .before .before .before .before .before .before .args .row) (c .before .before .before .before .before .before .before .before .pre .1) (omega arith) _ h
+    let h = subst (Substitutes (round-in (s .args .table .now)) (s .args .row)) (c .before .slot .given .1)
+    (c .before .before .before .substitute-at .ensures) in
+    stands-blank (s .args .table .now) (s .args .round) (s .pre .0) (s .args .flags .now) (s .pre .2) (s .args .row) (s .pre .1) (omega arith) _ h
 
 pub substitute-flagged-spec : {M : Type 1} → statement M
 substitute-flagged-spec =

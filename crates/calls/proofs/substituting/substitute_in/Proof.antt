@@ -11,7 +11,10 @@ use Rattle.calls.proofs.substituting.substitute_in.Statement.{statement
 use Rattle.calls.proofs.substituting.substitute_in.Tie as tie
 
 returns : tie.Need-returns
-returns c = substitute-over (c .before .before .before .args .ticket .0) (c .before .before .before .args .table .now) (c .before .before .before .pre .0) (over (c .before .before .before .args .table .now) (c .before .before .before .args .round) (c .before .before .before .pre .0) (c .before .before .before .pre .1) (omega arith) .2)
+returns c =
+    let s = c .before .before .before in
+    substitute-over (s .args .ticket .0) (s .args .table .now) (s .pre .0) (over (s .args .table .now) (s .args .round) (s .pre .0) (s .pre .1)
+    (omega arith) .2)
 
 find-row-requires : tie.Need-find-row-requires
 find-row-requires c κs = search needs
@@ -26,22 +29,25 @@ substitute-row-requires : tie.Need-substitute-row-requires
 substitute-row-requires c κs =
     let s = c .before .before .before .before .before .before .before in
     let h = subst (Finds (round-in (s .args .table .now)) (s .args .ticket .0)) (c .before .row .given .1) (c .before .before .before .find-row .ensures) in
-    let r = ready (c .before .before .before .before .before .before .before .args .table .now) (c .before .before .before .before .before .before .before .args .round) (c .before .before .before .before .before .before .before .pre .0) (c .before .before .before .before .before .before .before .pre .1) (omega arith) in
+    let r = ready (s .args .table .now) (s .args .round) (s .pre .0) (s .pre .1) (omega arith) in
     (r, omega (arith, h .0, known (s .args .table .now) (s .args .round) r .used))
 
 returns-2 : tie.Need-returns-2
 returns-2 c =
     let s = c .before .before .before .before .before .before in
     let h = subst (Finds (round-in (s .args .table .now)) (s .args .ticket .0)) (c .enum-told .given .1) (c .before .before .find-row .ensures) in
-    substitute-nowhere (s .args .ticket .0) (s .args .table .now) (s .pre .0) (ahead (c .before .before .before .before .before .before .args .table .now) (c .before .before .before .before .before .before .args .round) (c .before .before .before .before .before .before .pre .0) (c .before .before .before .before .before .before .pre .1) (omega arith) .2) h
+    substitute-nowhere (s .args .ticket .0) (s .args .table .now) (s .pre .0) (ahead (s .args .table .now) (s .args .round) (s .pre .0) (s .pre .1)
+    (omega arith) .2) h
 
 returns-3 : tie.Need-returns-3
 returns-3 c =
     let s = c .before .before .before .before .before .before .before .before in
-    let h = subst (Finds (round-in (s .args .table .now)) (s .args .ticket .0)) (c .before .before .row .given .1) (c .before .before .before .before .find-row .ensures) in
-    let r = ready (c .before .before .before .before .before .before .before .before .args .table .now) (c .before .before .before .before .before .before .before .before .args .round) (c .before .before .before .before .before .before .before .before .pre .0) (c .before .before .before .before .before .before .before .before .pre .1) (omega arith) in
+    let h = subst (Finds (round-in (s .args .table .now)) (s .args .ticket .0)) (c .before .before .row .given .1)
+    (c .before .before .before .before .find-row .ensures) in
+    let r = ready (s .args .table .now) (s .args .round) (s .pre .0) (s .pre .1) (omega arith) in
     c .substitute-row .ensures
-    ∙ substitute-found (s .args .ticket .0) (s .args .table .now) (s .pre .0) (ahead (c .before .before .before .before .before .before .before .before .args .table .now) (c .before .before .before .before .before .before .before .before .args .round) (c .before .before .before .before .before .before .before .before .pre .0) (c .before .before .before .before .before .before .before .before .pre .1) (omega arith) .2)
+    ∙ substitute-found (s .args .ticket .0) (s .args .table .now) (s .pre .0) (ahead (s .args .table .now) (s .args .round) (s .pre .0) (s .pre .1)
+    (omega arith) .2)
     (known (s .args .table .now) (s .args .round) r .fine) _ h
 
 pub substitute-in-spec : {M : Type 1} → statement M

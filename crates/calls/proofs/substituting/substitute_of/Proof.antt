@@ -16,7 +16,8 @@ enum-known-round : tie.Need-enum-known-round
 enum-known-round c = search needs
 
 substitute-in-requires : tie.Need-substitute-in-requires
-substitute-in-requires c κs = subst (Judge-says (c .before .before .before .before .before .args .table .now)) (c .before .round .given .1) (c .before .before .before .judge .ensures)
+substitute-in-requires c κs = subst (Judge-says (c .before .before .before .before .before .args .table .now)) (c .before .round .given .1)
+    (c .before .before .before .judge .ensures)
 
 returns : tie.Need-returns
 returns c =

@@ -35,14 +35,17 @@ write-row-requires : tie.Need-write-row-requires
 write-row-requires c κs =
     let s = c .before .before .before .before .before .before in
     let f = row-free (s .args .table .now) (s .args .round) (s .pre .0) (s .pre .1) (s .args .due .0) (s .args .weight .0)
-    (none (c .before .before .before .before .taking-refusal .result) _ (c .before .before .before .before .taking-refusal .ensures) (c .before .before .before .if1 .left)) in
+    (none (c .before .before .before .before .taking-refusal .result) _ (c .before .before .before .before .taking-refusal .ensures)
+    (c .before .before .before .if1 .left)) in
     omega (arith, f .0, c .before .row-at .ensures)
 
 one-more-requires : tie.Need-one-more-requires
 one-more-requires c κs =
     let s = c .before .before .before .before .before .before .before .before .before .before in
     let f = row-free (s .args .table .now) (s .args .round) (s .pre .0) (s .pre .1) (s .args .due .0) (s .args .weight .0)
-    (none (c .before .before .before .before .before .before .before .before .taking-refusal .result) _ (c .before .before .before .before .before .before .before .before .taking-refusal .ensures) (c .before .before .before .before .before .before .before .if1 .left)) in
+    (none (c .before .before .before .before .before .before .before .before .taking-refusal .result) _
+    (c .before .before .before .before .before .before .before .before .taking-refusal .ensures)
+    (c .before .before .before .before .before .before .before .if1 .left)) in
     (f .2, f .1)
 
 write-head-requires : tie.Need-write-head-requires
@@ -50,8 +53,11 @@ write-head-requires c κs =
     let s = c .before .before .before .before .before .before .before .before .before .before .before in
     let d = (s .args .table .now) in
     let f = row-free (s .args .table .now) (s .args .round) (s .pre .0) (s .pre .1) (s .args .due .0) (s .args .weight .0)
-    (none (c .before .before .before .before .before .before .before .before .before .taking-refusal .result) _ (c .before .before .before .before .before .before .before .before .before .taking-refusal .ensures) (c .before .before .before .before .before .before .before .before .if1 .left)) in
-    let l : length (c .before .before .before .before .write-row .last .0) ≡ length (s .args .table .now) = ap length (c .before .before .before .before .write-row .ensures) ∙ simp length-sets in
+    (none (c .before .before .before .before .before .before .before .before .before .taking-refusal .result) _
+    (c .before .before .before .before .before .before .before .before .before .taking-refusal .ensures)
+    (c .before .before .before .before .before .before .before .before .if1 .left)) in
+    let l : length (c .before .before .before .before .write-row .last .0) ≡ length (s .args .table .now) = ap length
+    (c .before .before .before .before .write-row .ensures) ∙ simp length-sets in
     (omega (arith, l, f .0), omega (arith, c .one-more .ensures .used, f .1))
 
 same-length : tie.Need-same-length
@@ -61,9 +67,14 @@ returns-2 : tie.Need-returns-2
 returns-2 c =
     let s = c .before .before .before .before .before .before .before .before .before .before .before .before .before .before in
     taken-says (s .args .table .now) (s .args .round) (s .pre .0) (s .pre .1) (s .args .due .0) (s .args .weight .0)
-    (none (c .before .before .before .before .before .before .before .before .before .before .before .before .taking-refusal .result) _ (c .before .before .before .before .before .before .before .before .before .before .before .before .taking-refusal .ensures) (c .before .before .before .before .before .before .before .before .before .before .before .if1 .left))
-    (c .before .before .before .one-more .result) (c .before .before .before .before .before .before .before .write-row .last .0) (c .before .before .write-head .last .0) (c .before .before .before .before .before .before .before .before .before .row-at .result) _ _ _
-    (c .before .before .before .one-more .ensures) (omega (arith, c .before .before .before .before .before .before .before .before .before .row-at .ensures)) (omega arith) (omega arith) (omega arith)
+    (none (c .before .before .before .before .before .before .before .before .before .before .before .before .taking-refusal .result) _
+    (c .before .before .before .before .before .before .before .before .before .before .before .before .taking-refusal .ensures)
+    (c .before .before .before .before .before .before .before .before .before .before .before .if1 .left))
+    (c .before .before .before .one-more .result) (c .before .before .before .before .before .before .before .write-row .last .0)
+    (c .before .before .write-head .last .0) (c .before .before .before .before .before .before .before .before .before .row-at .result) _ _ _
+    (c .before .before .before .one-more .ensures)
+    (omega (arith, c .before .before .before .before .before .before .before .before .before .row-at .ensures)) (omega arith) (omega arith)
+    (omega arith)
     (c .before .before .before .before .before .before .before .write-row .ensures) (c .before .before .write-head .ensures)
 
 pub take-into-spec : {M : Type 1} → statement M

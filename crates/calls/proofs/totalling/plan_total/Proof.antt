@@ -17,7 +17,8 @@ enum-known-round : tie.Need-enum-known-round
 enum-known-round c = search needs
 
 total-in-requires : tie.Need-total-in-requires
-total-in-requires c κs = subst (Judge-says (c .before .before .before .before .before .args .table .now)) (c .before .round .given .1) (c .before .before .before .judge .ensures)
+total-in-requires c κs = subst (Judge-says (c .before .before .before .before .before .args .table .now)) (c .before .round .given .1)
+    (c .before .before .before .judge .ensures)
 
 returns : tie.Need-returns
 returns c =

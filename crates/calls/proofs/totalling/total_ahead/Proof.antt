@@ -8,22 +8,37 @@ reach-of-requires : tie.Need-reach-of-requires
 reach-of-requires c κs = search needs
 
 array-borrow-prefix-flags : tie.Need-array-borrow-prefix-flags
-array-borrow-prefix-flags c = few-rows (c .before .before .before .args .table .now) (c .before .before .before .args .round) (c .before .before .before .pre)
+array-borrow-prefix-flags c =
+    let s = c .before .before .before in
+    few-rows (s .args .table .now) (s .args .round) (s .pre)
 
 slice-aggregate-flag-rows : tie.Need-slice-aggregate-flag-rows
-slice-aggregate-flag-rows c = ones-long (c .before .before .before .before .args .round .used) 1024 (few-rows (c .before .before .before .before .args .table .now) (c .before .before .before .before .args .round) (c .before .before .before .before .pre))
+slice-aggregate-flag-rows c =
+    let s = c .before .before .before .before in
+    ones-long (s .args .round .used) 1024 (few-rows (s .args .table .now) (s .args .round) (s .pre))
 
 flag-rows-requires : tie.Need-flag-rows-requires
-flag-rows-requires c κs = (c .before .before .before .before .pre, c .before .reach-of .ensures .0, ones-front (c .before .before .before .before .args .round .used) 1024 (few-rows (c .before .before .before .before .args .table .now) (c .before .before .before .before .args .round) (c .before .before .before .before .pre)))
+flag-rows-requires c κs =
+    let s = c .before .before .before .before in
+    (s .pre, c .before .reach-of .ensures .0, ones-front (s .args .round .used) 1024 (few-rows (s .args .table .now) (s .args .round) (s .pre)))
 
 array-share-prefix-flags : tie.Need-array-share-prefix-flags
-array-share-prefix-flags c = flagged-long (c .before .before .before .before .before .before .args .table .now) (c .before .before .before .before .before .before .args .round) (c .before .before .before .before .before .before .pre) (c .before .flag-rows .last .1 .0) _ (c .before .flag-rows .ensures) .0
+array-share-prefix-flags c =
+    let s = c .before .before .before .before .before .before in
+    flagged-long (s .args .table .now) (s .args .round) (s .pre) (c .before .flag-rows .last .1 .0) _ (c .before .flag-rows .ensures) .0
 
 slice-aggregate-total-of : tie.Need-slice-aggregate-total-of
-slice-aggregate-total-of c = flagged-long (c .before .before .before .before .before .before .before .args .table .now) (c .before .before .before .before .before .before .before .args .round) (c .before .before .before .before .before .before .before .pre) (c .before .before .flag-rows .last .1 .0) _ (c .before .before .flag-rows .ensures) .1
+slice-aggregate-total-of c =
+    let s = c .before .before .before .before .before .before .before in
+    flagged-long (s .args .table .now) (s .args .round) (s .pre) (c .before .before .flag-rows .last .1 .0) _ (c .before .before .flag-rows .ensures) .1
 
 total-of-requires : tie.Need-total-of-requires
-total-of-requires c κs = (c .before .before .before .before .before .before .before .pre, flagged-chosen (c .before .before .before .before .before .before .before .args .table .now) (c .before .before .before .before .before .before .before .args .round) (c .before .before .before .before .before .before .before .pre) (c .before .before .flag-rows .last .1 .0) _ (c .before .before .flag-rows .ensures))
+total-of-requires c κs =
+    let s = c .before .before .before .before .before .before .before in (
+      s .pre,
+      flagged-chosen (s .args .table .now) (s .args .round) (s .pre) (c .before .before .flag-rows .last .1 .0) _
+          (c .before .before .flag-rows .ensures),
+    )
 
 returns : tie.Need-returns
 returns c = search needs

@@ -10,7 +10,8 @@ use Rattle.calls.proofs.totalling.total_in.Tie as tie
 returns : tie.Need-returns
 returns c =
     let s = c .before .before .before in
-    answers-refused totalling (s .args .table .now) 5 (over (s .args .table .now) (s .args .round) (s .pre .0) (s .pre .1) (omega arith) .1) (λ z. omega (arith, z))
+    answers-refused totalling (s .args .table .now) 5 (over (s .args .table .now) (s .args .round) (s .pre .0) (s .pre .1) (omega arith) .1)
+    (λ z. omega (arith, z))
 
 total-ahead-requires : tie.Need-total-ahead-requires
 total-ahead-requires c κs = search needs

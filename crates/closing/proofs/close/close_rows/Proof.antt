@@ -13,13 +13,19 @@ abbrev μ-loop : tie.MeasureT-loop
 μ-loop table₀ used slot gone i₀ kept₀ table i kept = used - i
 
 first-leaving-requires : tie.Need-first-leaving-requires Inv-loop μ-loop
-first-leaving-requires c κs = table-room (c .before .before .args .table .now) (c .before .before .pre .0) (c .before .before .pre .1)
+first-leaving-requires c κs =
+    let s = c .before .before in
+    table-room (s .args .table .now) (s .pre .0) (s .pre .1)
 
 loop-holds : tie.Need-loop-holds Inv-loop μ-loop
-loop-holds c = moving-start (c .before .before .before .pre .0) (c .before .before .before .pre .1) (c .first-leaving .ensures)
+loop-holds c =
+    let s = c .before .before .before in
+    moving-start (s .pre .0) (s .pre .1) (c .first-leaving .ensures)
 
 keep-row-requires : tie.Need-keep-row-requires Inv-loop μ-loop
-keep-row-requires c κs = moving-room (c .before .before .before .before .before .before .pre .0) (c .before .before .before .before .before .before .pre .1) (c .before .before .loop .inv) (search needs)
+keep-row-requires c κs =
+    let s = c .before .before .before .before .before .before in
+    moving-room (s .pre .0) (s .pre .1) (c .before .before .loop .inv) (search needs)
 
 add-i : tie.Need-add-i Inv-loop μ-loop
 add-i c = search needs

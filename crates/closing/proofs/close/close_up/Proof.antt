@@ -15,27 +15,50 @@ close-rows-requires : tie.Need-close-rows-requires
 close-rows-requires c κs = (c .before .before .before .pre .0, head-used (c .before .before .before .pre .1))
 
 row-at-requires : tie.Need-row-at-requires
-row-at-requires c κs = table-room (c .before .before .before .before .before .before .args .table .now) (c .before .before .before .before .before .before .pre .0) (head-used (c .before .before .before .before .before .before .pre .1)) .0
+row-at-requires c κs =
+    let s = c .before .before .before .before .before .before in
+    table-room (s .args .table .now) (s .pre .0) (head-used (s .pre .1)) .0
 
 row-at-requires-2 : tie.Need-row-at-requires-2
-row-at-requires-2 c κs = omega (arith, kept-few (c .before .before .before .close-rows .ensures) (c .before .before .before .before .before .before .before .pre .0) (c .before .before .before .before .before .before .before .pre .1))
+row-at-requires-2 c κs =
+    let s = c .before .before .before .before .before .before .before in
+    omega (arith, kept-few (c .before .before .before .close-rows .ensures) (s .pre .0) (s .pre .1))
 
 slice-relend-prefix-clear : tie.Need-slice-relend-prefix-clear
-slice-relend-prefix-clear c = omega (arith, kept-few (c .before .before .before .before .close-rows .ensures) (c .before .before .before .before .before .before .before .before .pre .0) (c .before .before .before .before .before .before .before .before .pre .1), c .before .row-at .ensures)
+slice-relend-prefix-clear c =
+    let s = c .before .before .before .before .before .before .before .before in
+    omega (arith, kept-few (c .before .before .before .before .close-rows .ensures) (s .pre .0) (s .pre .1), c .before .row-at .ensures)
 
 slice-aggregate-clear : tie.Need-slice-aggregate-clear
-slice-aggregate-clear c = sym (length-take-le _ _ (omega (arith, kept-few (c .before .before .before .before .before .close-rows .ensures) (c .before .before .before .before .before .before .before .before .before .pre .0) (c .before .before .before .before .before .before .before .before .before .pre .1), c .before .before .row-at .ensures)))
+slice-aggregate-clear c =
+    let s = c .before .before .before .before .before .before .before .before .before in
+    sym (length-take-le _ _ (omega (
+      arith,
+      kept-few (c .before .before .before .before .before .close-rows .ensures) (s .pre .0) (s .pre .1),
+      c .before .before .row-at .ensures,
+    )))
 
 clear-requires : tie.Need-clear-requires
 clear-requires c κs =
-    let k = kept-few (c .before .before .before .before .before .close-rows .ensures) (c .before .before .before .before .before .before .before .before .before .pre .0) (c .before .before .before .before .before .before .before .before .before .pre .1) in
-    omega (arith, k, length-take-le (c .before .before .row-at .result) (c .before .before .before .before .before .close-rows .last .0) (omega (arith, k, c .before .before .row-at .ensures)), c .before .before .row-at .ensures, c .before .row-at2 .ensures)
+    let s = c .before .before .before .before .before .before .before .before .before in
+    let k = kept-few (c .before .before .before .before .before .close-rows .ensures) (s .pre .0) (s .pre .1) in
+    omega (
+      arith,
+      k,
+      length-take-le (c .before .before .row-at .result) (c .before .before .before .before .before .close-rows .last .0)
+          (omega (arith, k, c .before .before .row-at .ensures)),
+      c .before .before .row-at .ensures,
+      c .before .row-at2 .ensures,
+    )
 
 write2-requires : tie.Need-write2-requires
 write2-requires c κs = search needs
 
 cast-write2 : tie.Need-cast-write2
-cast-write2 c = omega (arith, kept-few (c .before .before .before .before .before .before .before .before .before .before .before .before .before .close-rows .ensures) (c .before .before .before .before .before .before .before .before .before .before .before .before .before .before .before .before .before .pre .0) (c .before .before .before .before .before .before .before .before .before .before .before .before .before .before .before .before .before .pre .1))
+cast-write2 c =
+    let closed = c .before .before .before .before .before .before .before .before .before .before .before .before .before in
+    let entry = closed .before .before .before .before in
+    omega (arith, kept-few (closed .close-rows .ensures) (entry .pre .0) (entry .pre .1))
 
 write2-requires-2 : tie.Need-write2-requires-2
 write2-requires-2 c κs = search needs
@@ -44,7 +67,14 @@ same-length : tie.Need-same-length
 same-length c = search needs
 
 returns : tie.Need-returns
-returns c = closed-written (c .before .before .before .before .before .before .before .before .before .before .before .before .before .before .before .before .before .before .before .before .pre .0) (c .before .before .before .before .before .before .before .before .before .before .before .before .before .before .before .before .before .before .before .before .pre .1) (search needs) (c .before .before .before .before .before .before .before .before .before .before .before .before .before .before .before .before .close-rows .ensures) (c .before .before .before .before .before .before .before .before .before .before .before .before .row-at2 .ensures) (c .before .before .before .before .before .before .before .before .before .before .before .before .before .row-at .ensures) (c .before .before .before .before .before .before .before .before .before .before .clear .ensures) (c .before .before .before .before .before .before .write2 .ensures) (c .before .before .write22 .ensures)
+returns c =
+    let written = c .before .before .before .before .before .before in
+    let cleared = written .before .before .before .before in
+    let ends = cleared .before .before in
+    let closed = ends .before .before .before .before in
+    let entry = closed .before .before .before .before in
+    closed-written (entry .pre .0) (entry .pre .1) (search needs) (closed .close-rows .ensures) (ends .row-at2 .ensures)
+    (ends .before .row-at .ensures) (cleared .clear .ensures) (written .write2 .ensures) (c .before .before .write22 .ensures)
 
 pub close-up-spec : {M : Type 1} → statement M
 close-up-spec =

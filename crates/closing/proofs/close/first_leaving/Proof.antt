@@ -30,7 +30,10 @@ loop-less : tie.Need-loop-less Inv-loop μ-loop
 loop-less c = search needs
 
 loop-again : tie.Need-loop-again Inv-loop μ-loop
-loop-again c = front-more (c .before .before .before .before .before .args .slot .0) (c .before .before .before .before .before .args .gone .0) (c .before .before .before .before .before .args .used) (c .before .before .before .before .before .args .table .now) (c .before .before .before .loop .i) (c .before .before .before .loop .inv) (search needs) (sym (c .before .row-stays .ensures) ∙ not-false _ (c .if1 .left))
+loop-again c =
+    let s = c .before .before .before .before .before in
+    front-more (s .args .slot .0) (s .args .gone .0) (s .args .used) (s .args .table .now) (c .before .before .before .loop .i)
+    (c .before .before .before .loop .inv) (search needs) (sym (c .before .row-stays .ensures) ∙ not-false _ (c .if1 .left))
 
 returns-2 : tie.Need-returns-2 Inv-loop μ-loop
 returns-2 c = c .before .loop .inv

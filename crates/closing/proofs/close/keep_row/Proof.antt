@@ -27,10 +27,13 @@ same-length c = search needs
 
 returns : tie.Need-returns
 returns c =
+    let s = c .before .before .before .before .before .before .before .before .before .before in
     inl (
       sym (c .before .before .before .before .before .before .before .row-stays .ensures) ∙ c .before .before .before .before .before .before .if1 .taken,
       refl,
-      kept-copied (c .before .before .before .before .before .before .before .before .before .before .args .table .now) _ (c .before .before .before .before .before .before .before .before .before .before .args .row) (c .before .before .before .before .before .before .before .before .before .before .args .kept) (c .before .before .before .before .row-at .result) (c .before .before .before .row-at2 .result) (omega (arith, c .before .before .before .before .row-at .ensures)) (omega (arith, c .before .before .before .row-at2 .ensures)) (c .before .before .copy-row .ensures),
+      kept-copied (s .args .table .now) _ (s .args .row) (s .args .kept) (c .before .before .before .before .row-at .result)
+          (c .before .before .before .row-at2 .result) (omega (arith, c .before .before .before .before .row-at .ensures))
+          (omega (arith, c .before .before .before .row-at2 .ensures)) (c .before .before .copy-row .ensures),
     )
 
 same-length-2 : tie.Need-same-length-2

@@ -11,7 +11,9 @@ went-of-requires : tie.Need-went-of-requires
 went-of-requires c κs = alone-row (c .before .before .before .pre) (c .row-of .ensures)
 
 close-up-requires : tie.Need-close-up-requires
-close-up-requires c κs = (c .before .before .before .before .before .before .pre .ready .sound, c .before .before .before .before .before .before .pre .ready .head)
+close-up-requires c κs =
+    let s = c .before .before .before .before .before .before in
+    (s .pre .ready .sound, s .pre .ready .head)
 
 same-length : tie.Need-same-length
 same-length c = search needs

@@ -18,19 +18,32 @@ add-least-by : tie.Need-add-least-by
 add-least-by c = omega (arith, kept-slots (c .before .before .before .before .before .before .pre) (c .before .before .before .row-of .ensures))
 
 least-by-requires : tie.Need-least-by-requires
-least-by-requires c κs = (c .before .before .before .before .before .before .pre .ready, c .before .before .before .before .before .before .pre .chosen)
+least-by-requires c κs =
+    let s = c .before .before .before .before .before .before in
+    (s .pre .ready, s .pre .chosen)
 
 cast-t16 : tie.Need-cast-t16
-cast-t16 c = omega (arith, kept-slots (c .before .before .before .before .before .before .before .before .pre) (c .before .before .before .before .before .row-of .ensures))
+cast-t16 c = omega (
+  arith,
+  kept-slots (c .before .before .before .before .before .before .before .before .pre)
+      (c .before .before .before .before .before .row-of .ensures),
+)
 
 add-t17 : tie.Need-add-t17
-add-t17 c = omega (arith, kept-slots (c .before .before .before .before .before .before .before .before .pre) (c .before .before .before .before .before .row-of .ensures))
+add-t17 c = omega (
+  arith,
+  kept-slots (c .before .before .before .before .before .before .before .before .pre)
+      (c .before .before .before .before .before .row-of .ensures),
+)
 
 write-kept-requires : tie.Need-write-kept-requires
-write-kept-requires c κs = kept-there (c .before .before .before .before .before .before .before .before .pre) (c .before .before .before .before .before .row-of .ensures)
+write-kept-requires c κs = kept-there (c .before .before .before .before .before .before .before .before .pre)
+    (c .before .before .before .before .before .row-of .ensures)
 
 close-up-requires : tie.Need-close-up-requires
-close-up-requires c κs = let s = kept-stood (c .before .before .before .before .before .before .before .before .before .before .before .before .pre) (c .before .before .before .before .before .before .before .before .before .row-of .ensures) (c .before .before .before .before .before .least-by .ensures) (c .before .before .before .write-kept .ensures) in (s .sound, s .head)
+close-up-requires c κs = let s = kept-stood (c .before .before .before .before .before .before .before .before .before .before .before .before .pre)
+    (c .before .before .before .before .before .before .before .before .before .row-of .ensures)
+    (c .before .before .before .before .before .least-by .ensures) (c .before .before .before .write-kept .ensures) in (s .sound, s .head)
 
 same-length : tie.Need-same-length
 same-length c = search needs

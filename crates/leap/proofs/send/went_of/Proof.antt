@@ -13,13 +13,17 @@ add-read4 : tie.Need-add-read4
 add-read4 c = search needs
 
 read4-requires : tie.Need-read4-requires
-read4-requires c κs = omega (arith, c .row-at .ensures, reads-within (c .before .before .args .table .now) (c .before .before .args .round) (c .before .before .pre .0) (c .before .before .args .row) (c .before .before .pre .1) .1)
+read4-requires c κs =
+    let s = c .before .before in
+    omega (arith, c .row-at .ensures, reads-within (s .args .table .now) (s .args .round) (s .pre .0) (s .args .row) (s .pre .1) .1)
 
 add-t8 : tie.Need-add-t8
 add-t8 c = search needs
 
 shared-slice-read-t10 : tie.Need-shared-slice-read-t10
-shared-slice-read-t10 c = omega (arith, c .before .before .row-at .ensures, reads-within (c .before .before .before .before .args .table .now) (c .before .before .before .before .args .round) (c .before .before .before .before .pre .0) (c .before .before .before .before .args .row) (c .before .before .before .before .pre .1) .1)
+shared-slice-read-t10 c =
+    let s = c .before .before .before .before in
+    omega (arith, c .before .before .row-at .ensures, reads-within (s .args .table .now) (s .args .round) (s .pre .0) (s .args .row) (s .pre .1) .1)
 
 returns : tie.Need-returns
 returns c = search (went-read, needs)

@@ -14,7 +14,8 @@ enum-told : tie.Need-enum-told
 enum-told c = search needs
 
 returns : tie.Need-returns
-returns c = placed-broken (c .before .before .before .before .args .line .now) (c .before .before .read-command .ensures) (c .enum-told .given .1) (search needs) (search needs)
+returns c = placed-broken (c .before .before .before .before .args .line .now) (c .before .before .read-command .ensures) (c .enum-told .given .1)
+    (search needs) (search needs)
 
 enum-told-2 : tie.Need-enum-told-2
 enum-told-2 c = search needs
@@ -36,7 +37,8 @@ returns-2 c =
     let line = c .before .before .before .before .before .before .before .before .args .line .now in
     let told = c .before in
     let is = told .before .before .before .command .given .1 in
-    placed-take line (c .before .before .before .before .before .before .read-command .ensures) is (told .enum-told2 .given .0 .0) (told .enum-told2 .given .0 .1 .0)
+    placed-take line (c .before .before .before .before .before .before .read-command .ensures) is (told .enum-told2 .given .0 .0)
+    (told .enum-told2 .given .0 .1 .0)
     (told .enum-told2 .given .1)
     (search needs)
     (search needs)
@@ -47,7 +49,8 @@ returns-3 c =
     let line = c .before .before .before .before .before .before .before .before .args .line .now in
     let told = c .before in
     let is = told .before .before .before .command .given .1 in
-    placed-bare line (c .before .before .before .before .before .before .read-command .ensures) is (told .enum-told2 .given .0 .0) (told .enum-told2 .given .0 .1 .0)
+    placed-bare line (c .before .before .before .before .before .before .read-command .ensures) is (told .enum-told2 .given .0 .0)
+    (told .enum-told2 .given .0 .1 .0)
     (told .enum-told2 .given .1)
     (search needs)
     (search needs)
@@ -57,7 +60,8 @@ returns-4 : tie.Need-returns-4
 returns-4 c =
     let line = c .before .before .before .before .before .before .before .args .line .now in
     let is = c .before .before .before .command .given .1 in
-    placed-open line (c .before .before .before .before .before .read-command .ensures) is (c .enum-told3 .given .0 .0) (c .enum-told3 .given .1) (search needs) (search needs)
+    placed-open line (c .before .before .before .before .before .read-command .ensures) is (c .enum-told3 .given .0 .0) (c .enum-told3 .given .1)
+    (search needs) (search needs)
 
 returns-5 : tie.Need-returns-5
 returns-5 c =

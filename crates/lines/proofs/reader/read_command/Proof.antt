@@ -42,7 +42,8 @@ returns-3 c =
     let line = c .before .before .before .before .before .before .before .before .args .line .now in
     foul 0 2 line (search needs) (spelt-nothing (take 2 line) (c .enum-told .given .1) (c .before .before .number .ensures))
 
-begun-here : (c : tie.After-known-told) → Begun (c .before .kind .given .0 .0) (c .before .before .before .before .before .before .before .before .before .args .line .now)
+begun-here : (c : tie.After-known-told) →
+    Begun (c .before .kind .given .0 .0) (c .before .before .before .before .before .before .before .before .before .args .line .now)
 begun-here c =
     let line = c .before .before .before .before .before .before .before .before .before .args .line .now in
     let kind = c .before .kind .given in
@@ -70,7 +71,8 @@ returns-7 : tie.Need-returns-7
 returns-7 c =
     let known = c .before in
     let not = c .match2 .rest in
-    unknown (known .before .kind .given .0 .0) (c .before .before .before .before .before .before .before .before .before .before .args .line .now) (begun-here known) (not .0 .0 .1) (not .0 .1) (not .1)
+    unknown (known .before .kind .given .0 .0) (c .before .before .before .before .before .before .before .before .before .before .args .line .now)
+    (begun-here known) (not .0 .0 .1) (not .0 .1) (not .1)
 
 pub read-command-spec : {M : Type 1} → statement M
 read-command-spec =

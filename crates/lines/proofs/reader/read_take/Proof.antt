@@ -19,10 +19,14 @@ add-if2 : tie.Need-add-if2
 add-if2 c = search needs
 
 returns-2 : tie.Need-returns-2
-returns-2 c = take-long (c .before .before .before .args .line .now) (c .before .before .before .pre) (λ g h e. omega arith)
+returns-2 c =
+    let s = c .before .before .before in
+    take-long (s .args .line .now) (s .pre) (λ g h e. omega arith)
 
 returns-3 : tie.Need-returns-3
-returns-3 c = take-long (c .before .before .before .before .args .line .now) (c .before .before .before .before .pre) (λ g h e. omega (arith, c .if3 .taken))
+returns-3 c =
+    let s = c .before .before .before .before in
+    take-long (s .args .line .now) (s .pre) (λ g h e. omega (arith, c .if3 .taken))
 
 sub-number : tie.Need-sub-number
 sub-number c = search needs
@@ -81,8 +85,9 @@ digits-only-requires c κs = search needs
 
 returns-6 : tie.Need-returns-6
 returns-6 c =
-    let line = c .before .before .before .before .before .before .before .before .before .before .before .before .before .before .before .before .before .args .line .now in
-    let payload = c .before .digits-only in
+    let asked = c .before in
+    let payload = asked .digits-only in
+    let line = asked .before .before .before .before .before .before .before .before .before .before .before .before .before .before .before .before .args .line .now in
     foul 14 (length line - 1 - 14) line (search needs) (sym (payload .ensures) ∙ not-true (payload .result) (c .if4 .taken))
 
 returns-7 : tie.Need-returns-7

@@ -43,7 +43,9 @@ returns-4 c =
     ∙ take-stands (s .command) (s .payload .now) (both .0 .0) (both .0 .1 .0) (both .1) (search needs) (search needs)
 
 returns-5 : tie.Need-returns-5
-returns-5 c = send-stands (c .before .before .before .args .command) (c .before .before .before .args .payload .now) (c .enum-told .given .1)
+returns-5 c =
+    let s = c .before .before .before in
+    send-stands (s .args .command) (s .args .payload .now) (c .enum-told .given .1)
 
 pub can-stand-spec : {M : Type 1} → statement M
 can-stand-spec =

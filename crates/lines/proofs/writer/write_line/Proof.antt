@@ -11,7 +11,8 @@ use Rattle.lines.proofs.Writing.{front-small, write-unfit, write-full, 
 use Rattle.lines.proofs.writer.write_line.Statement.{statement}
 use Rattle.lines.proofs.writer.write_line.Tie as tie
 
-stands-here : (c : tie.Else1) → stands (command-of (c .before .before .before .before .args .command)) (c .before .before .before .before .args .payload .now) ≡ true
+stands-here : (c : tie.Else1) → stands (command-of (c .before .before .before .before .args .command))
+    (c .before .before .before .before .args .payload .now) ≡ true
 stands-here c = sym (c .before .can-stand .ensures) ∙ not-false (c .before .can-stand .result) (c .if1 .left)
 
 can-stand-requires : tie.Need-can-stand-requires

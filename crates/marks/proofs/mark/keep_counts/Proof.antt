@@ -17,13 +17,16 @@ abbrev μ-loop : tie.MeasureT-loop
 μ-loop table flags counts₀ round top used slot i₀ counts i = used - i
 
 -- the row in hand and its bucket
-row : (c : tie.In-loop Inv-loop μ-loop) → c .before .loop .i < length (round-in (c .before .before .before .before .before .before .before .args .table .now) .rows)
+row : (c : tie.In-loop Inv-loop μ-loop) →
+    c .before .loop .i < length (round-in (c .before .before .before .before .before .before .before .args .table .now) .rows)
 row c = omega (arith, known _ _ (c .before .before .before .before .before .before .before .pre .0) .used, c .loop-test .taken)
 
 bucket : (c : tie.After-bucket-of Inv-loop μ-loop) →
-    Bucket-at (round-in (c .before .before .before .before .before .before .before .before .before .args .table .now)) (c .before .before .before .loop .i) (c .bucket-of .result)
+    Bucket-at (round-in (c .before .before .before .before .before .before .before .before .before .args .table .now))
+    (c .before .before .before .loop .i) (c .bucket-of .result)
 bucket c =
-    bucket-read _ _ _ _ _ _ (c .before .before .before .before .before .before .before .before .before .pre .0) (c .before .before .before .before .top-of .ensures)
+    bucket-read _ _ _ _ _ _ (c .before .before .before .before .before .before .before .before .before .pre .0)
+    (c .before .before .before .before .top-of .ensures)
     (c .before .due-at .ensures) (c .bucket-of .ensures)
 
 returns : tie.Need-returns Inv-loop μ-loop
@@ -62,7 +65,9 @@ sub-counts : tie.Need-sub-counts Inv-loop μ-loop
 sub-counts c =
     omega (
       arith,
-      keep-less _ _ _ _ _ _ (c .before .before .before .before .before .before .before .before .before .before .before .before .pre .1) (row (c .before .before .before .before .before)) (bucket (c .before .before .before)) (c .before .out .ensures) (c .before .before .before .before .before .before .loop .inv .1),
+      keep-less _ _ _ _ _ _ (c .before .before .before .before .before .before .before .before .before .before .before .before .pre .1)
+          (row (c .before .before .before .before .before)) (bucket (c .before .before .before)) (c .before .out .ensures)
+          (c .before .before .before .before .before .before .loop .inv .1),
     )
 
 mul-counts-2 : tie.Need-mul-counts-2 Inv-loop μ-loop

@@ -9,7 +9,9 @@ use Rattle.marks.proofs.mark.mark_at.Tie as tie
 
 close : (c : tie.Else1) →
     Nearby (c .before .before .before .before .args .round) (c .before .before .before .before .args .reach) (c .before .before .before .before .args .slot)
-close c = nearby _ _ _ _ _ (c .before .before .before .before .pre .0) (c .before .before .before .before .pre .2) (c .before .is-far .ensures) (c .if1 .left)
+close c =
+    let s = c .before .before .before .before in
+    nearby _ _ _ _ _ (s .pre .0) (s .pre .2) (c .before .is-far .ensures) (c .if1 .left)
 
 is-far-requires : tie.Need-is-far-requires
 is-far-requires c κs = search needs
@@ -45,7 +47,14 @@ cast-least-by c = omega (arith, close (c .before .before .before .before .before
 add-least-by : tie.Need-add-least-by
 add-least-by c =
     let k = known _ _ (c .before .before .before .before .before .before .before .before .before .before .before .before .before .pre .0) in
-    omega (arith, close (c .before .before .before .before .before .before .before .before .before) .small, c .before .before .back-after .ensures .back .high, k .slot, k .time, k .cap)
+    omega (
+      arith,
+      close (c .before .before .before .before .before .before .before .before .before) .small,
+      c .before .before .back-after .ensures .back .high,
+      k .slot,
+      k .time,
+      k .cap,
+    )
 
 least-by-requires : tie.Need-least-by-requires
 least-by-requires c κs = search needs

@@ -35,7 +35,12 @@ wide-requires : tie.Need-wide-requires Inv-loop μ-loop
 wide-requires c κs = search needs
 
 back-one-requires : tie.Need-back-one-requires Inv-loop μ-loop
-back-one-requires c κs = omega (arith, c .before .before .before .loop .inv .1 .back .few, c .wide .ensures .1, c .before .before .before .before .before .pre .1)
+back-one-requires c κs = omega (
+  arith,
+  c .before .before .before .loop .inv .1 .back .few,
+  c .wide .ensures .1,
+  c .before .before .before .before .before .pre .1,
+)
 
 loop-less : tie.Need-loop-less Inv-loop μ-loop
 loop-less c = search needs

@@ -30,7 +30,14 @@ mul-wide c =
 shared-slice-read-wide : tie.Need-shared-slice-read-wide Inv-loop μ-loop
 shared-slice-read-wide c =
     let s = c .before .before .before .before .before in
-    omega (arith, c .before .before .before .loop .inv .by, s .pre .0, s .pre .2, seek-on _ _ _ _ _ (s .pre .4) (c .before .if1 .taken) (c .before .before .before .loop .inv))
+    omega (
+      arith,
+      c .before .before .before .loop .inv .by,
+      s .pre .0,
+      s .pre .2,
+      seek-on _ _ _ _ _ (s .pre .4) (c .before .if1 .taken)
+          (c .before .before .before .loop .inv),
+    )
 
 wide-requires : tie.Need-wide-requires Inv-loop μ-loop
 wide-requires c κs = search needs
@@ -48,7 +55,8 @@ loop-less c =
 loop-again : tie.Need-loop-again Inv-loop μ-loop
 loop-again c =
     let s = c .before .before .before .before .before .before .before in
-    seek-back _ _ _ _ _ _ _ (s .pre .4) (c .before .before .before .if1 .taken) (c .before .before .before .before .before .loop .inv) (c .before .wide .ensures .0)
+    seek-back _ _ _ _ _ _ _ (s .pre .4) (c .before .before .before .if1 .taken) (c .before .before .before .before .before .loop .inv)
+    (c .before .wide .ensures .0)
     (c .before .wide .ensures .1) (c .back-one .ensures)
 
 returns : tie.Need-returns Inv-loop μ-loop

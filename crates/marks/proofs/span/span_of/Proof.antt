@@ -8,14 +8,21 @@ use Rattle.marks.proofs.SpanLaws.{Viewed, viewed, viewed-room, viewed-s
 use Rattle.marks.proofs.span.span_of.Statement.{statement}
 use Rattle.marks.proofs.span.span_of.Tie as tie
 
-view : (c : tie.After-window-of) → Viewed (round-in (c .before .before .before .args .table .now)) (c .before .before .before .args .slot) (c .window-of .result)
-view c = viewed _ _ _ _ (c .before .before .before .pre .0) (c .before .before .before .pre .2) (c .before .before .before .pre .3) (c .window-of .ensures)
+view : (c : tie.After-window-of) → Viewed (round-in (c .before .before .before .args .table .now)) (c .before .before .before .args .slot)
+    (c .window-of .result)
+view c =
+    let s = c .before .before .before in
+    viewed _ _ _ _ (s .pre .0) (s .pre .2) (s .pre .3) (c .window-of .ensures)
 
 window-of-requires : tie.Need-window-of-requires
-window-of-requires c κs = let k = known _ _ (c .before .before .pre .0) in (c .before .before .pre .2, omega (arith, k .used, k .small))
+window-of-requires c κs =
+    let s = c .before .before in
+    let k = known _ _ (s .pre .0) in (s .pre .2, omega (arith, k .used, k .small))
 
 count-in-requires : tie.Need-count-in-requires
-count-in-requires c κs = (c .before .before .before .before .pre .0, c .before .before .before .before .pre .1, view (c .before) .small, search needs)
+count-in-requires c κs =
+    let s = c .before .before .before .before in
+    (s .pre .0, s .pre .1, view (c .before) .small, search needs)
 
 slice-aggregate-back-after : tie.Need-slice-aggregate-back-after
 slice-aggregate-back-after c = search needs
@@ -28,9 +35,10 @@ slice-aggregate-back-before c = search needs
 
 back-before-requires : tie.Need-back-before-requires
 back-before-requires c κs =
+    let s = c .before .before .before .before .before .before .before .before in
     let v = view (c .before .before .before .before .before) in
     let k = c .before .before .before .count-in .ensures in
-    (v .order, v .small, omega (arith, v .small, k .size), c .before .back-after .ensures, viewed-room _ _ _ _ _ _ (c .before .before .before .before .before .before .before .before .pre .0) (c .before .before .before .before .before .before .before .before .pre .1) v k)
+    (v .order, v .small, omega (arith, v .small, k .size), c .before .back-after .ensures, viewed-room _ _ _ _ _ _ (s .pre .0) (s .pre .1) v k)
 
 cast-t15 : tie.Need-cast-t15
 cast-t15 c = let v = view (c .before .before .before .before .before .before) in omega (arith, c .back-before .ensures .by, v .order, v .small)

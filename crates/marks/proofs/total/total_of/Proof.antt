@@ -33,7 +33,14 @@ added-requires c κs = search needs
 
 add-sum : tie.Need-add-sum Inv-loop μ-loop
 add-sum c =
-    omega (arith, c .before .before .before .before .loop .inv .1 .most, c .before .weight-at .ensures .most, c .added .ensures .1, row (c .before .before .before), known _ _ (c .before .before .before .before .before .before .before .pre .0) .small)
+    omega (
+      arith,
+      c .before .before .before .before .loop .inv .1 .most,
+      c .before .weight-at .ensures .most,
+      c .added .ensures .1,
+      row (c .before .before .before),
+      known _ _ (c .before .before .before .before .before .before .before .pre .0) .small,
+    )
 
 add-i : tie.Need-add-i Inv-loop μ-loop
 add-i c = search needs
@@ -42,8 +49,11 @@ loop-less : tie.Need-loop-less Inv-loop μ-loop
 loop-less c = search needs
 
 loop-again : tie.Need-loop-again Inv-loop μ-loop
-loop-again c =
-    (search needs, sum-step _ _ _ _ _ _ (c .before .before .before .before .before .before .before .pre .1) (row (c .before .before .before)) (c .before .weight-at .ensures) (c .added .ensures .0) (c .added .ensures .1) (c .before .before .before .before .loop .inv .1))
+loop-again c = (
+  search needs,
+  sum-step _ _ _ _ _ _ (c .before .before .before .before .before .before .before .pre .1) (row (c .before .before .before))
+      (c .before .weight-at .ensures) (c .added .ensures .0) (c .added .ensures .1) (c .before .before .before .before .loop .inv .1),
+)
 
 returns : tie.Need-returns Inv-loop μ-loop
 returns c =

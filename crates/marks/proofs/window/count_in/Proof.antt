@@ -60,7 +60,11 @@ loop-less c = search needs
 
 loop-again : tie.Need-loop-again Inv-loop μ-loop
 loop-again c =
-    (search needs, window-step _ _ _ _ _ _ _ (c .before .before .before .before .before .before .before .before .pre .1) (row (c .before .before .before .before)) (c .before .before .before .before .before .before .before .before .pre .2) (c .before .before .due-at .ensures) (c .before .bucket-in .ensures .0) (c .before .before .before .before .before .loop .inv .1))
+    let s = c .before .before .before .before .before .before .before .before in (
+      search needs,
+      window-step _ _ _ _ _ _ _ (s .pre .1) (row (c .before .before .before .before)) (s .pre .2) (c .before .before .due-at .ensures)
+          (c .before .bucket-in .ensures .0) (c .before .before .before .before .before .loop .inv .1),
+    )
 
 returns : tie.Need-returns Inv-loop μ-loop
 returns c = let s = c .before .before .before .before in window-end _ _ _ _ _ (s .pre .1) (omega (arith, known _ _ (s .pre .0) .used)) (c .before .loop .inv .1)

@@ -14,7 +14,8 @@ use Rattle.pick.proofs.choice.choose.Statement.{statement}
 use Rattle.pick.proofs.choice.choose.Tie as tie
 
 abbrev Inv-loop : tie.InvT-loop
-Inv-loop table flags counts kept left round free lead₀ s₀ end₀ under₀ key₀ other₀ lead s end under key other = Passing (round-in table) flags free lead s end under key other
+Inv-loop table flags counts kept left round free lead₀ s₀ end₀ under₀ key₀ other₀ lead s end under key other = Passing (round-in table) flags free
+    lead s end under key other
 
 abbrev μ-loop : tie.MeasureT-loop
 μ-loop table flags counts kept left round free lead₀ s₀ end₀ under₀ key₀ other₀ lead s end under key other = s

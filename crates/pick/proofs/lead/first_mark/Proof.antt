@@ -30,7 +30,9 @@ cast-last : tie.Need-cast-last
 cast-last c = search needs
 
 add-least-by : tie.Need-add-least-by
-add-least-by c = let k = known _ _ (c .before .before .before .before .pre .0) in omega (arith, c .before .before .before .before .pre .3, k .slot, k .time, k .cap)
+add-least-by c =
+    let s = c .before .before .before .before in
+    let k = known _ _ (s .pre .0) in omega (arith, s .pre .3, k .slot, k .time, k .cap)
 
 least-by-requires : tie.Need-least-by-requires
 least-by-requires c κs = (c .before .before .before .before .pre .0, c .before .before .before .before .pre .1)

@@ -57,8 +57,9 @@ loop-less-2 c = search needs
 
 loop-again-2 : tie.Need-loop-again-2 Inv-loop μ-loop
 loop-again-2 c =
-    let args = c .before .before .before .before .before .before .before .before .args in
-    let pre = c .before .before .before .before .before .before .before .before .pre in
+    let s = c .before .before .before .before .before .before .before .before in
+    let args = s .args in
+    let pre = s .pre in
     let if2 = c .if2 in
     let loop = c .before .before .before .before .before .loop in (
       search needs,
@@ -70,7 +71,11 @@ loop-less-3 : tie.Need-loop-less-3 Inv-loop μ-loop
 loop-less-3 c = search needs
 
 loop-again-3 : tie.Need-loop-again-3 Inv-loop μ-loop
-loop-again-3 c = (search needs, look-skips _ _ _ _ _ (skip-late _ _ _ _ _ (c .before .due-at .ensures) (c .if1 .left)) (c .before .before .before .loop .inv .1))
+loop-again-3 c = (
+  search needs,
+  look-skips _ _ _ _ _ (skip-late _ _ _ _ _ (c .before .due-at .ensures) (c .if1 .left))
+      (c .before .before .before .loop .inv .1),
+)
 
 returns : tie.Need-returns Inv-loop μ-loop
 returns c = let k = known _ _ (c .before .before .before .before .pre .0) in look-end _ (k .fine) _ _ _ _ (omega (arith, k .used)) (c .before .loop .inv .1)

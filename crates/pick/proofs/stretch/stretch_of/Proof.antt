@@ -70,7 +70,9 @@ loop-again-2 c =
     walk-on _ _ _ _ _ _ _ (loop-test .taken) (loop .inv) (wide .ensures .0) (wide .ensures .1) (if1 .left)
 
 returns-2 : tie.Need-returns-2 Inv-loop μ-loop
-returns-2 c = absurd (walk-end _ _ _ _ _ _ (c .loop-test .left) (c .before .before .pre .0) (c .before .before .pre .2) (c .before .loop .inv))
+returns-2 c =
+    let s = c .before .before in
+    absurd (walk-end _ _ _ _ _ _ (c .loop-test .left) (s .pre .0) (s .pre .2) (c .before .loop .inv))
 
 pub stretch-of-spec : {M : Type 1} → statement M
 stretch-of-spec =

@@ -75,8 +75,12 @@ score-of-requires c κs =
     let s = whole-scene _ _ _ (pre .0) (pre .3) (pre .4) in
     let g = first-stretch _ _ s _ (pre .2) _ (stretch-of .ensures) in
     let f = (known _ _ (pre .0) .slot) in (
-      omega
-          (arith, fair-all _ _ s (stretch-of .result .last + 1) (omega arith) (omega (arith, stretch-of .ensures .near)) g _ (omega (arith, f)) _ (gather2 .ensures) .1, weight-of .ensures),
+      omega (
+        arith,
+        fair-all _ _ s (stretch-of .result .last + 1) (omega arith) (omega (arith, stretch-of .ensures .near)) g _ (omega (arith, f)) _
+            (gather2 .ensures) .1,
+        weight-of .ensures,
+      ),
       omega arith,
     )
 
@@ -92,10 +96,17 @@ score-of-requires-2 c κs =
     let s = whole-scene _ _ _ (pre .0) (pre .3) (pre .4) in
     let g = first-stretch _ _ s _ (pre .2) _ (stretch-of .ensures) in
     let f = (known _ _ (pre .0) .slot) in (
-      omega
-          (arith, fair-all _ _ s (stretch-of .result .last + 1) (omega arith) (omega (arith, stretch-of .ensures .near)) g _ (omega (arith, f)) _ (gather2 .ensures) .0, weight-of2 .ensures),
-      omega
-          (arith, light-some _ _ s (stretch-of .result .last + 1) (omega arith) (omega (arith, stretch-of .ensures .near)) g _ (omega (arith, f)) _ (gather2 .ensures) .0),
+      omega (
+        arith,
+        fair-all _ _ s (stretch-of .result .last + 1) (omega arith) (omega (arith, stretch-of .ensures .near)) g _ (omega (arith, f)) _
+            (gather2 .ensures) .0,
+        weight-of2 .ensures,
+      ),
+      omega (
+        arith,
+        light-some _ _ s (stretch-of .result .last + 1) (omega arith) (omega (arith, stretch-of .ensures .near)) g _ (omega (arith, f)) _
+            (gather2 .ensures) .0,
+      ),
     )
 
 -- the two scores

@@ -46,8 +46,9 @@ same-length c = search needs
 
 returns : tie.Need-returns
 returns c =
-    let s = c .before .before .before .before .before .before .before .before .before .before .before .before .before .before .before .before .before .before .before .before .before in
-    let w = c .before .before .before .before .before .before .before .before .sweep in
+    let swept = c .before .before .before .before .before .before .before .before in
+    let w = swept .sweep in
+    let s = swept .before .before .before .before .before .before .before .before .before .before .before .before .before in
     let r = c .before .before .scan in
     chosen-kept _ (s .pre .0) (r .last .1 .0) (omega (arith, w .ensures .flagged .used)) (r .ensures)
 

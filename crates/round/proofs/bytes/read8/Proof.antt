@@ -18,7 +18,9 @@ join8-requires : tie.Need-join8-requires
 join8-requires c κs = search needs
 
 returns : tie.Need-returns
-returns c = omega (arith, field8 (c .before .before .before .before .args .bytes .now) (c .before .before .before .before .args .at) (search needs))
+returns c =
+    let s = c .before .before .before .before in
+    omega (arith, field8 (s .args .bytes .now) (s .args .at) (search needs))
 
 pub read8-spec : {M : Type 1} → statement M
 read8-spec = tie.close (tie.spec read4-requires add-read4 read4-requires-2 join8-requires returns)

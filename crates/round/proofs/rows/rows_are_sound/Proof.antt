@@ -45,7 +45,8 @@ row-is-sound-requires c κs = simp (length-take, length-drop) (omega arith)
 returns : tie.Need-returns Inv-loop μ-loop
 returns c =
     sym (
-    rows-more _ _ _ _ _ _ _ _ _ false _ (search needs) (c .before .before .before .row-at .ensures) (c .before .row-is-sound .ensures) (not-true _ (c .if1 .taken))
+    rows-more _ _ _ _ _ _ _ _ _ false _ (search needs) (c .before .before .before .row-at .ensures) (c .before .row-is-sound .ensures)
+    (not-true _ (c .if1 .taken))
     (c .before .before .before .before .before .loop .inv .1))
 
 read4-requires : tie.Need-read4-requires Inv-loop μ-loop
@@ -61,7 +62,8 @@ loop-again : tie.Need-loop-again Inv-loop μ-loop
 loop-again c = (
   search needs,
   rw (c .read4 .ensures)
-      (rows-more _ _ _ _ _ _ _ _ _ true _ (search needs) (c .before .before .before .before .row-at .ensures) (c .before .before .row-is-sound .ensures) (not-false _ (c .before .if1 .left))
+      (rows-more _ _ _ _ _ _ _ _ _ true _ (search needs) (c .before .before .before .before .row-at .ensures)
+      (c .before .before .row-is-sound .ensures) (not-false _ (c .before .if1 .left))
       (c .before .before .before .before .before .before .loop .inv .1)),
 )
 

@@ -26,7 +26,8 @@ fit : (c : tie.Else2) → Rows-fit (c .before .before .before .before .before .b
 fit c = rows-fit (read (c .before .before)) (head c)
 
 unused : (c : tie.After-zeros-from) →
-    zeros (drop (row-at (c .before .before .before .before .before .before .read-head .result .used)) (c .before .before .before .before .before .before .before .before .before .before .args .table .now)) ≡ c .zeros-from .result
+    zeros (drop (row-at (c .before .before .before .before .before .before .read-head .result .used))
+    (c .before .before .before .before .before .before .before .before .before .before .args .table .now)) ≡ c .zeros-from .result
 unused c = cc (c .before .row-at .ensures, c .zeros-from .ensures)
 
 length-is-good-requires : tie.Need-length-is-good-requires
@@ -48,7 +49,11 @@ rows-are-sound-requires : tie.Need-rows-are-sound-requires
 rows-are-sound-requires c κs = (fit c .few, fit c .within)
 
 returns-3 : tie.Need-returns-3
-returns-3 c = refused-3 (read (c .before .before .before .before)) (rw (head (c .before .before), sym (c .before .rows-are-sound .ensures) ∙ not-true _ (c .if3 .taken)))
+returns-3 c = refused-3 (read (c .before .before .before .before)) (rw (
+  head (c .before .before),
+  sym (c .before .rows-are-sound .ensures)
+      ∙ not-true _ (c .if3 .taken),
+))
 
 row-at-requires : tie.Need-row-at-requires
 row-at-requires c κs = omega (arith, fit (c .before .before) .few)

@@ -30,13 +30,14 @@ loop-less : tie.Need-loop-less Inv-loop μ-loop
 loop-less c = simp length-set (search needs)
 
 loop-again : tie.Need-loop-again Inv-loop μ-loop
-loop-again c = (
-  search needs,
-  search needs,
-  simp length-set (search needs),
-  cleared-more (c .before .before .args .table .now) (c .before .loop .table) (c .before .before .args .from) (c .before .loop .i)
-      (search needs) (search needs) (c .before .loop .inv .3),
-)
+loop-again c =
+    let s = c .before .before in (
+      search needs,
+      search needs,
+      simp length-set (search needs),
+      cleared-more (s .args .table .now) (c .before .loop .table) (s .args .from) (c .before .loop .i)
+          (search needs) (search needs) (c .before .loop .inv .3),
+    )
 
 same-length : tie.Need-same-length Inv-loop μ-loop
 same-length c = search needs

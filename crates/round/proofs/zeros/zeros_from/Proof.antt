@@ -24,8 +24,9 @@ row-is-zero-requires c κs = search needs
 
 returns : tie.Need-returns Inv-loop μ-loop
 returns c =
+    let s = c .before .before .before .before .before in
     sym
-    (zeros-more (c .before .before .before .before .before .args .table .now) (c .before .before .before .before .before .args .from) (c .before .before .before .loop .at)
+    (zeros-more (s .args .table .now) (s .args .from) (c .before .before .before .loop .at)
     _ false (c .before .row-is-zero .ensures) (not-true _ (c .if1 .taken)) (c .before .before .before .loop .inv .2))
 
 add-at : tie.Need-add-at Inv-loop μ-loop
@@ -35,12 +36,13 @@ loop-less : tie.Need-loop-less Inv-loop μ-loop
 loop-less c = search needs
 
 loop-again : tie.Need-loop-again Inv-loop μ-loop
-loop-again c = (
-  search needs,
-  search needs,
-  zeros-more (c .before .before .before .before .before .args .table .now) (c .before .before .before .before .before .args .from) (c .before .before .before .loop .at)
-      _ true (c .before .row-is-zero .ensures) (not-false _ (c .if1 .left)) (c .before .before .before .loop .inv .2),
-)
+loop-again c =
+    let s = c .before .before .before .before .before in (
+      search needs,
+      search needs,
+      zeros-more (s .args .table .now) (s .args .from) (c .before .before .before .loop .at)
+          _ true (c .before .row-is-zero .ensures) (not-false _ (c .if1 .left)) (c .before .before .before .loop .inv .2),
+    )
 
 returns-2 : tie.Need-returns-2 Inv-loop μ-loop
 returns-2 c = sym (c .before .loop .inv .2 ∙ zeros-none (c .before .before .before .args .table .now) (c .before .loop .at) (search needs))

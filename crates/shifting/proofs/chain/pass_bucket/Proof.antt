@@ -26,7 +26,11 @@ larger-requires : tie.Need-larger-requires
 larger-requires c κs = search needs
 
 returns : tie.Need-returns
-returns c = passed-on (c .before .before .before .before .before .before .before .args .slot .0) (c .before .before .before .before .before .before .before .args .counts .now) (c .before .before .before .before .before .before .before .args .kept .now) (c .before .before .before .before .before .before .before .args .marks .now) (c .before .before .before .before .before .before .before .args .links) (c .before .before .before .before .before .before .before .args .bucket) (c .before .before .before .before .before .before .before .args .table .now) (c .before .before .before .before .wide .result) (c .before .larger .result) (c .before .before .before .before .wide .ensures .0) (c .before .larger .ensures) (c .if1 .taken)
+returns c =
+    let s = c .before .before .before .before .before .before .before in
+    passed-on (s .args .slot .0) (s .args .counts .now) (s .args .kept .now) (s .args .marks .now) (s .args .links) (s .args .bucket)
+    (s .args .table .now) (c .before .before .before .before .wide .result) (c .before .larger .result)
+    (c .before .before .before .before .wide .ensures .0) (c .before .larger .ensures) (c .if1 .taken)
 
 sub-pass-end : tie.Need-sub-pass-end
 sub-pass-end c = search needs
@@ -38,7 +42,13 @@ same-length : tie.Need-same-length
 same-length c = search needs
 
 returns-2 : tie.Need-returns-2
-returns-2 c = passed-end (c .before .before .before .before .before .before .before .before .before .before .before .args .slot .0) (c .before .before .before .before .before .before .before .before .before .before .before .args .counts .now) (c .before .before .before .before .before .before .before .before .before .before .before .args .kept .now) (c .before .before .before .before .before .before .before .before .before .before .before .args .marks .now) (c .before .before .before .before .before .before .before .before .before .before .before .args .links) (c .before .before .before .before .before .before .before .before .before .before .before .args .bucket) (c .before .before .before .before .before .before .before .before .before .before .before .args .table .now) (c .before .before .before .before .before .before .before .before .wide .result) (c .before .before .before .before .before .larger .result) (c .before .before .before .before .before .before .before .before .wide .ensures .0) (c .before .before .before .before .before .larger .ensures) _ _ (c .before .before .before .before .if1 .left) (c .before .before .pass-end .ensures .0) (c .before .before .pass-end .ensures .1)
+returns-2 c =
+    let s = c .before .before .before .before .before .before .before .before .before .before .before in
+    passed-end (s .args .slot .0) (s .args .counts .now) (s .args .kept .now) (s .args .marks .now) (s .args .links) (s .args .bucket)
+    (s .args .table .now) (c .before .before .before .before .before .before .before .before .wide .result)
+    (c .before .before .before .before .before .larger .result) (c .before .before .before .before .before .before .before .before .wide .ensures .0)
+    (c .before .before .before .before .before .larger .ensures) _ _ (c .before .before .before .before .if1 .left)
+    (c .before .before .pass-end .ensures .0) (c .before .before .pass-end .ensures .1)
 
 pub pass-bucket-spec : {M : Type 1} → statement M
 pass-bucket-spec =

@@ -5,7 +5,12 @@ use Rattle.shifting.proofs.chain.pass_end.Statement.{statement}
 use Rattle.shifting.proofs.chain.pass_end.Tie as tie
 
 returns : tie.Need-returns
-returns c = (ended-keeps (c .before .before .before .args .links) (c .before .before .before .args .bucket) (search needs), ended-still (c .before .before .before .args .slot .0) (c .before .before .before .args .marks .now) (c .before .before .before .args .links) (c .before .before .before .args .table .now) (search needs))
+returns c =
+    let s = c .before .before .before in (
+      ended-keeps (s .args .links) (s .args .bucket) (search needs),
+      ended-still (s .args .slot .0) (s .args .marks .now) (s .args .links)
+          (s .args .table .now) (search needs),
+    )
 
 mul-shift-link : tie.Need-mul-shift-link
 mul-shift-link c = search needs
@@ -20,7 +25,12 @@ same-length : tie.Need-same-length
 same-length c = search needs
 
 returns-2 : tie.Need-returns-2
-returns-2 c = (ended-takes (c .before .before .before .before .before .before .before .before .args .links) (c .before .before .before .before .before .before .before .before .args .bucket) (search needs), ended-moved (c .before .before .before .before .before .before .before .before .args .slot .0) (c .before .before .before .before .before .before .before .before .args .marks .now) (c .before .before .before .before .before .before .before .before .args .links) (c .before .before .before .before .before .before .before .before .args .table .now) _ (search needs) (c .before .before .shift-link .ensures))
+returns-2 c =
+    let s = c .before .before .before .before .before .before .before .before in (
+      ended-takes (s .args .links) (s .args .bucket) (search needs),
+      ended-moved (s .args .slot .0) (s .args .marks .now) (s .args .links)
+          (s .args .table .now) _ (search needs) (c .before .before .shift-link .ensures),
+    )
 
 pub pass-end-spec : {M : Type 1} → statement M
 pass-end-spec =

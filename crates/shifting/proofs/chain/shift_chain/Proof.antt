@@ -30,7 +30,12 @@ loop-less : tie.Need-loop-less Inv-loop μ-loop
 loop-less c = search needs
 
 loop-again : tie.Need-loop-again Inv-loop μ-loop
-loop-again c = (search needs, shift-again (c .before .before .before .before .before .before .before .before .pre) (c .before .before .before .before .before .loop .inv .1) (search needs) (c .before .before .pass-bucket .ensures .0) (c .before .before .pass-bucket .ensures .1))
+loop-again c = (
+  search needs,
+  shift-again (c .before .before .before .before .before .before .before .before .pre)
+      (c .before .before .before .before .before .loop .inv .1) (search needs) (c .before .before .pass-bucket .ensures .0)
+      (c .before .before .pass-bucket .ensures .1),
+)
 
 mul-shift-link : tie.Need-mul-shift-link Inv-loop μ-loop
 mul-shift-link c = omega (arith, ends-small (c .before .before .before .before .before .pre))
@@ -39,13 +44,18 @@ element-copy-out-shift-link : tie.Need-element-copy-out-shift-link Inv-loop μ-l
 element-copy-out-shift-link c = omega (arith, ends-small (c .before .before .before .before .before .pre))
 
 shift-link-requires : tie.Need-shift-link-requires Inv-loop μ-loop
-shift-link-requires c κs = (shift-named (c .before .before .before .before .before .before .pre) (c .before .before .before .loop .inv .1), slot-fits (c .before .before .before .before .before .before .pre), ends-small (c .before .before .before .before .before .before .pre) .0)
+shift-link-requires c κs =
+    let s = c .before .before .before .before .before .before in
+    (shift-named (s .pre) (c .before .before .before .loop .inv .1), slot-fits (s .pre), ends-small (s .pre) .0)
 
 same-length : tie.Need-same-length Inv-loop μ-loop
-same-length c = let e = shift-long (c .before .before .before .before .before .before .before .before .before .pre) (c .before .before .before .before .before .before .loop .inv .1) in search needs
+same-length c = let e = shift-long (c .before .before .before .before .before .before .before .before .before .pre)
+    (c .before .before .before .before .before .before .loop .inv .1) in search needs
 
 returns : tie.Need-returns Inv-loop μ-loop
-returns c = shift-end (c .before .before .before .before .before .before .before .before .before .pre) (c .before .before .before .before .before .before .loop .inv .1) (omega (arith, c .before .before .before .before .before .before .loop .inv .0)) (c .before .before .shift-link .ensures) (search needs)
+returns c = shift-end (c .before .before .before .before .before .before .before .before .before .pre)
+    (c .before .before .before .before .before .before .loop .inv .1) (omega (arith, c .before .before .before .before .before .before .loop .inv .0))
+    (c .before .before .shift-link .ensures) (search needs)
 
 pub shift-chain-spec : {M : Type 1} → statement M
 shift-chain-spec =

@@ -21,7 +21,14 @@ weight-with-requires : tie.Need-weight-with-requires
 weight-with-requires c κs = search needs
 
 write-shift-requires : tie.Need-write-shift-requires
-write-shift-requires c κs = (omega (arith, c .before .row-of .ensures), omega (arith, c .before .row-of .ensures, c .before .before .before .before .before .before .pre .0 .there (c .before .before .before .before .if1 .left)))
+write-shift-requires c κs = (
+  omega (arith, c .before .row-of .ensures),
+  omega (
+    arith,
+    c .before .row-of .ensures,
+    c .before .before .before .before .before .before .pre .0 .there (c .before .before .before .before .if1 .left),
+  ),
+)
 
 same-length : tie.Need-same-length
 same-length c = search needs

@@ -18,8 +18,11 @@ spread-marks-requires c κs = search needs
 
 returns : tie.Need-returns
 returns c =
-    marks-made (round-in (c .before .before .before .before .before .before .before .before .args .table .now)) (sound (c .before .before .before .before .before .before .before .before .args .table .now) (c .before .before .before .before .before .before .before .before .pre .0 .sound) .sane .fine) (c .before .before .before .before .before .before .before .before .args .flags .now) (c .before .before .before .before .before .before .before .before .pre .1) (c .before .before .before .before .before .before .before .before .args .last) _ _
-    (own-end (round-in (c .before .before .before .before .before .before .before .before .args .table .now)) (c .before .before .before .before .before .before .before .before .args .flags .now) (c .before .before .before .before .before .before .before .before .args .last) _ _ _ (c .before .before .own-marks .ensures) (known (c .before .before .before .before .before .before .before .before .args .table .now) (c .before .before .before .before .before .before .before .before .args .round) (c .before .before .before .before .before .before .before .before .pre .0) .used)) (c .spread-marks .ensures)
+    let s = c .before .before .before .before .before .before .before .before in
+    marks-made (round-in (s .args .table .now)) (sound (s .args .table .now) (s .pre .0 .sound) .sane .fine) (s .args .flags .now) (s .pre .1)
+    (s .args .last) _ _
+    (own-end (round-in (s .args .table .now)) (s .args .flags .now) (s .args .last) _ _ _ (c .before .before .own-marks .ensures)
+    (known (s .args .table .now) (s .args .round) (s .pre .0) .used)) (c .spread-marks .ensures)
 
 pub marks-by-spec : {M : Type 1} → statement M
 marks-by-spec =

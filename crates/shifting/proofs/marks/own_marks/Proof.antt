@@ -19,7 +19,9 @@ loop-holds : tie.Need-loop-holds Inv-loop μ-loop
 loop-holds c = (search needs, own-start _ _ _ _ (c .before .before .pre .3))
 
 lower-mark-requires : tie.Need-lower-mark-requires Inv-loop μ-loop
-lower-mark-requires c κs = (c .before .before .before .before .before .pre .0, c .before .before .before .before .before .pre .1, search needs, c .before .before .before .before .before .pre .2)
+lower-mark-requires c κs =
+    let s = c .before .before .before .before .before in
+    (s .pre .0, s .pre .1, search needs, s .pre .2)
 
 add-i : tie.Need-add-i Inv-loop μ-loop
 add-i c = search needs
@@ -29,7 +31,10 @@ loop-less c = search needs
 
 loop-again : tie.Need-loop-again Inv-loop μ-loop
 loop-again c =
-    let o = own-step (round-in (c .before .before .before .before .before .before .args .table .now)) (c .before .before .before .before .before .before .args .flags .now) (c .before .before .before .before .before .before .args .last) (c .before .before .before .loop .i) (c .before .before .before .loop .marks) (c .before .before .before .loop .inv .1) (omega (arith, c .before .before .before .before .before .before .pre .1 .long, known (c .before .before .before .before .before .before .args .table .now) (c .before .before .before .before .before .before .args .round) (c .before .before .before .before .before .before .pre .0) .used)) (c .before .before .before .before .before .before .pre .2) in
+    let s = c .before .before .before .before .before .before in
+    let o = own-step (round-in (s .args .table .now)) (s .args .flags .now) (s .args .last) (c .before .before .before .loop .i)
+    (c .before .before .before .loop .marks) (c .before .before .before .loop .inv .1)
+    (omega (arith, s .pre .1 .long, known (s .args .table .now) (s .args .round) (s .pre .0) .used)) (s .pre .2) in
     (search needs, rw (c .lower-mark .ensures) o)
 
 returns : tie.Need-returns Inv-loop μ-loop

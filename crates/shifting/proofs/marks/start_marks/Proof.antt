@@ -31,7 +31,12 @@ loop-less : tie.Need-loop-less Inv-loop μ-loop
 loop-less c = search needs
 
 loop-again : tie.Need-loop-again Inv-loop μ-loop
-loop-again c = (simp length-set (search needs), search needs, below-set (c .before .loop .marks) (c .before .loop .s) most-weight (search needs) (c .before .loop .inv .2))
+loop-again c = (
+  simp length-set (search needs),
+  search needs,
+  below-set (c .before .loop .marks) (c .before .loop .s) most-weight (search needs)
+      (c .before .loop .inv .2),
+)
 
 returns : tie.Need-returns Inv-loop μ-loop
 returns c = record { size = c .before .loop .inv .0; blank = λ s h. c .before .loop .inv .2 s (omega arith) }

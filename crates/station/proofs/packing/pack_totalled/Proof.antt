@@ -12,7 +12,8 @@ enum-known-reply : tie.Need-enum-known-reply
 enum-known-reply c = search needs
 
 mul-result : tie.Need-mul-result
-mul-result c = let h : c .before .reply .given .0 .0 ≤ 17179869184 = subst (λ x. Small (of-totalled x)) (c .before .reply .given .1) (c .before .before .before .pre) in omega arith
+mul-result c = let h : c .before .reply .given .0 .0 ≤ 17179869184 = subst (λ x. Small (of-totalled x)) (c .before .reply .given .1)
+    (c .before .before .before .pre) in omega arith
 
 enum-known-reply-2 : tie.Need-enum-known-reply-2
 enum-known-reply-2 c = search needs

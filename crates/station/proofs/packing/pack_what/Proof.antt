@@ -28,10 +28,16 @@ unfolding pack-out
 returns c = (sym (ap (λ x. pack-out (of-out x)) (c .enum-told .given .1)), omega arith)
 
 returns-2 : tie.Need-returns-2
-returns-2 c = (frame-packed _ _ (c .pack-ticket .ensures .0) ∙ sym (ap (λ x. pack-out (of-out x)) (c .before .before .out .given .1)), c .pack-ticket .ensures .1)
+returns-2 c = (
+  frame-packed _ _ (c .pack-ticket .ensures .0) ∙ sym (ap (λ x. pack-out (of-out x)) (c .before .before .out .given .1)),
+  c .pack-ticket .ensures .1,
+)
 
 returns-3 : tie.Need-returns-3
-returns-3 c = (blank-packed _ _ (c .pack-ticket2 .ensures .0) ∙ sym (ap (λ x. pack-out (of-out x)) (c .before .before .out2 .given .1)), c .pack-ticket2 .ensures .1)
+returns-3 c = (
+  blank-packed _ _ (c .pack-ticket2 .ensures .0) ∙ sym (ap (λ x. pack-out (of-out x)) (c .before .before .out2 .given .1)),
+  c .pack-ticket2 .ensures .1,
+)
 
 pub pack-what-spec : {M : Type 1} → statement M
 pack-what-spec =

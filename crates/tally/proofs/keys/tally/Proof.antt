@@ -19,7 +19,9 @@ top-of-requires : tie.Need-top-of-requires Inv-loop μ-loop
 top-of-requires c κs = c .before .before .pre .0 .time
 
 loop-holds : tie.Need-loop-holds Inv-loop μ-loop
-loop-holds c = (search needs, tally-start _ _ _ _ _ (c .before .before .before .pre .2) (c .before .before .before .pre .3) (c .before .before .before .pre .4))
+loop-holds c =
+    let s = c .before .before .before in
+    (search needs, tally-start _ _ _ _ _ (s .pre .2) (s .pre .3) (s .pre .4))
 
 due-at-requires : tie.Need-due-at-requires Inv-loop μ-loop
 due-at-requires c κs = (c .before .before .before .before .before .pre .0, search needs)

@@ -18,7 +18,9 @@ top-of-requires : tie.Need-top-of-requires Inv-loop μ-loop
 top-of-requires c κs = c .before .pre .0 .time
 
 loop-holds : tie.Need-loop-holds Inv-loop μ-loop
-loop-holds c = (search needs, count-start _ _ (known _ _ (c .before .before .pre .0) .small) (c .before .before .pre .1))
+loop-holds c =
+    let s = c .before .before in
+    (search needs, count-start _ _ (known _ _ (s .pre .0) .small) (s .pre .1))
 
 due-at-requires : tie.Need-due-at-requires Inv-loop μ-loop
 due-at-requires c κs = (c .before .before .before .before .pre .0, search needs)

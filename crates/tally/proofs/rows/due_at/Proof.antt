@@ -12,10 +12,14 @@ add-read2 : tie.Need-add-read2
 add-read2 c = search needs
 
 read2-requires : tie.Need-read2-requires
-read2-requires c κs = let h = reads-within _ _ (c .before .before .pre .0) _ (c .before .before .pre .1) .1 in omega (arith, h, c .row-at .ensures)
+read2-requires c κs =
+    let s = c .before .before in
+    let h = reads-within _ _ (s .pre .0) _ (s .pre .1) .1 in omega (arith, h, c .row-at .ensures)
 
 returns : tie.Need-returns
-returns c = due-read _ _ _ _ _ (c .before .before .before .pre .0) (c .before .before .before .pre .1) (c .before .row-at .ensures) (c .read2 .ensures)
+returns c =
+    let s = c .before .before .before in
+    due-read _ _ _ _ _ (s .pre .0) (s .pre .1) (c .before .row-at .ensures) (c .read2 .ensures)
 
 pub due-at-spec : {M : Type 1} → statement M
 due-at-spec = tie.close (tie.spec row-at-requires add-read2 read2-requires returns)

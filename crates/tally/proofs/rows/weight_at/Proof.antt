@@ -12,10 +12,14 @@ add-read4 : tie.Need-add-read4
 add-read4 c = search needs
 
 read4-requires : tie.Need-read4-requires
-read4-requires c κs = let h = reads-within _ _ (c .before .before .pre .0) _ (c .before .before .pre .1) .1 in omega (arith, h, c .row-at .ensures)
+read4-requires c κs =
+    let s = c .before .before in
+    let h = reads-within _ _ (s .pre .0) _ (s .pre .1) .1 in omega (arith, h, c .row-at .ensures)
 
 returns : tie.Need-returns
-returns c = weight-read _ _ _ _ _ (c .before .before .before .pre .0) (c .before .before .before .pre .1) (c .before .row-at .ensures) (c .read4 .ensures)
+returns c =
+    let s = c .before .before .before in
+    weight-read _ _ _ _ _ (s .pre .0) (s .pre .1) (c .before .row-at .ensures) (c .read4 .ensures)
 
 pub weight-at-spec : {M : Type 1} → statement M
 weight-at-spec = tie.close (tie.spec row-at-requires add-read4 read4-requires returns)

@@ -22,13 +22,15 @@ same-length : tie.Need-same-length
 same-length c = search needs
 
 returns : tie.Need-returns
-returns c = said-by (c .before .before .say-out .ensures) (rw (c .before .before .before .before .before .went .given .1) (ordinary-said (of-out (c .before .before .before .before .before .went .given .0 .0))))
+returns c = said-by (c .before .before .say-out .ensures) (rw (c .before .before .before .before .before .went .given .1)
+    (ordinary-said (of-out (c .before .before .before .before .before .went .given .0 .0))))
 
 same-length-2 : tie.Need-same-length-2
 same-length-2 c = search needs
 
 returns-2 : tie.Need-returns-2
-returns-2 c = said-by (c .before .before .say-out2 .ensures) (rw (c .before .before .before .before .before .went2 .given .1) (leap-said (of-out (c .before .before .before .before .before .went2 .given .0 .0))))
+returns-2 c = said-by (c .before .before .say-out2 .ensures) (rw (c .before .before .before .before .before .went2 .given .1)
+    (leap-said (of-out (c .before .before .before .before .before .went2 .given .0 .0))))
 
 pub say-step-spec : {M : Type 1} → statement M
 say-step-spec =

@@ -20,7 +20,8 @@ abbrev μ-loop : tie.MeasureT-loop
 
 -- the line's end that was found
 here : (c : tie.After-known-told Inv-loop μ-loop) →
-    First (c .before .before .before .before .before .before .before .before .before .args .input .now) (c .before .before .before .before .before .loop .read) (c .before .end .given .0 .0)
+    First (c .before .before .before .before .before .before .before .before .before .args .input .now)
+    (c .before .before .before .before .before .loop .read) (c .before .end .given .0 .0)
 here c =
     let input = c .before .before .before .before .before .before .before .before .before .args .input .now in
     subst (Ends input (c .before .before .before .before .before .loop .read)) (c .before .end .given .1) (c .before .before .before .line-end .ensures)
@@ -54,7 +55,8 @@ same-length-2 c = search needs
 returns : tie.Need-returns Inv-loop μ-loop
 returns c =
     let loop = c .before .before .before .before .before .loop in
-    let none = subst (Ends (c .before .before .before .before .before .before .before .before .before .args .input .now) (loop .read)) (c .before .enum-told .given .1) (c .before .before .before .line-end .ensures) in
+    let none = subst (Ends (c .before .before .before .before .before .before .before .before .before .args .input .now) (loop .read))
+    (c .before .enum-told .given .1) (c .before .before .before .line-end .ensures) in
     served-so-far (loop .inv .0) (c .so-far .ensures) (λ h. none)
 
 add-next : tie.Need-add-next Inv-loop μ-loop
@@ -103,7 +105,8 @@ returns-2 : tie.Need-returns-2 Inv-loop μ-loop
 returns-2 c =
     let line = c .before .before .before .before .before .before in
     let told = ap reading-of (c .before .before .before .before .enum-told2 .given .1) in
-    served-broken (line .before .before .before .before .before .before .before .loop .inv .0) (here (line .before .before)) (cc (told, line .read-command .ensures)) (search needs)
+    served-broken (line .before .before .before .before .before .before .before .loop .inv .0) (here (line .before .before))
+    (cc (told, line .read-command .ensures)) (search needs)
     (put-line (search needs) (said-by (c .before .before .write-refusal .ensures) (search needs)) (search needs))
 
 sub-take-turn : tie.Need-sub-take-turn Inv-loop μ-loop
@@ -122,7 +125,8 @@ add-wrote-2 : tie.Need-add-wrote-2 Inv-loop μ-loop
 add-wrote-2 c = omega (arith, reply-within (c .before .before .before .before .take-turn .ensures .said) (search needs))
 
 loop-less : tie.Need-loop-less Inv-loop μ-loop
-loop-less c = let line = here (c .before .before .before .before .before .before .before .before .before .before .before .before) in omega (arith, line .within, line .after)
+loop-less c = let line = here (c .before .before .before .before .before .before .before .before .before .before .before .before) in
+    omega (arith, line .within, line .after)
 
 loop-again : tie.Need-loop-again Inv-loop μ-loop
 loop-again c =
@@ -130,7 +134,8 @@ loop-again c =
     let command = c .before .before .before .before .before .before .before .before .command .given in
     let told = ap reading-of (command .1) in
     let taken = c .before .before .before .before .take-turn .ensures in (
-      serving-more (line .before .before .before .before .before .before .before .loop .inv .0) (here (line .before .before)) (command-of (command .0 .0)) (cc (told, line .read-command .ensures)) (search needs) (taken .moved)
+      serving-more (line .before .before .before .before .before .before .before .loop .inv .0) (here (line .before .before))
+          (command-of (command .0 .0)) (cc (told, line .read-command .ensures)) (search needs) (taken .moved)
           (put-line (search needs) (taken .said) (search needs)),
       search needs,
     )

@@ -6,6 +6,7 @@ ghost use Rattle.rules.specs.Calls.{substitute-answer};
 ghost use Rattle.theory.specs.Flags.{Chosen};
 ghost use Rattle.round.specs.Head.{Head-of};
 ghost use Rattle.tally.specs.Rows.{Ready, at};
+ghost use Rattle.tally.specs.Near.{Counted, Reaches};
 ghost use Rattle.calls.specs.Asking.{of-substituted};
 ghost use Rattle.calls.specs.Finding.{Finds, Stands};
 use marks::substitute::Sub;
@@ -18,6 +19,7 @@ use round::rows::row_at;
 use round::sound::Judged;
 use round::sound::judge;
 use sender::flag_rows;
+use tally::near::Reach;
 use tally::near::reach_of;
 
 pub enum Substituted {
@@ -80,17 +82,26 @@ fn substitute_row(table: &[u8], round: Round, row: usize) -> Substituted
     let mut flags = [1u8; 1024];
     let reach = reach_of(table, &mut counts, round);
     flag_rows(table, &mut flags[..used], round, reach);
-    substitute_flagged(table, &flags[..used], round, row)
+    substitute_flagged(table, &flags[..used], &mut counts, round, reach, row)
 }
 
-fn substitute_flagged(table: &[u8], flags: &[u8], round: Round, row: usize) -> Substituted
-    requires { ⌜ Ready (now table) round × (row < round .used) × Chosen (round-in (now table)) (now flags) ⌝ }
+// The same by the plan's flags. Counts are reach_of's.
+fn substitute_flagged(
+    table: &[u8],
+    flags: &[u8],
+    counts: &mut [u16; 1025],
+    round: Round,
+    reach: Reach,
+    row: usize,
+) -> Substituted
+    requires { ⌜ Ready (now table) round × Chosen (round-in (now table)) (now flags) × Reaches (round-in (now table)) reach
+        × Counted (round-in (now table)) (round-in (now table) .rows) (now counts) × (row < round .used) ⌝ }
     ensures { λ r. ⌜ Stands (round-in (now (table .entry))) row (of-substituted r) ⌝ }
 {
     if flags[row] != 1 {
         return Substituted::Refused(11);
     }
-    match substitute_at(table, flags, round, row) {
+    match substitute_at(table, flags, counts, round, reach, row) {
         Sub::Row(j) => Substituted::Row(Ticket(ticket_at(table, round, j))),
         Sub::Blank(slot) => Substituted::Blank(Slot(slot)),
     }

@@ -4,4 +4,5 @@ pub mod BackLaws
 pub mod SpanLaws
 pub mod KeepLaws
 pub mod MarkLaws
+pub mod SegmentLaws
 pub mod SubstituteLaws

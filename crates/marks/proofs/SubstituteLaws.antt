@@ -1,7 +1,7 @@
 -- The best offer row by row, and the substitute that it is. Assumes nothing.
 use mathlib.Core.Path.{_≡_, sym, ap, _∙_, subst}
 use mathlib.Core.Logic.{_⊎_, inl, inr}
-use mathlib.Core.Bool.{true, false, true≢false}
+use mathlib.Core.Bool.{Bool, true, false, true≢false}
 use mathlib.Core.List.{List}
 use Prim.Native.Nat.{ℕ, suc, _+_, _-_, _≤_, _<_}
 use native.Mathlib.Omega.{arith}
@@ -26,7 +26,7 @@ use Rattle.tally.specs.Rows.{Ready, Due-at, Weight-at, at, key-at}
 use Rattle.tally.proofs.RowLaws.{known}
 use Rattle.tally.proofs.TallyLaws.{flag-on, flag-off}
 use Rattle.marks.specs.Span.{Spans}
-use Rattle.marks.specs.Substitute.{light-offer, left-offer, offer-of, better-of, offer-at, Best-offer, Substitutes}
+use Rattle.marks.specs.Substitute.{can-offer, light-offer, left-offer, offer-of, better-of, offer-at, Best-offer, Substitutes}
 use Rattle.marks.specs.declared.span.Span.{Span}
 use Rattle.marks.specs.declared.substitute.Offer.{Offer}
 use Rattle.marks.specs.declared.substitute.Sub.the-variants.{Row as Row-at, Blank}
@@ -59,6 +59,16 @@ offer-step n i o q x e d s =
       some = λ h. let y = s .some h in (omega (arith, y .0), y .1);
     }))
 
+pub offer-skip : (number : ℕ → ℕ) (i : ℕ) (o : Offer) → number i ≡ 0 → Offered number i o → Offered number (i + 1) o
+offer-skip n i o e s =
+    record {
+      most = λ j h. elim (eqb? j i) [
+        | inl a ↦ omega (arith, e, ap n (a .1))
+        | inr a ↦ let z = a .1 in s .most j (omega (arith, h))
+      ];
+      some = λ h. let y = s .some h in (omega (arith, y .0), y .1);
+    }
+
 pub offer-end : (r : Round) (fs : List ℕ) (x : Span) (i : ℕ) (o : Offer) → i ≡ length (r .rows) → Offered (offer-at r fs x) i o → Best-offer r fs x o
 offer-end r fs x i o e s =
     record { most = λ j h. s .most j (omega (arith, h, e)); some = λ h. let y = s .some h in (omega (arith, y .0, e), y .1) }
@@ -71,6 +81,20 @@ pub offer-read : (r : Round) (fs : List ℕ) (x : Span) (i t d w k n : ℕ) → 
     n ≡ offer-of x t (getD fs i 0) d k →
     n ≡ offer-at r fs x i
 offer-read r fs x i t d w k n a b c e g = let p = b .is in let q = c .is in cc
+
+-- a row that cannot offer anything
+pub cannot-offer : (r : Round) (fs : List ℕ) (x : Span) (i t : ℕ) (b : Bool) → t ≡ r .slot → b ≡ can-offer x t (getD fs i 0) → b ≡ false →
+    offer-at r fs x i ≡ 0
+cannot-offer r fs x i t b e d f = elim (eqb? (getD fs i 0) 1) [
+  | inl a ↦ elim (eqb? (x .first) (r .slot)) [
+    | inl g ↦ absurd (true≢false (sym (d ∙ rw (e, a .0, g .0)) ∙ f))
+    | inr g ↦ rw (a .0, g .0)
+  ]
+  | inr a ↦ elim (eqb? (x .first) (r .slot)) [
+    | inl g ↦ rw (a .0, g .0)
+    | inr g ↦ absurd (true≢false (sym (d ∙ rw (e, a .0, g .0)) ∙ f))
+  ]
+]
 
 -- WHAT AN OFFER SAYS
 pub light? : (f d e k : ℕ) → k < 70368748371968 → ((light-offer f d e k + k ≡ 70368748371968) × (f ≡ 1) × (d ≤ e))

@@ -1,6 +1,6 @@
 -- What the substitute of a row is. Assumes nothing: these are definitions.
 use mathlib.Core.Path.{_≡_}
-use mathlib.Core.Bool.{cond}
+use mathlib.Core.Bool.{Bool, not, cond}
 use mathlib.Core.List.{List}
 use Prim.Native.Nat.{ℕ, _-_, _≤_, _<_}
 use lib.Dec.{ltb, eqb}
@@ -12,6 +12,10 @@ use Rattle.marks.specs.declared.span.Span.{Span}
 use Rattle.marks.specs.declared.substitute.Offer.{Offer}
 use Rattle.marks.specs.declared.substitute.Sub.{Sub}
 use Rattle.marks.specs.declared.substitute.Sub.the-variants.{Row, Blank}
+
+-- whether a row with that flag can offer something, by the segment
+abbrev pub can-offer : Span → (slot flag : ℕ) → Bool
+can-offer x t f = cond (eqb f 1) (eqb (x .first) t) (not (eqb (x .first) t))
 
 -- the number that a row offers: of the plan's rows due by a slot the lightest offers the most, of those left out from a slot on the heaviest
 abbrev pub light-offer : (flag due by key : ℕ) → ℕ

@@ -1,4 +1,4 @@
-// The segment of a slot: its first slot and its last.
+// The segment of a slot, its first slot and its last, by the rows around it.
 ghost use mathlib.Core.Path.{_≡_};
 ghost use Prim.Native.Nat.{suc, _+_, _≤_, _<_};
 ghost use lib.ListN.{length};

@@ -5,10 +5,12 @@ ghost use lib.ListN.{getD};
 ghost use Rattle.rules.specs.Table.{round-in};
 ghost use Rattle.theory.specs.Flags.{Chosen};
 ghost use Rattle.tally.specs.Rows.{Ready};
-ghost use Rattle.marks.specs.Substitute.{light-offer, left-offer, offer-of, better-of, Best-offer, Substitutes};
+ghost use Rattle.tally.specs.Near.{Counted, Reaches};
+ghost use Rattle.marks.specs.Substitute.{can-offer, light-offer, left-offer, offer-of, better-of, Best-offer, Substitutes};
+use crate::segment::segment_of;
 use crate::span::Span;
-use crate::span::span_of;
 use round::Round;
+use tally::near::Reach;
 use tally::rows::due_at;
 use tally::rows::key_of;
 use tally::rows::weight_at;
@@ -27,6 +29,16 @@ struct Offer {
 
 // One more than the greatest key.
 const OVER: u64 = 70368748371968;
+
+// In the first segment only the plan's rows offer something, in a later one only those left out.
+fn can_offer(span: Span, slot: u32, flag: u8) -> bool
+    ensures { λ r. ⌜ r ≡ can-offer span slot flag ⌝ }
+{
+    if flag == 1 {
+        return span.first == slot;
+    }
+    span.first != slot
+}
 
 // In the first segment a lighter row of the plan offers more.
 fn light_offer(flag: u8, due: u32, by: u32, key: u64) -> u64
@@ -83,24 +95,33 @@ fn best_offer(table: &[u8], flags: &[u8], round: Round, span: Span) -> Offer
     let mut best = Offer { number: 0, row: 0 };
     let mut i: usize = 0;
     while i < used {
-        let due = due_at(table, round, i);
-        let key = key_of(weight_at(table, round, i), due, i);
-        let new = Offer {
-            number: offer_of(span, slot, flags[i], due, key),
-            row: i,
-        };
-        best = better_of(best, new);
+        let row = i;
         i += 1;
+        if can_offer(span, slot, flags[row]) {
+            let due = due_at(table, round, row);
+            let key = key_of(weight_at(table, round, row), due, row);
+            let number = offer_of(span, slot, flags[row], due, key);
+            best = better_of(best, Offer { number, row });
+        }
     }
     best
 }
 
-// Who stands in for a row of the plan: a row, or the blank where its segment begins.
-pub fn substitute_at(table: &[u8], flags: &[u8], round: Round, row: usize) -> Sub
-    requires { ⌜ Ready (now table) round × Chosen (round-in (now table)) (now flags) × (row < round .used) × (getD (now flags) row 0 ≡ 1) ⌝ }
+// Who stands in for a row of the plan: a row, or the blank where its segment begins. Counts are reach_of's.
+pub fn substitute_at(
+    table: &[u8],
+    flags: &[u8],
+    counts: &mut [u16; 1025],
+    round: Round,
+    reach: Reach,
+    row: usize,
+) -> Sub
+    requires { ⌜ Ready (now table) round × Chosen (round-in (now table)) (now flags) × Reaches (round-in (now table)) reach
+        × Counted (round-in (now table)) (round-in (now table) .rows) (now counts) × (row < round .used) × (getD (now flags) row 0 ≡ 1) ⌝ }
     ensures { λ r. ⌜ Substitutes (round-in (now (table .entry))) row r ⌝ }
 {
-    let span = span_of(table, flags, round, due_at(table, round, row));
+    let due = due_at(table, round, row);
+    let span = segment_of(table, flags, counts, round, reach, due);
     let best = best_offer(table, flags, round, span);
     if best.number == 0 {
         return Sub::Blank(span.first);

@@ -27,7 +27,8 @@ use Rattle.pick.specs.declared.choice.Pick.the-variants.{Far}
 use Rattle.tally.proofs.NearLaws.{enough}
 use Rattle.pick.proofs.PeakLaws.{peak-none, peak-more, peak-is}
 use Rattle.pick.proofs.SceneLaws.{Scene, Heaviest, full-edge, plan-rows, fine-at, before-place, free-high, peak-heaviest, heaviest-in, key-most, weight-key, left-far}
-use Rattle.pick.proofs.LeadLaws.{Led, made, ahead-of, far-led, segment-key, Joins, joins, joined, fronts, first-goes, leap-goes, far-goes}
+use Rattle.pick.proofs.LeadLaws.{Led, made, ahead-of, far-led, segment-key, Joins, joins, joined}
+use Rattle.pick.proofs.DecideLaws.{fronts, first-goes, leap-goes, far-goes}
 
 -- two rows that count, where the sum is 1, are one
 pub one-row : (μ : Row → ℕ) (x y : Row) (xs : List Row) → In x xs → In y xs → sum μ xs ≤ 1 → 1 ≤ μ x → 1 ≤ μ y → x ≡ y

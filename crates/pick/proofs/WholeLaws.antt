@@ -38,7 +38,8 @@ use Rattle.pick.specs.declared.choice.Pick.{Pick}
 use Rattle.pick.specs.declared.choice.Pick.the-variants.{First, Far, Kept, Swapped}
 use Rattle.pick.proofs.PeakLaws.{peak-first, peak-adds, peak-passes}
 use Rattle.pick.proofs.SceneLaws.{Scene, Heaviest, plan-rows, fine-at, from-place, before-place, place-from, place-before, key-most, weight-key, kept-is, flag-is, peak-heaviest, heaviest-in, free-high, full-edge}
-use Rattle.pick.proofs.LeadLaws.{Front, Nobody, made, late-over, late-none, segment-key, first-goes, front-stays, far-goes}
+use Rattle.pick.proofs.LeadLaws.{Front, Nobody, made, late-over, late-none, segment-key}
+use Rattle.pick.proofs.DecideLaws.{first-goes, front-stays, far-goes}
 use Rattle.pick.proofs.StretchLaws.{stretch-segment}
 
 -- GATHERING: the first i rows are gathered

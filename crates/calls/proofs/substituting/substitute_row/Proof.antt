@@ -34,11 +34,14 @@ slice-aggregate-substitute-flagged c =
 
 substitute-flagged-requires : tie.Need-substitute-flagged-requires
 substitute-flagged-requires c κs =
-    let s = c .before .before .before .before .before .before .before in (
+    let s = c .before .before .before .before .before .before .before .before in
+    let reached = c .before .before .before .before .before .reach-of .ensures in (
       s .pre .0,
+      flagged-chosen (s .args .table .now) (s .args .round) (s .pre .0) (c .before .before .before .flag-rows .last .1 .0) _
+          (c .before .before .before .flag-rows .ensures),
+      reached .0,
+      reached .1,
       s .pre .1,
-      flagged-chosen (s .args .table .now) (s .args .round) (s .pre .0) (c .before .before .flag-rows .last .1 .0) _
-          (c .before .before .flag-rows .ensures),
     )
 
 returns : tie.Need-returns

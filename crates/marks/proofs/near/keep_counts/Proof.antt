@@ -1,4 +1,4 @@
--- `marks::mark::keep_counts` meets its contract. The invariant: of the rows passed the plan's count, and all others. Assumes nothing.
+-- `marks::near::keep_counts` meets its contract. The invariant: of the rows passed the plan's count, and all others. Assumes nothing.
 use borrow.Author.Needs.{needs}
 use Prim.Native.Nat.{_-_, _≤_, _<_}
 use native.Mathlib.Omega.{arith}
@@ -7,8 +7,8 @@ use Rattle.rules.specs.Table.{round-in}
 use Rattle.tally.proofs.NearLaws.{Bucket-at, bucket-read}
 use Rattle.tally.proofs.RowLaws.{known}
 use Rattle.marks.proofs.KeepLaws.{Keeping, keep-start, keep-less, keep-step, keep-end, keep-all}
-use Rattle.marks.proofs.mark.keep_counts.Statement.{statement}
-use Rattle.marks.proofs.mark.keep_counts.Tie as tie
+use Rattle.marks.proofs.near.keep_counts.Statement.{statement}
+use Rattle.marks.proofs.near.keep_counts.Tie as tie
 
 abbrev Inv-loop : tie.InvT-loop
 Inv-loop table flags counts₀ round top used slot i₀ counts i = (i ≤ used) × Keeping (round-in table) flags i counts

@@ -1,7 +1,7 @@
--- `marks::mark::out` meets its contract. Assumes nothing.
+-- `marks::near::out` meets its contract. Assumes nothing.
 use borrow.Author.Tests.{eq-eqb, ne-eqb}
-use Rattle.marks.proofs.mark.out.Statement.{statement}
-use Rattle.marks.proofs.mark.out.Tie as tie
+use Rattle.marks.proofs.near.out.Statement.{statement}
+use Rattle.marks.proofs.near.out.Tie as tie
 
 returns : tie.Need-returns
 returns c = simp (eq-eqb _ _ (c .if1 .taken))

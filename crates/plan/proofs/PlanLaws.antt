@@ -17,7 +17,7 @@ use Rattle.theory.specs.All.{all-map, all-in}
 use Rattle.theory.specs.Feas.{below, below?, num, below-yes, below-1, due-below, Feas, feas-made}
 use Rattle.theory.specs.Full.{Fine, Row-fine}
 use Rattle.theory.specs.Border.{within, many, within-yes}
-use Rattle.theory.specs.Unique.{Left-out, passed, within-below, all-within}
+use Rattle.theory.specs.Unique.{Left-out, unchosen, within-below, all-within}
 use Rattle.theory.specs.Keys.{light-key, getD-in, rows-light-key}
 use Rattle.theory.specs.Index.{chosen-next}
 use Rattle.theory.specs.Sane.{sound}
@@ -49,14 +49,14 @@ chosen-tally μ z fs xs l =
     ∙ chosen-part μ z fs xs l (length xs) (omega arith)
 
 -- what holds of each row without a flag
-pub each-passed : (P : Row → Type 0) (z : Row) (bs : List Bool) (xs : List Row) → length bs ≡ length xs →
-    ((i : ℕ) → i < length xs → getD bs i false ≡ false → P (getD xs i z)) → All P (passed bs xs)
-unfolding passed
-each-passed P z [] [] l h = tt
-each-passed P z [] (x ∷ xs) l h = absurd (omega arith)
-each-passed P z (b ∷ bs) [] l h = tt
-each-passed P z (true ∷ bs) (x ∷ xs) l h = each-passed P z bs xs (omega arith) (λ i a e. h (suc i) (omega arith) e)
-each-passed P z (false ∷ bs) (x ∷ xs) l h = (h 0 (omega arith) refl, each-passed P z bs xs (omega arith) (λ i a e. h (suc i) (omega arith) e))
+pub each-unchosen : (P : Row → Type 0) (z : Row) (bs : List Bool) (xs : List Row) → length bs ≡ length xs →
+    ((i : ℕ) → i < length xs → getD bs i false ≡ false → P (getD xs i z)) → All P (unchosen bs xs)
+unfolding unchosen
+each-unchosen P z [] [] l h = tt
+each-unchosen P z [] (x ∷ xs) l h = absurd (omega arith)
+each-unchosen P z (b ∷ bs) [] l h = tt
+each-unchosen P z (true ∷ bs) (x ∷ xs) l h = each-unchosen P z bs xs (omega arith) (λ i a e. h (suc i) (omega arith) e)
+each-unchosen P z (false ∷ bs) (x ∷ xs) l h = (h 0 (omega arith) refl, each-unchosen P z bs xs (omega arith) (λ i a e. h (suc i) (omega arith) e))
 
 module _ (t : List ℕ) (e : table-refusal t ≡ 0) (fs : List ℕ) (size : length fs ≡ used-in t) (C : Kept t fs) where
   abbrev r : Round
@@ -223,7 +223,7 @@ module _ (t : List ℕ) (e : table-refusal t ≡ 0) (fs : List ℕ) (size : leng
         certified = record {
           long = length-raised fs ∙ long;
           fits = feas-made (round-in t) rs fits;
-          out = each-passed (Left-out (round-in t) rs) z (raised fs) (round-in t .rows) (length-raised fs ∙ long) (λ i a b.
+          out = each-unchosen (Left-out (round-in t) rs) z (raised fs) (round-in t .rows) (length-raised fs ∙ long) (λ i a b.
               let h : i < length fs = omega (arith, long) in
               left-out i h (C .out i h (sym (raised-at fs i h) ∙ b)));
         };

@@ -20,7 +20,7 @@ use Rattle.theory.specs.Change.{in-sum}
 use Rattle.theory.specs.Send.{next-by}
 use Rattle.theory.specs.Same.{sum-none, planned-same}
 use Rattle.theory.specs.Score.{score-of}
-use Rattle.theory.specs.Unique.{Left-out, Certified, passed, plan-out}
+use Rattle.theory.specs.Unique.{Left-out, Certified, unchosen, plan-out}
 use Rattle.theory.specs.Slack.{slack, idle, rows-num, slack-is, tight-least, least-tight, mark-idle, mark-rows}
 use Rattle.theory.specs.Members.{Rows, of-rows-ticket, of-rows-fine, found-member, member?, in-plan-is}
 use Rattle.theory.specs.Substitute.{later-none, score-none}
@@ -35,8 +35,8 @@ pub record Near (r : Round) (z : ℕ) : Type 0 where
   pub free : (u : ℕ) → z ≤ u → u ≤ r .last → num 0 (suc u) (r .rows) ≤ num 0 z (r .rows) + (u - z)
 
 -- NOTHING LEFT OUT: all rows fit, so they are the plan's
-pub chosen-all : (xs : List Row) → (chosen (replicate (length xs) true) xs ≡ xs) × (passed (replicate (length xs) true) xs ≡ [])
-unfolding chosen passed
+pub chosen-all : (xs : List Row) → (chosen (replicate (length xs) true) xs ≡ xs) × (unchosen (replicate (length xs) true) xs ≡ [])
+unfolding chosen unchosen
 chosen-all [] = (refl, refl)
 chosen-all (x ∷ xs) = (ap (λ (zs : List Row). x ∷ zs) (chosen-all xs .0), chosen-all xs .1)
 

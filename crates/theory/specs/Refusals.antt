@@ -30,12 +30,12 @@ row-member t (suc k) i j a b =
       | inr e ↦ let n = e .1 in inr (rw (row-next t i) (row-member t k (suc i) j (omega arith) (omega arith)))
     ]
 
-pub member-row : (t : List ℕ) (k i : ℕ) (x : Row) → In x (rows-in k (drop (row-at i) t)) → (j : ℕ) × (j < i + k) × (x ≡ row-in t j)
+pub in-rows-at : (t : List ℕ) (k i : ℕ) (x : Row) → In x (rows-in k (drop (row-at i) t)) → (j : ℕ) × (j < i + k) × (x ≡ row-in t j)
 unfolding rows-in
-member-row t zero i x m = absurd m
-member-row t (suc k) i x (inl e) = (i, omega arith, e ∙ row-there t i)
-member-row t (suc k) i x (inr m) =
-    let q = member-row t k (suc i) x (rw (row-next t i) at m) in (q .0, omega (arith, q .1), q .2)
+in-rows-at t zero i x m = absurd m
+in-rows-at t (suc k) i x (inl e) = (i, omega arith, e ∙ row-there t i)
+in-rows-at t (suc k) i x (inr m) =
+    let q = in-rows-at t k (suc i) x (rw (row-next t i) at m) in (q .0, omega (arith, q .1), q .2)
 
 -- what is found under a ticket
 abbrev pub Found : (ticket : ℕ) → List Row → Option Row → Type 0
@@ -68,7 +68,7 @@ pub missing? : (k : ℕ) (t : List ℕ) (o : Option Row) → Found k (round-in t
 unfolding round-in round row
 missing? k t none f = inl (refl, λ i h e. f (row-in t i) (row-member t (used-in t) 0 i (omega arith) (omega arith)) e)
 missing? k t (some y) f =
-    let q = member-row t (used-in t) 0 y (f .0) in
+    let q = in-rows-at t (used-in t) 0 y (f .0) in
     inr (refl, λ n. n (q .0) (omega (arith, q .1)) (ap (λ (z : Row). z .ticket) (sym (q .2)) ∙ f .1))
 
 pub unplanned? : (k : ℕ) (t : List ℕ) (o : Option Row) → Found k (round-in t .rows) o → Decides (unplanned (round-in t) o) (Not-planned k t)

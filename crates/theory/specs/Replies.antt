@@ -1,4 +1,4 @@
--- Replies to a list of calls, one by one, and what an accepted mark, total or taking says of the round. Assumes nothing.
+-- Replies to a list of calls, one by one, and what an not-refused mark, total or taking says of the round. Assumes nothing.
 use mathlib.Core.Path.{_≡_, refl, sym, ap, _∙_}
 use mathlib.Core.Logic.{inl, inr}
 use mathlib.Core.Bool.{Bool, true, false, cond}
@@ -36,8 +36,8 @@ replies-after xs ys t ps qs e h =
 
 -- ACCEPTED: a call on a sound round's table whose answer is no refusal
 module _ (r : Round) (s : Sane r) where
-  pub accepted : (c : Call) (a : Reply) → answer c (table r) ≡ a → ((n : ℕ) → a ≡ refused n → ⊥) → (round-refusal c r ≡ 0) × (says c r ≡ a)
-  accepted c a e n = elim (eqb? (round-refusal c r) 0) [
+  pub not-refused : (c : Call) (a : Reply) → answer c (table r) ≡ a → ((n : ℕ) → a ≡ refused n → ⊥) → (round-refusal c r ≡ 0) × (says c r ≡ a)
+  not-refused c a e n = elim (eqb? (round-refusal c r) 0) [
     | inl h ↦ (h .1, sym (answer-is c r s ∙ rw (h .0)) ∙ e)
     | inr h ↦ absurd (n (round-refusal c r) (sym e ∙ answer-is c r s ∙ rw (h .0)))
   ]
@@ -45,18 +45,18 @@ module _ (r : Round) (s : Sane r) where
   pub mark-answered : (u m : ℕ) → answer (marking u) (table r) ≡ amount m → (mark-refusal r u ≡ 0) × (mark r u ≡ m)
   unfolding round-refusal says
   mark-answered u m e =
-      let a = accepted (marking u) (amount m) e (λ n h. let z : _≡_ {A = ℕ} 0 1 = cc in omega arith) in
+      let a = not-refused (marking u) (amount m) e (λ n h. let z : _≡_ {A = ℕ} 0 1 = cc in omega arith) in
       let b : amount (mark r u) ≡ amount m = a .1 in (a .0, cc)
 
   pub total-answered : (m : ℕ) → answer totalling (table r) ≡ amount m → total r ≡ m
   unfolding says
   total-answered m e =
-      let a = accepted totalling (amount m) e (λ n h. let z : _≡_ {A = ℕ} 0 1 = cc in omega arith) in
+      let a = not-refused totalling (amount m) e (λ n h. let z : _≡_ {A = ℕ} 0 1 = cc in omega arith) in
       let b : amount (total r) ≡ amount m = a .1 in cc
 
   pub taking-answered : (d w k : ℕ) → answer (taking d w) (table r) ≡ ticket k → take-refusal r d w ≡ 0
   unfolding round-refusal
-  taking-answered d w k e = accepted (taking d w) (ticket k) e (λ n h. let z : _≡_ {A = ℕ} 0 1 = cc in omega arith) .0
+  taking-answered d w k e = not-refused (taking d w) (ticket k) e (λ n h. let z : _≡_ {A = ℕ} 0 1 = cc in omega arith) .0
 
   -- a call that leaves the round leaves the table
   pub asking-leaves : (c : Call) → leaves c r ≡ r → left c (table r) ≡ table r

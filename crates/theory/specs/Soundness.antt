@@ -28,16 +28,16 @@ length-bad t e k a b h = true≢false (sym (length-fits t k 0 h a b (omega arith
 abbrev pub row-in : List ℕ → (row : ℕ) → Row
 row-in t i = row (ticket-in t i) (due-in t i) (weight-in t i) (kind-in t i)
 
-abbrev pub before : List ℕ → (row : ℕ) → ℕ
-before t zero = 0
-before t (suc i) = ticket-in t i
+abbrev pub ticket-before : List ℕ → (row : ℕ) → ℕ
+ticket-before t zero = 0
+ticket-before t (suc i) = ticket-in t i
 
 abbrev pub Row-good : List ℕ → (row : ℕ) → Type 0
-Row-good t i = Row-right (slot-in t) (last-in t) (next-in t) (before t i) (row-in t i) × Zeros row-zeros-at row-size (drop (row-at i) t)
+Row-good t i = Row-right (slot-in t) (last-in t) (next-in t) (ticket-before t i) (row-in t i) × Zeros row-zeros-at row-size (drop (row-at i) t)
 
 -- the clauses of k rows from row i on
 abbrev pub Rows-from : List ℕ → (left row : ℕ) → Type 0
-Rows-from t k i = Rows-right k (slot-in t) (last-in t) (next-in t) (before t i) (drop (row-at i) t)
+Rows-from t k i = Rows-right k (slot-in t) (last-in t) (next-in t) (ticket-before t i) (drop (row-at i) t)
 
 pub row-there : (t : List ℕ) (i : ℕ) → front-row (drop (row-at i) t) ≡ row-in t i
 unfolding row
@@ -99,7 +99,7 @@ module _ (t : List ℕ) (c : Clauses t) where
       }
 
 module _ (t : List ℕ) (s : Sound t) where
-  after-before : (i : ℕ) → i < used-in t → before t i < ticket-in t i
+  after-before : (i : ℕ) → i < used-in t → ticket-before t i < ticket-in t i
   after-before zero h = s .tickets-from 0 h
   after-before (suc i) h = s .tickets-rise i h
 

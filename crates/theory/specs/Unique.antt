@@ -31,15 +31,15 @@ pub record Left-out (r : Round) (rs : List Row) (x : Row) : Type 0 where
   pub heavy : All (λ y. y .due ≤ at → heavier y x ≡ true) rs
 
 -- the rows without a flag
-unfoldable pub passed : List Bool → List Row → List Row
-passed [] xs = xs
-passed (m ∷ ms) [] = []
-passed (m ∷ ms) (x ∷ xs) = cond m (passed ms xs) (x ∷ passed ms xs)
+unfoldable pub unchosen : List Bool → List Row → List Row
+unchosen [] xs = xs
+unchosen (m ∷ ms) [] = []
+unchosen (m ∷ ms) (x ∷ xs) = cond m (unchosen ms xs) (x ∷ unchosen ms xs)
 
 pub record Certified (r : Round) (fs : List Bool) : Type 0 where
   pub long : length fs ≡ length (r .rows)
   pub fits : feasible r (chosen fs (r .rows)) ≡ true
-  pub out : All (Left-out r (chosen fs (r .rows))) (passed fs (r .rows))
+  pub out : All (Left-out r (chosen fs (r .rows))) (unchosen fs (r .rows))
 
 -- flags of rows chosen by flags
 pub in-plan-other : (y x : Row) (ps : List Row) → x .ticket ≢ y .ticket → in-plan y (x ∷ ps) ≡ in-plan y ps
@@ -83,15 +83,15 @@ flags-chosen a b (false ∷ fs) (x ∷ xs) s e =
     (not-there x (chosen fs xs) (all-of-chosen (λ y. x .ticket ≢ y .ticket) fs xs (rising-other b x xs (s .1))))
     (flags-chosen (suc (x .ticket)) b fs xs (s .1) (omega arith))
 
--- a row is chosen or passed
-pub passed-in : (fs : List Bool) (xs : List Row) (x : Row) → In x xs → In x (chosen fs xs) ⊎ In x (passed fs xs)
-unfolding chosen passed
-passed-in [] xs x i = inr i
-passed-in (m ∷ fs) [] x i = absurd i
-passed-in (true ∷ fs) (y ∷ ys) x (inl e) = inl (inl e)
-passed-in (true ∷ fs) (y ∷ ys) x (inr i) = elim (passed-in fs ys x i) [ inl h ↦ inl (inr h) | inr h ↦ inr h ]
-passed-in (false ∷ fs) (y ∷ ys) x (inl e) = inr (inl e)
-passed-in (false ∷ fs) (y ∷ ys) x (inr i) = elim (passed-in fs ys x i) [ inl h ↦ inl h | inr h ↦ inr (inr h) ]
+-- a row is chosen or unchosen
+pub unchosen-in : (fs : List Bool) (xs : List Row) (x : Row) → In x xs → In x (chosen fs xs) ⊎ In x (unchosen fs xs)
+unfolding chosen unchosen
+unchosen-in [] xs x i = inr i
+unchosen-in (m ∷ fs) [] x i = absurd i
+unchosen-in (true ∷ fs) (y ∷ ys) x (inl e) = inl (inl e)
+unchosen-in (true ∷ fs) (y ∷ ys) x (inr i) = elim (unchosen-in fs ys x i) [ inl h ↦ inl (inr h) | inr h ↦ inr h ]
+unchosen-in (false ∷ fs) (y ∷ ys) x (inl e) = inr (inl e)
+unchosen-in (false ∷ fs) (y ∷ ys) x (inr i) = elim (unchosen-in fs ys x i) [ inl h ↦ inl h | inr h ↦ inr (inr h) ]
 
 pub kept-yes : (r : Round) (x : Row) (xs ps : List Row) → feasible r (x ∷ ps) ≡ true → kept r (x ∷ xs) ps ≡ kept r xs (x ∷ ps)
 unfolding kept
@@ -226,9 +226,9 @@ certified-plan r f fs c =
     (plan-selected r f rs (chosen-in fs (r .rows))
     (feas-yes r rs (c .fits) (all-of-chosen (λ x. r .slot ≤ x .due) fs (r .rows)
     (all-map {Q = λ x. r .slot ≤ x .due} (λ x (h : Row-fine r x). h .0) (r .rows) (f .fine))))
-    (λ x i n. elim (passed-in fs (r .rows) x i) [
+    (λ x i n. elim (unchosen-in fs (r .rows) x i) [
       | inl h ↦ elim (in-plan? x rs) [ inl k ↦ absurd (true≢false (sym (k .0) ∙ n)) | inr k ↦ absurd (k .1 x h refl) ]
-      | inr h ↦ all-in (Left-out r rs) x (passed fs (r .rows)) (c .out) h
+      | inr h ↦ all-in (Left-out r rs) x (unchosen fs (r .rows)) (c .out) h
     ])
     (λ μ. of-chosen rs μ (r .rows) (row-ticket r f) ∙ ap (λ (bs : List Bool). sum μ (chosen bs (r .rows))) p)))
     ∙ p
@@ -247,12 +247,12 @@ unfolding flags
 length-flags ps [] = refl
 length-flags ps (x ∷ xs) = ap suc (length-flags ps xs)
 
-pub passed-flags : (P : Row → Type 0) (ps xs : List Row) → All P xs → All (λ x. (in-plan x ps ≡ false) × P x) (passed (flags ps xs) xs)
-unfolding flags passed
-passed-flags P ps [] a = tt
-passed-flags P ps (x ∷ xs) a = elim (either (in-plan x ps)) [
-  | inl e ↦ rw e (passed-flags P ps xs (a .1))
-  | inr e ↦ rw e ((e, a .0), passed-flags P ps xs (a .1))
+pub unchosen-flags : (P : Row → Type 0) (ps xs : List Row) → All P xs → All (λ x. (in-plan x ps ≡ false) × P x) (unchosen (flags ps xs) xs)
+unfolding flags unchosen
+unchosen-flags P ps [] a = tt
+unchosen-flags P ps (x ∷ xs) a = elim (either (in-plan x ps)) [
+  | inl e ↦ rw e (unchosen-flags P ps xs (a .1))
+  | inr e ↦ rw e ((e, a .0), unchosen-flags P ps xs (a .1))
 ]
 
 pub chosen-flags : (ps xs : List Row) → All (λ x. in-plan x ps ≡ true) (chosen (flags ps xs) xs)
@@ -317,8 +317,8 @@ plan-certified r f =
       long = length-flags (plan r) (r .rows);
       fits = feas-made r (planned r) (planned-feas r f);
       out = all-map {Q = Left-out r (planned r)} (λ x (h : (in-plan x (plan r) ≡ false) × In x (r .rows)). plan-out r f x (h .1) (h .0))
-          (passed (flags (plan r) (r .rows)) (r .rows))
-          (passed-flags (λ x. In x (r .rows)) (plan r) (r .rows) (all-of-in (λ x. In x (r .rows)) (r .rows) (λ x i. i)));
+          (unchosen (flags (plan r) (r .rows)) (r .rows))
+          (unchosen-flags (λ x. In x (r .rows)) (plan r) (r .rows) (all-of-in (λ x. In x (r .rows)) (r .rows) (λ x i. i)));
     }
 
 -- one flag at a time

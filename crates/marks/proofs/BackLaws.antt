@@ -7,7 +7,7 @@ use native.Mathlib.Omega.{arith}
 use lib.Dec.{leb}
 use lib.ListN.{getD}
 use borrow.Author.Tests.{leb-true, leb-false}
-use Rattle.theory.specs.Tests.{pick, leb?, eqb?}
+use Rattle.theory.specs.Tests.{both-ways, leb?, eqb?}
 use Rattle.tally.specs.Near.{upto}
 use Rattle.marks.specs.Window.{Roomy}
 use Rattle.marks.specs.Span.{one-back, Back-from, Back-to, Flat, Begins}
@@ -65,7 +65,7 @@ pub back-step : (cs : List ℕ) (top s c : ℕ) (x y : Back) → suc s ≤ suc t
 back-step cs top s c x y h b e k d =
     let g : upto (suc s) cs ≡ upto s cs + c = omega (arith, e) in
     subst (Back-to cs top s) (sym d)
-    (pick (Back-to cs top s) (leb (x .over + c) 1) (record { over = 0; edge = s }) (record { over = x .over + c - 1; edge = x .edge })
+    (both-ways (Back-to cs top s) (leb (x .over + c) 1) (record { over = 0; edge = s }) (record { over = x .over + c - 1; edge = x .edge })
     (λ t. record { few = omega arith; back = back-idle (λ v. upto v cs) (suc top) s (x .over) (x .edge) c (b .back) g (leb-true (x .over + c) 1 t) })
     (λ t. record {
       few = omega (arith, b .few, h, k);

@@ -11,7 +11,7 @@ use borrow.Author.Tests.{ltb-true, ltb-false, eq-eqb, ne-eqb}
 use Rattle.rules.specs.Rows.{Round, blank}
 use Rattle.rules.specs.Plan.{plan, tight-after, segment-start, first-end, substitute}
 use Rattle.rules.specs.Table.{round-in}
-use Rattle.theory.specs.Tests.{positive, pick, leb?, ltb?, eqb?}
+use Rattle.theory.specs.Tests.{positive, both-ways, leb?, ltb?, eqb?}
 use Rattle.theory.specs.All.{all-in}
 use Rattle.theory.specs.Full.{Fine, Row-fine, plan-feas, plan-full}
 use Rattle.theory.specs.Feas.{num}
@@ -43,7 +43,7 @@ pub offer-step : (number : ℕ → ℕ) (i : ℕ) (o q : Offer) (x : ℕ) → x 
     Offered number (i + 1) q
 offer-step n i o q x e d s =
     subst (Offered n (i + 1)) (sym d)
-    (pick (Offered n (i + 1)) (ltb (o .number) x) (record { number = x; row = i }) o
+    (both-ways (Offered n (i + 1)) (ltb (o .number) x) (record { number = x; row = i }) o
     (λ t. record {
       most = λ j h. elim (eqb? j i) [
         | inl a ↦ omega (arith, e, ap n (a .1))

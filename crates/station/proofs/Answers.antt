@@ -11,7 +11,7 @@ use Rattle.rules.specs.Plan.{plan, best, substitute, in-plan}
 use Rattle.rules.specs.Steps.{is-ordinary}
 use Rattle.rules.specs.Table.{round-in, table-refusal}
 use Rattle.rules.specs.Calls.{Call, opening, taking, sending, marking, totalling, Out, silence, frame, kept-blank, ordinary, leap, refused, ticket, step, blank-due, first, send-refusal, mark-refusal, table-first, round-refusal, refusal, out-of, says, answer, with-ticket, stand-in, substitute-answer}
-use Rattle.theory.specs.Tests.{eqb?, pick, positive}
+use Rattle.theory.specs.Tests.{eqb?, both-ways, positive}
 use Rattle.theory.specs.All.{all-of-in}
 use Rattle.theory.specs.Sane.{Sane, sound}
 use Rattle.station.specs.Packing.{Fits-out, silence-fits, frame-fits, blank-fits, Fits, ordinary-fits, leap-fits, mark-fits, total-fits, Answers-fit, Unpacks, Fits-substitute, refusal-stands, row-stands, blank-stands, Replies-back}
@@ -24,8 +24,8 @@ use Rattle.station.proofs.Within.{Within, best-within, substitute-withi
 out-fits : (p : Row) → p .ticket < 16777216 → Fits-out (out-of p)
 unfolding out-of
 out-fits p h =
-    pick Fits-out (eqb (p .ticket) 0) silence _ (λ _. silence-fits)
-    (λ _. pick Fits-out (eqb (p .kind) 0) (frame (p .ticket)) (kept-blank (p .ticket)) (λ _. frame-fits h) (λ _. blank-fits h))
+    both-ways Fits-out (eqb (p .ticket) 0) silence _ (λ _. silence-fits)
+    (λ _. both-ways Fits-out (eqb (p .kind) 0) (frame (p .ticket)) (kept-blank (p .ticket)) (λ _. frame-fits h) (λ _. blank-fits h))
 
 step-fits : (b : Bool) (o : Out) → Fits-out o → Fits sending (step (cond b (ordinary o) (leap o)))
 step-fits true o f = ordinary-fits f
@@ -71,14 +71,14 @@ row-fits s w = elim (eqb? (s .ticket) 0) [
 found-fits : (Q : Option Row → Type 0) (k : ℕ) (xs : List Row) → Q none → All (λ x. Q (some x)) xs → Q (with-ticket k xs)
 unfolding with-ticket
 found-fits Q k [] n a = n
-found-fits Q k (x ∷ xs) n a = pick Q (eqb (x .ticket) k) (some x) (with-ticket k xs) (λ _. a .0) (λ _. found-fits Q k xs n (a .1))
+found-fits Q k (x ∷ xs) n a = both-ways Q (eqb (x .ticket) k) (some x) (with-ticket k xs) (λ _. a .0) (λ _. found-fits Q k xs n (a .1))
 
 stand-in-fits : (r : Round) → Sane r → (k : ℕ) → Fits-substitute (stand-in r (with-ticket k (r .rows)))
 unfolding stand-in
 stand-in-fits r s k =
     found-fits (λ o. Fits-substitute (stand-in r o)) k (r .rows) (refusal-stands (omega arith) (omega arith))
     (all-of-in (λ x. Fits-substitute (stand-in r (some x))) (r .rows) (λ x i.
-    pick Fits-substitute (in-plan x (plan r)) _ (refused 11)
+    both-ways Fits-substitute (in-plan x (plan r)) _ (refused 11)
     (λ _. row-fits (substitute r (plan r) x) (substitute-within r s x i))
     (λ _. refusal-stands (omega arith) (omega arith))))
 

@@ -6,7 +6,7 @@ use native.Mathlib.Omega.{arith}
 use lib.Dec.{leb}
 use Rattle.rules.specs.Rows.{Row, Round, blank, All, In}
 use Rattle.rules.specs.Plan.{plan, first-end, segment-start, substitute, best}
-use Rattle.theory.specs.Tests.{pick}
+use Rattle.theory.specs.Tests.{both-ways}
 use Rattle.theory.specs.All.{all-in}
 use Rattle.theory.specs.Full.{Rising, Row-fine, plan-all}
 use Rattle.theory.specs.Back.{rising-le, outside-all, lightest-all, best-from-all}
@@ -48,6 +48,6 @@ module _ (r : Round) (s : Sane r) where
       let d = all-in (Row-fine r) p (r .rows) (s .fine .fine) i in
       let b = segment-start r (plan r) (p .due) in
       let z = segment-from-tight r (s .fine) (p .due) (d .0) (d .1) .1 in
-      pick Within (leb (p .due) (first-end r (plan r))) _ _
+      both-ways Within (leb (p .due) (first-end r (plan r))) _ _
       (λ _. lightest-all Within (first-end r (plan r)) (plan r) p (all-in Within p (r .rows) rows-within i) plan-within)
       (λ _. outside-all Within b (plan r) (r .rows) (blank b) (blank-within b (omega (arith, z, d .1, s .size .last))) rows-within)

@@ -14,7 +14,7 @@ use Rattle.rules.specs.Plan.{in-plan, lightest-by, sends-before, best-from, pla
 use Rattle.rules.specs.Steps.{opened, taken, sent, without, changed, still-due, leapt, replaced, shifted, heaviest-between}
 use Rattle.rules.specs.Table.{low, value, field, row-bytes, rows-bytes, table, rows-in, round-in, length-good, rows-good, round-good, same, table-refusal, rows-of}
 use Rattle.rules.specs.Calls.{Call, opening, taking, sending, open-refusal, take-refusal, send-refusal, mark-refusal, marking, totalling, round-refusal, leaves, next-round}
-use Rattle.theory.specs.Tests.{either, pick}
+use Rattle.theory.specs.Tests.{either, both-ways}
 use Rattle.theory.specs.All.{all-map, all-append}
 use Rattle.theory.specs.Full.{plan-all, Fine, Row-fine, Rising}
 use Rattle.theory.specs.Change.{all-changed, all-without, all-still}
@@ -203,7 +203,7 @@ unfolding heaviest-between
 between-all P a b [] x p q = p
 between-all P a b (y ∷ ys) x p q =
     between-all P a b ys (cond ((ltb a (y .due) && leb (y .due) b) && heavier y x) y x)
-    (pick P ((ltb a (y .due) && leb (y .due) b) && heavier y x) y x (λ _. q .0) (λ _. p)) (q .1)
+    (both-ways P ((ltb a (y .due) && leb (y .due) b) && heavier y x) y x (λ _. q .0) (λ _. p)) (q .1)
 
 pub outside-all : (P : Row → Type 0) (a : ℕ) (ps xs : List Row) (x : Row) → P x → All P xs → P (heaviest-outside a xs ps x)
 unfolding heaviest-outside
@@ -211,7 +211,7 @@ outside-all P a ps [] x p q = p
 outside-all P a ps (y ∷ ys) x p q =
     outside-all P a ps ys
     (cond (leb a (y .due) && (not (in-plan y ps) && heavier y x)) y x)
-    (pick P (leb a (y .due) && (not (in-plan y ps) && heavier y x)) y x
+    (both-ways P (leb a (y .due) && (not (in-plan y ps) && heavier y x)) y x
     (λ _. q .0) (λ _. p)) (q .1)
 
 -- as many rows, each of a good kind
@@ -236,7 +236,7 @@ small-shifted n zero r ps e g xs k s = s
 small-shifted n (suc m) r ps e g xs k s =
     let h = heaviest-between e g ps (blank (suc g)) in
     let y = row (h .ticket) e (max (h .weight) (mark-in r ps e)) (h .kind) in
-    pick (Small n) (ltb e g) (shifted m r ps (tight-after r ps (h .due)) g (changed (h .ticket) y xs)) xs
+    both-ways (Small n) (ltb e g) (shifted m r ps (tight-after r ps (h .due)) g (changed (h .ticket) y xs)) xs
     (λ _. small-shifted n m r ps (tight-after r ps (h .due)) g (changed (h .ticket) y xs) k
     (small-changed n (h .ticket) y xs (between-all Kind e g ps (blank (suc g)) (omega arith) k) s))
     (λ _. s)
@@ -244,8 +244,8 @@ small-shifted n (suc m) r ps e g xs k s =
 pub small-replaced : (n : ℕ) (r : Round) (ps : List Row) (p s : Row) (xs : List Row) → Kind s → Small n xs → Small n (replaced r ps p s xs)
 unfolding replaced row
 small-replaced n r ps p s xs k q =
-    pick (Small n) (eqb (s .ticket) 0) _ _
-    (λ _. pick (Small n) (ltb 0 (mark-in r ps (s .due))) _ _
+    both-ways (Small n) (eqb (s .ticket) 0) _ _
+    (λ _. both-ways (Small n) (ltb 0 (mark-in r ps (s .due))) _ _
     (λ _. small-changed n (p .ticket) (row (p .ticket) (s .due) (mark-in r ps (s .due)) 1) xs (omega arith) q)
     (λ _. small-without n (p .ticket) xs q))
     (λ _. small-without n (p .ticket) _
@@ -262,7 +262,7 @@ pub best-from-all : (P : Row → Type 0) (r : Round) (ps xs : List Row) (b : Row
 unfolding best-from
 best-from-all P r ps [] b p a = p
 best-from-all P r ps (x ∷ xs) b p a =
-    best-from-all P r ps xs (cond (sends-before r ps x b) x b) (pick P (sends-before r ps x b) x b (λ _. a .0) (λ _. p)) (a .1)
+    best-from-all P r ps xs (cond (sends-before r ps x b) x b) (both-ways P (sends-before r ps x b) x b (λ _. a .0) (λ _. p)) (a .1)
 
 pub best-kind : (r : Round) (ps : List Row) → All Kind ps → Kind (best r ps)
 unfolding best
@@ -273,12 +273,12 @@ pub lightest-all : (P : Row → Type 0) (s : ℕ) (xs : List Row) (b : Row) → 
 unfolding lightest-by
 lightest-all P s [] b p a = p
 lightest-all P s (x ∷ xs) b p a =
-    lightest-all P s xs (cond (leb (x .due) s && heavier b x) x b) (pick P (leb (x .due) s && heavier b x) x b (λ _. a .0) (λ _. p)) (a .1)
+    lightest-all P s xs (cond (leb (x .due) s && heavier b x) x b) (both-ways P (leb (x .due) s && heavier b x) x b (λ _. a .0) (λ _. p)) (a .1)
 
 pub sub-kind : (r : Round) (p : Row) → Kind p → All Kind (r .rows) → Kind (substitute r (plan r) p)
 unfolding substitute
 sub-kind r p k a =
-    pick Kind (leb (p .due) (first-end r (plan r))) _ _ (λ _. lightest-all Kind (first-end r (plan r)) (plan r) p k (plan-kinds r a))
+    both-ways Kind (leb (p .due) (first-end r (plan r))) _ _ (λ _. lightest-all Kind (first-end r (plan r)) (plan r) p k (plan-kinds r a))
     (λ _. outside-all Kind (segment-start r (plan r) (p .due)) (plan r) (r .rows) (blank (segment-start r (plan r) (p .due))) (blank-kind _) a)
 
 pub small-leapt : (n : ℕ) (r : Round) (p : Row) → Kind p → Small n (r .rows) → Small n (leapt r (plan r) p)
@@ -291,7 +291,7 @@ pub small-sent : (n : ℕ) (r : Round) → Small n (r .rows) → Small n (sent r
 unfolding sent round
 small-sent n r s =
     small-still n (suc (r .slot)) _
-    (pick (Small n) (leb (best r (plan r) .due) (first-end r (plan r))) _ _ (λ _. small-without n (best r (plan r) .ticket) (r .rows) s)
+    (both-ways (Small n) (leb (best r (plan r) .due) (first-end r (plan r))) _ _ (λ _. small-without n (best r (plan r) .ticket) (r .rows) s)
     (λ _. small-leapt n r (best r (plan r)) (best-kind r (plan r) (plan-kinds r (s .1))) s))
 
 pub sized-opened : (l k : ℕ) → l ≤ 4095 → k ≤ 1024 → Sized (opened l k)
@@ -327,11 +327,11 @@ Held k r = (r .room ≡ k) × Sized r
 pub next-sized : (k : ℕ) → k ≤ 1024 → (c : Call) (r : Round) → Held k r → Held k (next-round c r)
 unfolding next-round round-refusal leaves open-refusal opened taken sent round
 next-sized k i (opening l) r h =
-    pick (Held k) (eqb (open-refusal l) 0) (opened l (r .room)) r
+    both-ways (Held k) (eqb (open-refusal l) 0) (opened l (r .room)) r
     (λ e. (h .0, sized-opened l (r .room) (ltb-false 4095 l (no-refusal (ltb 4095 l) 3 0 (eqb-true (open-refusal l) 0 e) .0)) (h .1 .room))) (λ e. h)
 next-sized k i (taking d w) r h =
-    pick (Held k) (eqb (take-refusal r d w) 0) (taken r d w) r
+    both-ways (Held k) (eqb (take-refusal r d w) 0) (taken r d w) r
     (λ e. (h .0, sized-taken r d w (eqb-true (take-refusal r d w) 0 e) (h .1))) (λ e. h)
-next-sized k i sending r h = pick (Held k) (eqb (send-refusal r) 0) (sent r) r (λ e. (h .0, sized-sent r (h .1))) (λ e. h)
-next-sized k i (marking s) r h = pick (Held k) (eqb (mark-refusal r s) 0) r r (λ e. h) (λ e. h)
-next-sized k i totalling r h = pick (Held k) (eqb (send-refusal r) 0) r r (λ e. h) (λ e. h)
+next-sized k i sending r h = both-ways (Held k) (eqb (send-refusal r) 0) (sent r) r (λ e. (h .0, sized-sent r (h .1))) (λ e. h)
+next-sized k i (marking s) r h = both-ways (Held k) (eqb (mark-refusal r s) 0) r r (λ e. h) (λ e. h)
+next-sized k i totalling r h = both-ways (Held k) (eqb (send-refusal r) 0) r r (λ e. h) (λ e. h)

@@ -12,7 +12,7 @@ use Rattle.rules.specs.Plan.{plan, first-end, best, mark}
 use Rattle.rules.specs.Steps.{opened, taken, sent, without, still-due, leapt}
 use Rattle.rules.specs.Calls.{Call, opening, taking, sending, marking, totalling, open-refusal, take-refusal, send-refusal, mark-refusal, round-refusal, leaves, next-round, after}
 use Rattle.rules.specs.Demands.{No-opening}
-use Rattle.theory.specs.Tests.{pick}
+use Rattle.theory.specs.Tests.{both-ways}
 use Rattle.theory.specs.Sum.{sum-append}
 use Rattle.theory.specs.All.{all-map, all-append}
 use Rattle.theory.specs.Full.{Fine, Row-fine, Rising, plan-length}
@@ -94,7 +94,7 @@ unfolding slots-left
 sent-left r f o =
     let p = best r (plan r) in
     let i : In p (plan r) = best-in r (plan r) (omega (arith, plan-length r f .0)) in
-    pick (Left r) (leb (p .due) (first-end r (plan r))) (without (p .ticket) (r .rows)) (leapt r (plan r) p)
+    both-ways (Left r) (leb (p .due) (first-end r (plan r))) (without (p .ticket) (r .rows)) (leapt r (plan r) p)
     (λ e. ordinary-left r f o p i (leb-true (p .due) (first-end r (plan r)) e))
     (λ e. leapt-left r f p i (leb-false (p .due) (first-end r (plan r)) e))
 
@@ -111,14 +111,14 @@ sent-fine r f o =
 
 pub next-fine : (c : Call) (r : Round) → Fine r → Fine (next-round c r)
 unfolding next-round round-refusal leaves
-next-fine (opening l) r f = pick Fine (eqb (open-refusal l) 0) (opened l (r .room)) r (λ e. opened-fine l (r .room)) (λ e. f)
+next-fine (opening l) r f = both-ways Fine (eqb (open-refusal l) 0) (opened l (r .room)) r (λ e. opened-fine l (r .room)) (λ e. f)
 next-fine (taking d w) r f =
-    pick Fine (eqb (take-refusal r d w) 0) (taken r d w) r
+    both-ways Fine (eqb (take-refusal r d w) 0) (taken r d w) r
     (λ e. taken-fine r f d w (takes r d w (eqb-true (take-refusal r d w) 0 e))) (λ e. f)
 next-fine sending r f =
-    pick Fine (eqb (send-refusal r) 0) (sent r) r (λ e. sent-fine r f (sends r (eqb-true (send-refusal r) 0 e))) (λ e. f)
-next-fine (marking s) r f = pick Fine (eqb (mark-refusal r s) 0) r r (λ e. f) (λ e. f)
-next-fine totalling r f = pick Fine (eqb (send-refusal r) 0) r r (λ e. f) (λ e. f)
+    both-ways Fine (eqb (send-refusal r) 0) (sent r) r (λ e. sent-fine r f (sends r (eqb-true (send-refusal r) 0 e))) (λ e. f)
+next-fine (marking s) r f = both-ways Fine (eqb (mark-refusal r s) 0) r r (λ e. f) (λ e. f)
+next-fine totalling r f = both-ways Fine (eqb (send-refusal r) 0) r r (λ e. f) (λ e. f)
 
 -- NO MARK SINKS
 abbrev pub Stays : ℕ → Round → Round → Type 0
@@ -149,19 +149,19 @@ pub next-stays : (s : ℕ) (c : Call) (cs : List Call) (r : Round) → Fine r �
 unfolding next-round round-refusal leaves open-refusal No-opening
 next-stays s (opening l) cs r f n = (rw (lt-ltb most-last l (n .0)) (same-stays s r), n .1)
 next-stays s (taking d w) cs r f n = (
-  pick (Stays s r) (eqb (take-refusal r d w) 0) (taken r d w) r
+  both-ways (Stays s r) (eqb (take-refusal r d w) 0) (taken r d w) r
       (λ e. taken-stays s r f d w (takes r d w (eqb-true (take-refusal r d w) 0 e))) (λ e. same-stays s r),
   n,
 )
 next-stays s sending cs r f n = (
-  pick (Stays s r) (eqb (send-refusal r) 0) (sent r) r (λ e. sent-stays s r f (sends r (eqb-true (send-refusal r) 0 e)))
+  both-ways (Stays s r) (eqb (send-refusal r) 0) (sent r) r (λ e. sent-stays s r f (sends r (eqb-true (send-refusal r) 0 e)))
       (λ e. same-stays s r),
   n,
 )
 next-stays s (marking u) cs r f n =
-    (pick (Stays s r) (eqb (mark-refusal r u) 0) r r (λ e. same-stays s r) (λ e. same-stays s r), n)
+    (both-ways (Stays s r) (eqb (mark-refusal r u) 0) r r (λ e. same-stays s r) (λ e. same-stays s r), n)
 next-stays s totalling cs r f n =
-    (pick (Stays s r) (eqb (send-refusal r) 0) r r (λ e. same-stays s r) (λ e. same-stays s r), n)
+    (both-ways (Stays s r) (eqb (send-refusal r) 0) r r (λ e. same-stays s r) (λ e. same-stays s r), n)
 
 pub after-stays : (s : ℕ) (cs : List Call) (r : Round) → Fine r → No-opening cs → Stays s r (after cs r)
 unfolding after

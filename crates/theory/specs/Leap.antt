@@ -10,7 +10,7 @@ use borrow.Author.Tests.{le-ltb, lt-leb, ltb-true, ltb-false, ne-eqb}
 use Rattle.rules.specs.Rows.{Row, Round, blank, row, All, In}
 use Rattle.rules.specs.Plan.{plan, in-plan, tight-after, segment-start, mark-in, first-end, heaviest-outside, substitute}
 use Rattle.rules.specs.Steps.{changed, without, heaviest-between, shifted, replaced, leapt}
-use Rattle.theory.specs.Tests.{leb?, ltb?, pick}
+use Rattle.theory.specs.Tests.{leb?, ltb?, both-ways}
 use Rattle.theory.specs.Sum.{sum}
 use Rattle.theory.specs.All.{blank-weight, blank-ticket, all-map, all-in, all-of-in}
 use Rattle.theory.specs.Feas.{num}
@@ -65,7 +65,7 @@ pub shift-ind : (r : Round) → Fine r → (g : ℕ) → g ≤ r .last → Tight
 unfolding shifted
 shift-ind r f g b u hv Q s zero e xs l k c t q = let z : e ≡ g = omega arith in rw z at q
 shift-ind r f g b u hv Q s (suc n) e xs l k c t q =
-    pick (Q g) (ltb e g)
+    both-ways (Q g) (ltb e g)
     (shifted n r (plan r) (tight-after r (plan r) (heaviest-between e g (plan r) (blank (suc g)) .due)) g
     (moved r e (heaviest-between e g (plan r) (blank (suc g))) xs)) xs
     (λ i.
@@ -379,7 +379,7 @@ leap-with-blank r f p b i st =
     let same : tight-after r (plan r) b ≡ e = omega (arith, en .order) in
     let o : Next r (plan r) b e = rw same at (en .last) in
     rw (no-shift (suc (r .last)) r e (tight-after r (plan r) b) (r .rows) back)
-    (pick (Left r) (ltb 0 (mark-in r (plan r) b)) (changed (p .ticket) (row (p .ticket) b (mark-in r (plan r) b) 1) (r .rows))
+    (both-ways (Left r) (ltb 0 (mark-in r (plan r) b)) (changed (p .ticket) (row (p .ticket) b (mark-in r (plan r) b) 1) (r .rows))
     (without (p .ticket) (r .rows))
     (λ a. leap-kept r f p b e i (en .first) o (st .low) (ltb-true 0 (mark-in r (plan r) b) a))
     (λ a. leap-gone r f p b i (st .low) (st .by) (ltb-false 0 (mark-in r (plan r) b) a)))

@@ -9,7 +9,7 @@ use borrow.Author.Tests.{eq-eqb, ne-eqb}
 use Rattle.rules.specs.Rows.{Row, Round, blank, canonical, All, In}
 use Rattle.rules.specs.Plan.{plan, first-end, segment-start, substitute, sends-before}
 use Rattle.rules.specs.PlanM.{score}
-use Rattle.theory.specs.Tests.{ltb?, pick}
+use Rattle.theory.specs.Tests.{ltb?, both-ways}
 use Rattle.theory.specs.All.{all-map, all-in}
 use Rattle.theory.specs.Full.{Fine, Row-fine}
 use Rattle.theory.specs.Totals.{plan-weights}
@@ -30,7 +30,7 @@ blank-bounded s = omega arith
 pub substitute-bounded : (r : Round) → Fine r → (p : Row) → Bounded p → Bounded (substitute r (plan r) p)
 unfolding substitute
 substitute-bounded r f p h =
-    pick Bounded (leb (p .due) (first-end r (plan r))) _ _ (λ _. lightest-all Bounded (first-end r (plan r)) (plan r) p h (plan-bounded r f))
+    both-ways Bounded (leb (p .due) (first-end r (plan r))) _ _ (λ _. lightest-all Bounded (first-end r (plan r)) (plan r) p h (plan-bounded r f))
     (λ _. outside-all Bounded (segment-start r (plan r) (p .due)) (plan r) (r .rows) (blank (segment-start r (plan r) (p .due))) (blank-bounded _)
     (all-map {Q = Bounded} (λ x (k : Row-fine r x). k .3) (r .rows) (f .fine)))
 

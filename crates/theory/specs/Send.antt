@@ -12,7 +12,7 @@ use Rattle.rules.specs.Rows.{Row, Round, heavier, All, In}
 use Rattle.rules.specs.Plan.{plan, in-plan, first-end, heaviest-outside, sends-before, best-from, best}
 use Rattle.rules.specs.Steps.{without, heaviest-between}
 use Rattle.rules.specs.PlanM.{Member}
-use Rattle.theory.specs.Tests.{either, leb?, ltb?, and-true, not-true′, pick, one-if}
+use Rattle.theory.specs.Tests.{either, leb?, ltb?, and-true, not-true′, both-ways, one-if}
 use Rattle.theory.specs.Sum.{sum}
 use Rattle.theory.specs.All.{blank-ticket, all-of-in}
 use Rattle.theory.specs.Feas.{num, below-yes, below-late}
@@ -45,7 +45,7 @@ unfolding heaviest-outside
 outside-in r ps a all b [] x s h = s
 outside-in r ps a all b (y ∷ ys) x s h =
     outside-in r ps a all b ys (cond (leb a (y .due) && (not (in-plan y ps) && heavier y x)) y x)
-    (pick (Stand-in r ps a all b) (leb a (y .due) && (not (in-plan y ps) && heavier y x)) y x
+    (both-ways (Stand-in r ps a all b) (leb a (y .due) && (not (in-plan y ps) && heavier y x)) y x
     (λ e.
     let c = and-true (leb a (y .due)) (not (in-plan y ps) && heavier y x) e in
     let d = and-true (not (in-plan y ps)) (heavier y x) (c .1) in
@@ -69,7 +69,7 @@ unfolding heaviest-between
 between-keeps a b all [] x s h = s
 between-keeps a b all (y ∷ ys) x s h =
     between-keeps a b all ys (cond ((ltb a (y .due) && leb (y .due) b) && heavier y x) y x)
-    (pick (Between a b all) ((ltb a (y .due) && leb (y .due) b) && heavier y x) y x
+    (both-ways (Between a b all) ((ltb a (y .due) && leb (y .due) b) && heavier y x) y x
     (λ e. between-true a b y x all (h .0) e) (λ _. s))
     (h .1)
 
@@ -87,11 +87,11 @@ unfolding heaviest-between
 between-finds a b all [] x l h k y i c d = absurd i
 between-finds a b all (z ∷ zs) x l h k y (inl q) c d =
     between-keeps a b all zs (cond ((ltb a (z .due) && leb (z .due) b) && heavier z x) z x)
-    (pick (Between a b all) ((ltb a (z .due) && leb (z .due) b) && heavier z x) z x (λ e. between-true a b z x all (h .0) e)
+    (both-ways (Between a b all) ((ltb a (z .due) && leb (z .due) b) && heavier z x) z x (λ e. between-true a b z x all (h .0) e)
     (λ e. absurd (true≢false (sym (between-test a b z x (rw q at c) (rw q at d) (k .0 (rw q at d)) l) ∙ e))))
     (h .1)
 between-finds a b all (z ∷ zs) x l h k y (inr j) c d =
-    pick (λ u. Between a b all (heaviest-between a b zs u)) ((ltb a (z .due) && leb (z .due) b) && heavier z x) z x
+    both-ways (λ u. Between a b all (heaviest-between a b zs u)) ((ltb a (z .due) && leb (z .due) b) && heavier z x) z x
     (λ e. between-keeps a b all zs z (between-true a b z x all (h .0) e) (h .1))
     (λ _. between-finds a b all zs x l (h .1) (k .1) y j c d)
 

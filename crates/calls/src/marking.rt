@@ -9,12 +9,12 @@ ghost use Rattle.tally.specs.Rows.{Ready};
 ghost use Rattle.calls.specs.Asking.{of-marked};
 use marks::mark::mark_at;
 use marks::near::is_far;
+use plan::choose::choose_rows;
 use round::Round;
 use round::Slot;
 use round::Weight;
 use round::sound::Judged;
 use round::sound::judge;
-use sender::flag_rows;
 use tally::near::reach_of;
 
 pub enum Marked {
@@ -60,6 +60,6 @@ fn mark_ahead(table: &[u8], round: Round, slot: Slot) -> u32
         return 0;
     }
     let mut flags = [1u8; 1024];
-    flag_rows(table, &mut flags[..used], round, reach);
+    choose_rows(table, &mut flags[..used], &counts, round, reach);
     mark_at(table, &flags[..used], &mut counts, round, reach, slot.0)
 }

@@ -11,6 +11,7 @@ ghost use Rattle.calls.specs.Asking.{of-substituted};
 ghost use Rattle.calls.specs.Finding.{Finds, Stands};
 use marks::substitute::Sub;
 use marks::substitute::substitute_at;
+use plan::choose::choose_rows;
 use round::Round;
 use round::Slot;
 use round::Ticket;
@@ -18,7 +19,6 @@ use round::bytes::read4;
 use round::rows::row_at;
 use round::sound::Judged;
 use round::sound::judge;
-use sender::flag_rows;
 use tally::near::Reach;
 use tally::near::reach_of;
 
@@ -81,7 +81,7 @@ fn substitute_row(table: &[u8], round: Round, row: usize) -> Substituted
     let mut counts = [0u16; 1025];
     let mut flags = [1u8; 1024];
     let reach = reach_of(table, &mut counts, round);
-    flag_rows(table, &mut flags[..used], round, reach);
+    choose_rows(table, &mut flags[..used], &counts, round, reach);
     substitute_flagged(table, &flags[..used], &mut counts, round, reach, row)
 }
 

@@ -7,10 +7,10 @@ ghost use Rattle.round.specs.Head.{Head-of};
 ghost use Rattle.tally.specs.Rows.{Ready};
 ghost use Rattle.calls.specs.Asking.{of-totalled};
 use marks::total::total_of;
+use plan::choose::choose_rows;
 use round::Round;
 use round::sound::Judged;
 use round::sound::judge;
-use sender::flag_rows;
 use tally::near::reach_of;
 
 pub enum Totalled {
@@ -47,6 +47,6 @@ fn total_ahead(table: &[u8], round: Round) -> u64
     let mut counts = [0u16; 1025];
     let mut flags = [1u8; 1024];
     let reach = reach_of(table, &mut counts, round);
-    flag_rows(table, &mut flags[..used], round, reach);
+    choose_rows(table, &mut flags[..used], &counts, round, reach);
     total_of(table, &flags[..used], round)
 }

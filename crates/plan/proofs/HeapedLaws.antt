@@ -50,13 +50,13 @@ module _ (t heap fs : List ℕ) (count : ℕ) (F : Flagged t fs) (H : Heaped t h
       let q = is-yes v (getD heap (r .0) 0) (r .3) in
       omega (arith, q, top-most count heap (H .ordered) (r .0) (r .0) (omega arith) (r .1) (r .2))
 
-  pub top-lightest : Lightest t fs top
+  pub top-lightest : Lightest t (length fs) (kept? fs) top
   top-lightest =
       let r = held in
       let e : r .0 ≡ top % 1024 = sym (row-is t fs F (r .0) (r .1)) ∙ ap (λ (x : ℕ). x % 1024) (r .3) in
       record {
         in-rows = subst (λ (z : ℕ). z < length fs) e (r .1);
-        kept = subst (λ (z : ℕ). kept? fs z ≡ true) e (r .2);
+        has = subst (λ (z : ℕ). kept? fs z ≡ true) e (r .2);
         key = subst (λ (z : ℕ). key-in t z ≡ top) e (r .3);
         most = under-top;
       }

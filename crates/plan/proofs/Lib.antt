@@ -8,5 +8,9 @@ pub mod TallyLaws
 pub mod FlagLaws
 pub mod SweepLaws
 pub mod HeapedLaws
-pub mod ScanLaws
+pub mod LightLaws
+pub mod OneLaws
+pub mod FarLaws
 pub mod PlanLaws
+pub mod CrowdLaws
+pub mod LentLaws

@@ -12,8 +12,8 @@ use Rattle.theory.specs.Tests.{ltb?}
 use Rattle.rules.specs.Conditions.{due-in, weight-in}
 use Rattle.plan.specs.Keys.{key-in, ahead-in}
 use Rattle.plan.specs.Lists.{Next, Nexts}
-use Rattle.plan.specs.Sweep.{kept?, tally, Flagged, Swept, Lightest, Kept}
-use Rattle.plan.proofs.KeyLaws.{row-in-key, ahead-by}
+use Rattle.plan.specs.Sweep.{kept?, tally, Flagged, Swept, Swept-by, Lightest}
+use Rattle.plan.proofs.KeyLaws.{row-in-key}
 use Rattle.plan.proofs.TallyLaws.{tally-on, tally-most}
 use Rattle.plan.proofs.FlagLaws.{off, join, stay, sums, exchange, skip, onward, none-yet}
 
@@ -26,7 +26,7 @@ flagged-as t fs gs F l =
 pub row-is : (t fs : List ℕ) → Flagged t fs → (j : ℕ) → j < length fs → key-in t j % 1024 ≡ j
 row-is t fs F j h = row-in-key (weight-in t j) (due-in t j) j (omega (arith, F .few))
 
-differ : (t fs : List ℕ) → Flagged t fs → (i j : ℕ) → i < length fs → j < length fs → key-in t i ≡ key-in t j → i ≡ j
+pub differ : (t fs : List ℕ) → Flagged t fs → (i j : ℕ) → i < length fs → j < length fs → key-in t i ≡ key-in t j → i ≡ j
 differ t fs F i j h k e = sym (row-is t fs F i h) ∙ ap (λ (x : ℕ). x % 1024) e ∙ row-is t fs F j k
 
 pub count-by : (t fs : List ℕ) (s a count : ℕ) → Swept t fs s a count → count ≤ length fs
@@ -55,7 +55,7 @@ module _ (t fs : List ℕ) (s i count : ℕ) (W : Swept t fs s i count) (h : i <
       }
 
   -- the lightest of the others has the key top
-  module _ (k top : ℕ) (is-key : k ≡ key-in t i) (full : s < count) (L : Lightest t fs top) where
+  module _ (k top : ℕ) (is-key : k ≡ key-in t i) (full : s < count) (L : Lightest t (length fs) (kept? fs) top) where
     pub stayed : top ≤ k → Swept t fs s (suc i) count
     stayed above =
         record { flagged = W .flagged; mid = stay (key-in t) (ahead-in t) (length fs) fs s i count (W .mid) h here full under }
@@ -74,7 +74,7 @@ module _ (t fs : List ℕ) (s i count : ℕ) (W : Swept t fs s i count) (h : i <
       in-z = omega (arith, named, L .in-rows)
 
       on-z : kept? fs z ≡ true
-      on-z = ap (kept? fs) named ∙ L .kept
+      on-z = ap (kept? fs) named ∙ L .has
 
       pub key-z : key-in t z ≡ top
       key-z = ap (key-in t) named ∙ L .key
@@ -102,7 +102,7 @@ module _ (t fs : List ℕ) (s i count : ℕ) (W : Swept t fs s i count) (h : i <
       pub sum-moved : (f : ℕ → ℕ) → tally f (set (set fs z 0) i 1) (length fs) + f z ≡ tally f fs (length fs) + f i
       sum-moved f = sums (key-in t) (ahead-in t) (length fs) fs s i count (W .mid) h here full z in-z on-z most heavier f
 
--- ON TO THE NEXT ROW, the next list, and the end
+-- ON TO THE NEXT ROW, the next list, and the edge
 pub next-row : (t fs : List ℕ) (s a c count : ℕ) → Swept t fs s a count → Next (ahead-in t) (length fs) s a c → Swept t fs s c count
 next-row t fs s a c count W N =
     record { flagged = W .flagged; mid = skip (key-in t) (ahead-in t) (length fs) fs s a c count (W .mid) N }
@@ -114,8 +114,8 @@ next-list t fs s a count W h =
 pub next-ahead : (t fs : List ℕ) (s count : ℕ) → Swept t fs (suc s) 0 count → Swept t fs (s + 1) 0 count
 next-ahead t fs s count W = rw add-one W
 
-pub swept-to : (t fs : List ℕ) (s e count : ℕ) → e ≡ s → Swept t fs s 0 count → Swept t fs e 0 count
-swept-to t fs s e count h W = rw h W
+pub swept-to : (t fs : List ℕ) (s e count : ℕ) → e ≡ s → Swept t fs s 0 count → Swept-by t fs e
+swept-to t fs s e count h W = (count, rw h W)
 
 pub none-off : (fs : List ℕ) → fs ≡ replicate (length fs) 0 → (j : ℕ) → j < length fs → kept? fs j ≡ false
 none-off fs e j h = ap (λ (xs : List ℕ). kept? xs j) e ∙ ap (λ (z : ℕ). eqb z 1) (getD-replicate (length fs) j 0 0 h)
@@ -123,13 +123,6 @@ none-off fs e j h = ap (λ (xs : List ℕ). kept? xs j) e ∙ ap (λ (z : ℕ). 
 pub none-swept : (t fs : List ℕ) → Flagged t fs → fs ≡ replicate (length fs) 0 → Swept t fs 0 0 0
 none-swept t fs F e =
     record { flagged = F; mid = none-yet (key-in t) (ahead-in t) (length fs) fs refl (none-off fs e) }
-
-pub all-swept : (t fs : List ℕ) (s count : ℕ) → Swept t fs s 0 count → length fs < s → Kept t fs
-all-swept t fs s count W h =
-    record {
-      fits = λ e a. W .mid .fits e (omega arith);
-      out = λ j a e. W .mid .out j a (inl (omega (arith, ahead-by t j, W .flagged .used))) e;
-    }
 
 -- IN THE MIDST OF A LIST: row is the next one of it
 pub record Listing (t : List ℕ) (n : ℕ) (fs : List ℕ) (s row count : ℕ) : Type 0 where

@@ -19,10 +19,6 @@ unfoldable pub tally : (measure : ℕ → ℕ) → (flags : List ℕ) → (n : �
 tally f fs zero = 0
 tally f fs (suc n) = tally f fs n + cond (kept? fs n) (f n) 0
 
--- how many rows have one
-abbrev pub kept-of : (flags : List ℕ) → ℕ
-kept-of fs = tally (λ _. 1) fs (length fs)
-
 -- 1 for a row due before e slots ahead; for such a row with a key below w
 unfoldable pub before : (ahead : ℕ → ℕ) → (e row : ℕ) → ℕ
 before S e j = cond (ltb (S j) e) 1 0
@@ -67,12 +63,16 @@ pub record Heaped (t heap fs : List ℕ) (count : ℕ) : Type 0 where
   pub ordered : Heap count heap
   pub keys : (μ : ℕ → ℕ) → heaped μ count heap ≡ tally (λ j. μ (key-in t j)) fs (length fs)
 
--- the greatest key of the rows kept, which names the lightest of them
-pub record Lightest (t fs : List ℕ) (top : ℕ) : Type 0 where
-  pub in-rows : top % 1024 < length fs
-  pub kept : kept? fs (top % 1024) ≡ true
+-- every row due before s slots ahead is done
+abbrev pub Swept-by : (t fs : List ℕ) → (s : ℕ) → Type 0
+Swept-by t fs s = (count : ℕ) × Swept t fs s 0 count
+
+-- the greatest key of some of n rows, which names the lightest of them
+pub record Lightest (t : List ℕ) (n : ℕ) (some? : ℕ → Bool) (top : ℕ) : Type 0 where
+  pub in-rows : top % 1024 < n
+  pub has : some? (top % 1024) ≡ true
   pub key : key-in t (top % 1024) ≡ top
-  pub most : (j : ℕ) → j < length fs → kept? fs j ≡ true → key-in t j ≤ top
+  pub most : (j : ℕ) → j < n → some? j ≡ true → key-in t j ≤ top
 
 -- THE CERTIFICATE: the rows kept fit into the slots, and each other row is barred
 pub record Kept (t fs : List ℕ) : Type 0 where

@@ -1,27 +1,52 @@
 // The plan's rows of a sound table.
 ghost use mathlib.Core.Path.{_≡_};
-ghost use Prim.Native.Nat.{_+_, _≤_};
-ghost use lib.ListN.{length};
+ghost use Prim.Native.Nat.{_≤_};
+ghost use lib.ListN.{length, replicate};
 ghost use Rattle.rules.specs.Table.{round-in, table-refusal};
 ghost use Rattle.rules.specs.Conditions.{slot-in, used-in};
 ghost use Rattle.theory.specs.Flags.{Chosen};
+ghost use Rattle.tally.specs.Rows.{Ready};
+ghost use Rattle.tally.specs.Near.{Counted, Reaches};
+ghost use Rattle.plan.specs.Keys.{ahead-in};
+ghost use Rattle.plan.specs.Crowd.{Flat};
+ghost use Rattle.plan.specs.Sweep.{Kept};
+use crate::far::raise_far;
 use crate::lists::NONE;
 use crate::lists::link;
-use crate::scan::scan;
+use crate::one::crowd_of;
+use crate::one::leave_one;
 use crate::sweep::sweep;
+use round::Round;
 use round::zeros::clear;
+use tally::near::Reach;
 
-// Flag i becomes 1 where row i is in the plan, and 0 where it is not. Rows due before edge pass through a heap, later ones
-// do without: where edge is changes the cost alone. The arrays take 12 KB of stack.
-pub fn choose_rows(table: &[u8], flags: &mut [u8], used: usize, slot: usize, edge: usize)
-    requires { ⌜ (table-refusal (now table) ≡ 0) × (used ≡ used-in (now table)) × (slot ≡ slot-in (now table)) × (length (now flags) ≡ used)
-        × (edge ≤ used + 1) ⌝ }
-    ensures { λ _. ⌜ Chosen (round-in (now (table .entry))) (now (flags .exit)) ⌝ }
+// Those due before edge pass through a heap, the others stay. The arrays take 12 KB of stack.
+fn leave_some(table: &[u8], flags: &mut [u8], slot: usize, edge: usize)
+    requires { ⌜ (table-refusal (now table) ≡ 0) × (slot ≡ slot-in (now table)) × (length (now flags) ≡ used-in (now table))
+        × (edge ≤ length (now flags)) × Flat (ahead-in (now table)) (length (now flags)) edge ⌝ }
+    ensures { λ _. ⌜ Kept (now (table .entry)) (now (flags .exit)) ⌝ }
 {
     let mut first = [NONE; 1025];
     let mut next = [NONE; 1024];
-    link(table, &mut first, &mut next, used, slot);
+    link(table, &mut first, &mut next, flags.len(), slot);
     clear(flags, 0);
-    let kept = sweep(table, flags, &first, &next, edge);
-    scan(table, flags, &first, &next, edge, kept);
+    sweep(table, flags, &first, &next, edge);
+    raise_far(table, flags, slot, edge);
+}
+
+// Flags, 1 before, become 0 where a row is not in the plan. Counts are reach_of's.
+pub fn choose_rows(table: &[u8], flags: &mut [u8], counts: &[u16; 1025], round: Round, reach: Reach)
+    requires { ⌜ Ready (now table) round × Reaches (round-in (now table)) reach × Counted (round-in (now table)) (round-in (now table) .rows) (now counts)
+        × (now flags ≡ replicate (round .used) 1) ⌝ }
+    ensures { λ _. ⌜ Chosen (round-in (now (table .entry))) (now (flags .exit)) ⌝ }
+{
+    if reach.over == 0 {
+        return;
+    }
+    let slot = round.slot.0 as usize;
+    if reach.over == 1 {
+        leave_one(table, flags, slot, crowd_of(counts, reach.free));
+        return;
+    }
+    leave_some(table, flags, slot, reach.free);
 }

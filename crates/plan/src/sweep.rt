@@ -4,7 +4,7 @@ ghost use Prim.Native.Nat.{suc, _≤_, _<_};
 ghost use lib.ListN.{length, replicate};
 ghost use Rattle.plan.specs.Keys.{ahead-in};
 ghost use Rattle.plan.specs.Lists.{Next, Nexts, Listed};
-ghost use Rattle.plan.specs.Sweep.{Flagged, Swept, Heaped};
+ghost use Rattle.plan.specs.Sweep.{Flagged, Swept, Swept-by, Heaped};
 use crate::heap::EMPTY;
 use crate::heap::rise;
 use crate::heap::sink;
@@ -65,21 +65,12 @@ fn admit_list(
     count
 }
 
-// The lists below edge. Answers how many rows are kept.
-pub fn sweep(
-    table: &[u8],
-    flags: &mut [u8],
-    first: &[u16; 1025],
-    next: &[u16; 1024],
-    edge: usize,
-) -> usize
+// The lists below edge.
+pub fn sweep(table: &[u8], flags: &mut [u8], first: &[u16; 1025], next: &[u16; 1024], edge: usize)
     requires { ⌜ Flagged (now table) (now flags) × Listed (ahead-in (now table)) (length (now flags)) (now first) (now next)
-        × (now flags ≡ replicate (length (now flags)) 0) × (edge ≤ suc (length (now flags))) ⌝ }
-    ensures { λ r. ⌜ Swept (now (table .entry)) (now (flags .exit)) edge 0 r ⌝ }
+        × (now flags ≡ replicate (length (now flags)) 0) × (edge ≤ length (now flags)) ⌝ }
+    ensures { λ _. ⌜ Swept-by (now (table .entry)) (now (flags .exit)) edge ⌝ }
 {
-    if edge == 0 {
-        return 0;
-    }
     let mut heap = [EMPTY; 1026];
     let mut ahead: usize = 0;
     let mut count: usize = 0;
@@ -95,5 +86,4 @@ pub fn sweep(
         );
         ahead += 1;
     }
-    count
 }

@@ -20,31 +20,6 @@ use tally::keys::tally;
 use tally::near::Reach;
 use tally::near::reach_of;
 
-// Up to where the plan takes a heap: past the last full slot no row leaves, and one that leaves late is found at less
-// cost by a pass over the rows.
-fn edge_of(round: Round, reach: Reach) -> usize
-    ensures { λ r. ⌜ r ≤ reach .free ⌝ }
-{
-    if reach.over == 1 {
-        if round.used / 2 < reach.free {
-            return 0;
-        }
-    }
-    reach.free
-}
-
-// The flags of a sound table's plan, all of them 1 before: nothing is planned where nothing is left out.
-pub fn flag_rows(table: &[u8], flags: &mut [u8], round: Round, reach: Reach)
-    requires { ⌜ Ready (now table) round × Reaches (round-in (now table)) reach × (now flags ≡ replicate (round .used) 1) ⌝ }
-    ensures { λ _. ⌜ Chosen (round-in (now (table .entry))) (now (flags .exit)) ⌝ }
-{
-    if reach.over == 0 {
-        return;
-    }
-    let edge = edge_of(round, reach);
-    choose_rows(table, flags, round.used, round.slot.0 as usize, edge);
-}
-
 // Which row goes by the plan's flags. Counts and kept become those of the plan's rows.
 fn pick_row(
     table: &[u8],
@@ -99,7 +74,7 @@ fn send_planned(table: &mut [u8], counts: &mut [u16; 1025], round: Round, reach:
 {
     let used = round.used;
     let mut flags = [1u8; 1024];
-    flag_rows(table, &mut flags[..used], round, reach);
+    choose_rows(table, &mut flags[..used], counts, round, reach);
     send_flagged(table, &flags[..used], counts, round, reach)
 }
 

@@ -1,7 +1,7 @@
 -- `calls::marking::mark_ahead` meets its contract. Assumes nothing.
 use Rattle.calls.proofs.Asked.{far-is-zero}
 use mathlib.Core.Path.{sym, _∙_}
-use Rattle.sender.proofs.FlagLaws.{ones-front, ones-long, few-rows, flagged-long, flagged-chosen}
+use Rattle.plan.proofs.LentLaws.{ones-front, ones-long, few-rows, flagged-long, flagged-chosen}
 use borrow.Author.Needs.{needs}
 use Rattle.calls.proofs.marking.mark_ahead.Statement.{statement}
 use Rattle.calls.proofs.marking.mark_ahead.Tie as tie
@@ -24,37 +24,38 @@ array-borrow-prefix-flags c =
     let s = c .before .before .before .before .before in
     few-rows (s .args .table .now) (s .args .round) (s .pre .0)
 
-slice-aggregate-flag-rows : tie.Need-slice-aggregate-flag-rows
-slice-aggregate-flag-rows c =
+slice-aggregate-choose-rows : tie.Need-slice-aggregate-choose-rows
+slice-aggregate-choose-rows c =
     let s = c .before .before .before .before .before .before in
     ones-long (s .args .round .used) 1024 (few-rows (s .args .table .now) (s .args .round) (s .pre .0))
 
-flag-rows-requires : tie.Need-flag-rows-requires
-flag-rows-requires c κs =
-    let s = c .before .before .before .before .before .before in (
+choose-rows-requires : tie.Need-choose-rows-requires
+choose-rows-requires c κs =
+    let s = c .before .before .before .before .before .before .before in (
       s .pre .0,
-      c .before .before .before .reach-of .ensures .0,
+      c .before .before .before .before .reach-of .ensures .0,
+      c .before .before .before .before .reach-of .ensures .1,
       ones-front (s .args .round .used) 1024 (few-rows (s .args .table .now) (s .args .round) (s .pre .0)),
     )
 
 array-share-prefix-flags : tie.Need-array-share-prefix-flags
 array-share-prefix-flags c =
-    let s = c .before .before .before .before .before .before .before .before in
-    flagged-long (s .args .table .now) (s .args .round) (s .pre .0) (c .before .flag-rows .last .1 .0) _ (c .before .flag-rows .ensures) .0
+    let s = c .before .before .before .before .before .before .before .before .before in
+    flagged-long (s .args .table .now) (s .args .round) (s .pre .0) (c .before .choose-rows .last .1 .0) _ (c .before .choose-rows .ensures) .0
 
 slice-aggregate-mark-at : tie.Need-slice-aggregate-mark-at
 slice-aggregate-mark-at c =
-    let s = c .before .before .before .before .before .before .before .before .before in
-    flagged-long (s .args .table .now) (s .args .round) (s .pre .0) (c .before .before .flag-rows .last .1 .0) _ (c .before .before .flag-rows .ensures) .1
+    let s = c .before .before .before .before .before .before .before .before .before .before in
+    flagged-long (s .args .table .now) (s .args .round) (s .pre .0) (c .before .before .choose-rows .last .1 .0) _ (c .before .before .choose-rows .ensures) .1
 
 mark-at-requires : tie.Need-mark-at-requires
 mark-at-requires c κs =
-    let s = c .before .before .before .before .before .before .before .before .before .before in (
+    let s = c .before .before .before .before .before .before .before .before .before .before .before in (
       s .pre .0,
-      flagged-chosen (s .args .table .now) (s .args .round) (s .pre .0) (c .before .before .before .flag-rows .last .1 .0) _
-          (c .before .before .before .flag-rows .ensures),
-      c .before .before .before .before .before .before .before .reach-of .ensures .0,
-      c .before .before .before .before .before .before .before .reach-of .ensures .1,
+      flagged-chosen (s .args .table .now) (s .args .round) (s .pre .0) (c .before .before .before .choose-rows .last .1 .0) _
+          (c .before .before .before .choose-rows .ensures),
+      c .before .before .before .before .before .before .before .before .reach-of .ensures .0,
+      c .before .before .before .before .before .before .before .before .reach-of .ensures .1,
       s .pre .1,
       s .pre .2,
     )
@@ -70,8 +71,8 @@ mark-ahead-spec =
     is-far-requires
     returns
     array-borrow-prefix-flags
-    slice-aggregate-flag-rows
-    flag-rows-requires
+    slice-aggregate-choose-rows
+    choose-rows-requires
     array-share-prefix-flags
     slice-aggregate-mark-at
     mark-at-requires

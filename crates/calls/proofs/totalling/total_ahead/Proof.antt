@@ -1,5 +1,5 @@
 -- `calls::totalling::total_ahead` meets its contract. Assumes nothing.
-use Rattle.sender.proofs.FlagLaws.{ones-front, ones-long, few-rows, flagged-long, flagged-chosen}
+use Rattle.plan.proofs.LentLaws.{ones-front, ones-long, few-rows, flagged-long, flagged-chosen}
 use borrow.Author.Needs.{needs}
 use Rattle.calls.proofs.totalling.total_ahead.Statement.{statement}
 use Rattle.calls.proofs.totalling.total_ahead.Tie as tie
@@ -12,32 +12,32 @@ array-borrow-prefix-flags c =
     let s = c .before .before .before in
     few-rows (s .args .table .now) (s .args .round) (s .pre)
 
-slice-aggregate-flag-rows : tie.Need-slice-aggregate-flag-rows
-slice-aggregate-flag-rows c =
+slice-aggregate-choose-rows : tie.Need-slice-aggregate-choose-rows
+slice-aggregate-choose-rows c =
     let s = c .before .before .before .before in
     ones-long (s .args .round .used) 1024 (few-rows (s .args .table .now) (s .args .round) (s .pre))
 
-flag-rows-requires : tie.Need-flag-rows-requires
-flag-rows-requires c κs =
-    let s = c .before .before .before .before in
-    (s .pre, c .before .reach-of .ensures .0, ones-front (s .args .round .used) 1024 (few-rows (s .args .table .now) (s .args .round) (s .pre)))
+choose-rows-requires : tie.Need-choose-rows-requires
+choose-rows-requires c κs =
+    let s = c .before .before .before .before .before in
+    (s .pre, c .before .before .reach-of .ensures .0, c .before .before .reach-of .ensures .1, ones-front (s .args .round .used) 1024 (few-rows (s .args .table .now) (s .args .round) (s .pre)))
 
 array-share-prefix-flags : tie.Need-array-share-prefix-flags
 array-share-prefix-flags c =
-    let s = c .before .before .before .before .before .before in
-    flagged-long (s .args .table .now) (s .args .round) (s .pre) (c .before .flag-rows .last .1 .0) _ (c .before .flag-rows .ensures) .0
+    let s = c .before .before .before .before .before .before .before in
+    flagged-long (s .args .table .now) (s .args .round) (s .pre) (c .before .choose-rows .last .1 .0) _ (c .before .choose-rows .ensures) .0
 
 slice-aggregate-total-of : tie.Need-slice-aggregate-total-of
 slice-aggregate-total-of c =
-    let s = c .before .before .before .before .before .before .before in
-    flagged-long (s .args .table .now) (s .args .round) (s .pre) (c .before .before .flag-rows .last .1 .0) _ (c .before .before .flag-rows .ensures) .1
+    let s = c .before .before .before .before .before .before .before .before in
+    flagged-long (s .args .table .now) (s .args .round) (s .pre) (c .before .before .choose-rows .last .1 .0) _ (c .before .before .choose-rows .ensures) .1
 
 total-of-requires : tie.Need-total-of-requires
 total-of-requires c κs =
-    let s = c .before .before .before .before .before .before .before in (
+    let s = c .before .before .before .before .before .before .before .before in (
       s .pre,
-      flagged-chosen (s .args .table .now) (s .args .round) (s .pre) (c .before .before .flag-rows .last .1 .0) _
-          (c .before .before .flag-rows .ensures),
+      flagged-chosen (s .args .table .now) (s .args .round) (s .pre) (c .before .before .choose-rows .last .1 .0) _
+          (c .before .before .choose-rows .ensures),
     )
 
 returns : tie.Need-returns
@@ -49,8 +49,8 @@ total-ahead-spec =
     (tie.spec
     reach-of-requires
     array-borrow-prefix-flags
-    slice-aggregate-flag-rows
-    flag-rows-requires
+    slice-aggregate-choose-rows
+    choose-rows-requires
     array-share-prefix-flags
     slice-aggregate-total-of
     total-of-requires

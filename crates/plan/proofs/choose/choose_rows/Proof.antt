@@ -1,58 +1,87 @@
--- `choose_rows`: the sweep's certificate is one for the plan. Assumes nothing.
-use mathlib.Core.Path.{_≡_, refl, sym, _∙_}
+-- `choose_rows`: either way's certificate is one for the plan. Assumes nothing.
+use mathlib.Core.Path.{_≡_, sym, ap, _∙_}
+use Prim.Native.Nat.{ℕ}
 use native.Mathlib.Omega.{arith}
-use lib.ListN.{length}
+use lib.ListN.{length, replicate, length-replicate}
 use borrow.Author.Needs.{needs}
-use Rattle.plan.proofs.ListLaws.{lists-of}
-use Rattle.plan.proofs.PlanLaws.{cleared, chosen-kept}
-use Rattle.plan.proofs.TableLaws.{few-rows, rows-known, flagged}
+use Rattle.rules.specs.Table.{round-in}
+use Rattle.tally.proofs.RowLaws.{known}
+use Rattle.plan.proofs.PlanLaws.{chosen-kept}
+use Rattle.plan.proofs.TableLaws.{flagged}
+use Rattle.plan.proofs.CrowdLaws.{free-by, flat, free-crowds, crowd}
+use Rattle.plan.proofs.LentLaws.{all-flagged}
 use Rattle.plan.proofs.choose.choose_rows.Statement.{statement}
 use Rattle.plan.proofs.choose.choose_rows.Tie as tie
 
-link-requires : tie.Need-link-requires
-link-requires c κs =
-    let p = c .before .before .before .before .pre in
-    (λ i h. rows-known _ (p .0) i (omega (arith, p .1)), omega (arith, few-rows _ (p .0), p .1), p .1, p .2, refl, refl)
+returns : tie.Need-returns
+returns c =
+    let s = c .before .before .before .before in
+    all-flagged (s .args .table .now) (s .args .round) (s .pre .0) (s .args .reach) (s .args .flags .now) (s .pre .1) (omega arith) (s .pre .3)
 
-clear-requires : tie.Need-clear-requires
-clear-requires c κs = search needs
+cast-slot : tie.Need-cast-slot
+cast-slot c = search needs
 
-sweep-requires : tie.Need-sweep-requires
-sweep-requires c κs =
-    let s = c .before .before .before .before .before .before .before .before .before .before .before .before in
-    let l = c .before .before .before .before .before .before .before .link in
-    let z = c .before .before .before .before .before .clear in
-    let w = cleared (s .args .flags .now) (z .last .0) (z .ensures) in
-    let n : length (z .last .0) ≡ s .args .used = w .0 ∙ s .pre .3 in (
-      flagged _ (s .pre .0) (z .last .0) (n ∙ s .pre .1),
-      lists-of _ _ _ (l .last .1 .0) (l .last .1 .1 .0) n (l .ensures),
-      w .1,
-      omega (arith, n, s .pre .4),
-    )
+crowd-of-requires : tie.Need-crowd-of-requires
+crowd-of-requires c κs =
+    let s = c .before .before .before .before .before .before .before .before in
+    let k = known _ _ (s .pre .0) in
+    (omega (arith, free-by _ _ _ (s .pre .0) (s .pre .1), k .small), free-crowds _ _ _ (s .pre .0) (s .pre .1) _ (s .pre .2) (c .before .if2 .taken))
 
-scan-requires : tie.Need-scan-requires
-scan-requires c κs =
-    let s = c .before .before .before .before .before .before .before .before .before .before .before .before .before .before .before .before .before .before in
-    let l = c .before .before .before .before .before .before .before .before .before .before .before .before .before .link in
-    let w = c .before .before .before .before .before .sweep in
-    let n : length (w .last .1 .0) ≡ s .args .used = w .ensures .flagged .used ∙ sym (s .pre .1) in (
-      lists-of _ _ _ (l .last .1 .0) (l .last .1 .1 .0) n (l .ensures),
-      omega (arith, n, s .pre .4),
-      w .ensures,
+leave-one-requires : tie.Need-leave-one-requires
+leave-one-requires c κs =
+    let s = c .before .before .before .before .before .before .before .before .before in
+    let head = s .pre .0 .head in
+    let long : length (s .args .flags .now) ≡ s .args .round .used = ap length (s .pre .3) ∙ length-replicate {A = ℕ} (s .args .round .used) 1 in
+    let rows : length (s .args .flags .now) ≡ length (round-in (s .args .table .now) .rows) = long ∙ known _ _ (s .pre .0) .used in (
+      flagged _ (s .pre .0 .sound) (s .args .flags .now) (long ∙ head .used),
+      head .slot,
+      s .pre .3 ∙ ap (λ (n : ℕ). replicate {A = ℕ} n 1) (sym long),
+      rw rows (crowd _ _ _ (s .pre .0) (s .pre .1) _ (s .pre .2) (c .before .before .if2 .taken) _ (c .crowd-of .ensures)),
     )
 
 same-length : tie.Need-same-length
 same-length c = search needs
 
-returns : tie.Need-returns
-returns c =
-    let swept = c .before .before .before .before .before .before .before .before in
-    let w = swept .sweep in
-    let s = swept .before .before .before .before .before .before .before .before .before .before .before .before .before in
-    let r = c .before .before .scan in
-    chosen-kept _ (s .pre .0) (r .last .1 .0) (omega (arith, w .ensures .flagged .used)) (r .ensures)
+returns-2 : tie.Need-returns-2
+returns-2 c =
+    let s = c .before .before .before .before .before .before .before .before .before .before .before .before in
+    let r = c .before .before .leave-one in
+    let long : length (s .args .flags .now) ≡ s .args .round .used = ap length (s .pre .3) ∙ length-replicate {A = ℕ} (s .args .round .used) 1 in
+    chosen-kept _ (s .pre .0 .sound) (r .last .1 .0) (omega (arith, long, s .pre .0 .head .used)) (r .ensures)
+
+leave-some-requires : tie.Need-leave-some-requires
+leave-some-requires c κs =
+    let s = c .before .before .before .before .before .before .before .before in
+    let head = s .pre .0 .head in
+    let long : length (s .args .flags .now) ≡ s .args .round .used = ap length (s .pre .3) ∙ length-replicate {A = ℕ} (s .args .round .used) 1 in
+    let rows : length (s .args .flags .now) ≡ length (round-in (s .args .table .now) .rows) = long ∙ known _ _ (s .pre .0) .used in (
+      s .pre .0 .sound,
+      head .slot,
+      long ∙ head .used,
+      omega (arith, rows, free-by _ _ _ (s .pre .0) (s .pre .1)),
+      rw rows (flat _ _ _ (s .pre .0) (s .pre .1)),
+    )
+
+same-length-2 : tie.Need-same-length-2
+same-length-2 c = search needs
+
+returns-3 : tie.Need-returns-3
+returns-3 c =
+    let s = c .before .before .before .before .before .before .before .before .before .before .before in
+    let r = c .before .before .leave-some in
+    let long : length (s .args .flags .now) ≡ s .args .round .used = ap length (s .pre .3) ∙ length-replicate {A = ℕ} (s .args .round .used) 1 in
+    chosen-kept _ (s .pre .0 .sound) (r .last .1 .0) (omega (arith, long, s .pre .0 .head .used)) (r .ensures)
 
 pub choose-rows-spec : {M : Type 1} → statement M
 choose-rows-spec =
     tie.close
-    (tie.spec link-requires clear-requires sweep-requires scan-requires same-length returns)
+    (tie.spec
+    returns
+    cast-slot
+    crowd-of-requires
+    leave-one-requires
+    same-length
+    returns-2
+    leave-some-requires
+    same-length-2
+    returns-3)

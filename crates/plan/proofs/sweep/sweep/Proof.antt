@@ -17,13 +17,9 @@ Inv-loop table flags₀ first next edge heap₀ ahead₀ count₀ flags heap ahe
 abbrev μ-loop : tie.MeasureT-loop
 μ-loop table flags₀ first next edge heap₀ ahead₀ count₀ flags heap ahead count = edge - ahead
 
-returns : tie.Need-returns Inv-loop μ-loop
-returns c =
-    let s = c .before .before .before in swept-to _ _ _ _ _ (search needs) (none-swept _ _ (s .pre .0) (s .pre .2))
-
 loop-holds : tie.Need-loop-holds Inv-loop μ-loop
 loop-holds c =
-    let p = c .before .before .before .pre in
+    let p = c .before .before .pre in
     (refl, search needs, none-swept _ _ (p .0) (p .2), none-heaped _ _ _ refl (p .2))
 
 mul-wide : tie.Need-mul-wide Inv-loop μ-loop
@@ -37,7 +33,7 @@ wide-requires c κs = search needs
 
 admit-list-requires : tie.Need-admit-list-requires Inv-loop μ-loop
 admit-list-requires c κs =
-    let s = c .before .before .before .before .before .before .before .before .before in
+    let s = c .before .before .before .before .before .before .before .before in
     let l = c .before .before .before .before .before .loop .inv in (
       nexts-of _ _ _ (s .args .next .now) (l .0) (s .pre .1 .1),
       start-of _ _ _ (s .args .first .now) _ _ (l .0) (s .pre .1 .0) (search needs) (c .wide .ensures),
@@ -58,8 +54,8 @@ loop-again c =
 same-length : tie.Need-same-length Inv-loop μ-loop
 same-length c = search needs
 
-returns-2 : tie.Need-returns-2 Inv-loop μ-loop
-returns-2 c = swept-to _ _ _ _ _ (search needs) (c .before .loop .inv .2)
+returns : tie.Need-returns Inv-loop μ-loop
+returns c = swept-to _ _ _ _ _ (search needs) (c .before .loop .inv .2)
 
 pub sweep-spec : {M : Type 1} → statement M
 sweep-spec =
@@ -67,7 +63,6 @@ sweep-spec =
     (tie.spec
     Inv-loop
     μ-loop
-    returns
     loop-holds
     mul-wide
     element-copy-out-wide
@@ -77,4 +72,4 @@ sweep-spec =
     loop-less
     loop-again
     same-length
-    returns-2)
+    returns)

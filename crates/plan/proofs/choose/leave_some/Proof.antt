@@ -1,0 +1,51 @@
+-- `leave_some`: the sweep's certificate holds of all rows once those past its edge have their flags. Assumes nothing.
+use mathlib.Core.Path.{_≡_, refl, sym, _∙_}
+use native.Mathlib.Omega.{arith}
+use lib.ListN.{length}
+use borrow.Author.Needs.{needs}
+use Rattle.plan.proofs.ListLaws.{lists-of}
+use Rattle.plan.proofs.PlanLaws.{cleared}
+use Rattle.plan.proofs.FarLaws.{raised-kept}
+use Rattle.plan.proofs.TableLaws.{few-rows, rows-known, flagged}
+use Rattle.plan.proofs.choose.leave_some.Statement.{statement}
+use Rattle.plan.proofs.choose.leave_some.Tie as tie
+
+link-requires : tie.Need-link-requires
+link-requires c κs =
+    let p = c .before .before .before .before .pre in
+    (λ i h. rows-known _ (p .0) i (omega (arith, p .2)), omega (arith, few-rows _ (p .0), p .2), p .2, p .1, refl, refl)
+
+clear-requires : tie.Need-clear-requires
+clear-requires c κs = search needs
+
+sweep-requires : tie.Need-sweep-requires
+sweep-requires c κs =
+    let z = c .before .before .before .before .before .clear in
+    let l = c .before .before .before .before .before .before .before .link in
+    let s = c .before .before .before .before .before .before .before .before .before .before .before .before in
+    let w = cleared (s .args .flags .now) (z .last .0) (z .ensures) in (
+      flagged _ (s .pre .0) (z .last .0) (w .0 ∙ s .pre .2),
+      lists-of _ _ _ (l .last .1 .0) (l .last .1 .1 .0) (w .0) (l .ensures),
+      w .1,
+      omega (arith, w .0, s .pre .3),
+    )
+
+raise-far-requires : tie.Need-raise-far-requires
+raise-far-requires c κs = search needs
+
+same-length : tie.Need-same-length
+same-length c = search needs
+
+returns : tie.Need-returns
+returns c =
+    let swept = c .before .before .before .before .before .before in
+    let w = swept .sweep in
+    let s = swept .before .before .before .before .before .before .before .before .before .before .before .before .before in
+    let r = c .before .before .raise-far in
+    let n : length (w .last .1 .0) ≡ length (s .args .flags .now) = w .ensures .1 .flagged .used ∙ sym (s .pre .2) in
+    raised-kept _ (w .last .1 .0) (r .last .1 .0) _ (omega (arith, n, s .pre .3)) (w .ensures) (r .ensures) (rw n (s .pre .4))
+
+pub leave-some-spec : {M : Type 1} → statement M
+leave-some-spec =
+    tie.close
+    (tie.spec link-requires clear-requires sweep-requires raise-far-requires same-length returns)

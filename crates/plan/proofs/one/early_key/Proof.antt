@@ -1,0 +1,20 @@
+-- `early_key`: by the two outcomes of its test. Assumes nothing.
+use borrow.Author.Needs.{needs}
+use Rattle.plan.proofs.LightLaws.{key-early, key-late}
+use Rattle.plan.proofs.one.early_key.Statement.{statement}
+use Rattle.plan.proofs.one.early_key.Tie as tie
+
+ahead-of-requires : tie.Need-ahead-of-requires
+ahead-of-requires c κs = search needs
+
+key-at-requires : tie.Need-key-at-requires
+key-at-requires c κs = search needs
+
+returns : tie.Need-returns
+returns c = key-early _ _ _ _ _ (c .before .before .ahead-of .ensures .0) (c .before .if1 .taken) (c .key-at .ensures .0)
+
+returns-2 : tie.Need-returns-2
+returns-2 c = key-late _ _ _ _ (c .before .ahead-of .ensures .0) (c .if1 .left)
+
+pub early-key-spec : {M : Type 1} → statement M
+early-key-spec = tie.close (tie.spec ahead-of-requires key-at-requires returns returns-2)

@@ -12,7 +12,7 @@ use Rattle.plan.specs.Keys.{key-in, ahead-in}
 use Rattle.plan.specs.Sweep.{kept?, tally, before, smaller, Flagged, Swept, Swept-by, Kept}
 use Rattle.plan.specs.Crowd.{due-before, Flat, Raised}
 use Rattle.plan.proofs.ArrayLaws.{set?}
-use Rattle.plan.proofs.TallyLaws.{part-yes, part-no, before-yes, before-no}
+use Rattle.plan.proofs.TallyLaws.{part-yes, part-no, tally-most, before?, before-yes, before-no, before-1}
 
 -- THE FIRST i ROWS ARE RAISED where they are due from the edge on
 pub record Raising (S : ℕ → ℕ) (edge : ℕ) (fs : List ℕ) (i : ℕ) (gs : List ℕ) : Type 0 where
@@ -78,6 +78,29 @@ tally-apart f g fs gs (suc n) all h =
 
 pub ones-on : (n j : ℕ) → j < n → kept? (replicate n 1) j ≡ true
 ones-on n j h = ap (λ (v : ℕ). eqb v 1) (getD-replicate n j 1 0 h)
+
+-- no row is due from an edge on where all are due before it
+pub all-before : (S : ℕ → ℕ) (n m e : ℕ) → m ≤ n → m ≤ tally (before S e) (replicate n 1) m → (j : ℕ) → j < m → S j < e
+unfolding tally
+all-before S n zero e h l j k = absurd (omega arith)
+all-before S n (suc m) e h l j k =
+    let p = part-yes (before S e) (replicate n 1) m (ones-on n m (omega arith)) in
+    let b = before-1 S e m in
+    elim (eqb? j m) [
+      | inl a ↦ elim (before? S e m) [
+        | inl c ↦ omega (arith, c .1, ap S (a .1))
+        | inr c ↦ absurd (omega (arith, l, p, c .0, tally-most (before S e) (replicate n 1) m (before-1 S e)))
+      ]
+      | inr a ↦ let x = a .1 in all-before S n m e (omega arith) (omega (arith, l, p, b)) j (omega arith)
+    ]
+
+pub none-raised : (S : ℕ → ℕ) (edge : ℕ) (fs : List ℕ) → length fs ≤ due-before S (length fs) edge → Raised S edge fs fs
+none-raised S edge fs h =
+    record {
+      size = refl;
+      near = λ j k l. refl;
+      far = λ j k l. absurd (omega (arith, l, all-before S (length fs) (length fs) edge (omega arith) h j k));
+    }
 
 -- THE CERTIFICATE of all rows
 module _ (t fs gs : List ℕ) (edge : ℕ) (by : edge ≤ length fs) (W : Swept-by t fs edge) (R : Raised (ahead-in t) edge fs gs)

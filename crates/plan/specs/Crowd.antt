@@ -4,6 +4,7 @@ use mathlib.Core.List.{List}
 use Prim.Native.Nat.{ℕ, suc, _+_, _-_, _≤_, _<_}
 use lib.ListN.{length, getD, replicate}
 use Rattle.tally.specs.Near.{upto}
+use Rattle.tally.specs.declared.near.Reach.{Reach}
 use Rattle.plan.specs.Sweep.{tally, before}
 
 -- how many of n rows are due before e slots ahead
@@ -22,6 +23,11 @@ pub record First-crowd (cs : List ℕ) (free edge : ℕ) : Type 0 where
   pub by : edge ≤ free
   pub over : edge < upto edge cs
   pub under : (e : ℕ) → e < edge → upto e cs ≤ e
+
+-- WHAT IS LEFT OUT: over rows more are due before free than fit
+pub record Level (S : ℕ → ℕ) (n : ℕ) (x : Reach) : Type 0 where
+  pub by : x .free + x .over ≤ n
+  pub level : due-before S n (x .free) ≡ x .free + x .over
 
 -- FROM AN EDGE ON each slot has room for its rows
 abbrev pub Flat : (ahead : ℕ → ℕ) → (n edge : ℕ) → Type 0

@@ -8,7 +8,7 @@ ghost use Rattle.theory.specs.Flags.{Chosen};
 ghost use Rattle.tally.specs.Rows.{Ready};
 ghost use Rattle.tally.specs.Near.{Counted, Reaches};
 ghost use Rattle.plan.specs.Keys.{ahead-in};
-ghost use Rattle.plan.specs.Crowd.{Flat};
+ghost use Rattle.plan.specs.Crowd.{Level, Flat};
 ghost use Rattle.plan.specs.Sweep.{Kept};
 use crate::far::raise_far;
 use crate::lists::NONE;
@@ -20,18 +20,20 @@ use round::Round;
 use round::zeros::clear;
 use tally::near::Reach;
 
-// Those due before edge pass through a heap, the others stay. The arrays take 12 KB of stack.
-fn leave_some(table: &[u8], flags: &mut [u8], slot: usize, edge: usize)
+// Rows due before free pass through a heap; the others stay, if there are any. The arrays take 12 KB of stack.
+fn leave_some(table: &[u8], flags: &mut [u8], slot: usize, reach: Reach)
     requires { ⌜ (table-refusal (now table) ≡ 0) × (slot ≡ slot-in (now table)) × (length (now flags) ≡ used-in (now table))
-        × (edge ≤ length (now flags)) × Flat (ahead-in (now table)) (length (now flags)) edge ⌝ }
+        × Level (ahead-in (now table)) (length (now flags)) reach × Flat (ahead-in (now table)) (length (now flags)) (reach .free) ⌝ }
     ensures { λ _. ⌜ Kept (now (table .entry)) (now (flags .exit)) ⌝ }
 {
     let mut first = [NONE; 1025];
     let mut next = [NONE; 1024];
     link(table, &mut first, &mut next, flags.len(), slot);
     clear(flags, 0);
-    sweep(table, flags, &first, &next, edge);
-    raise_far(table, flags, slot, edge);
+    sweep(table, flags, &first, &next, reach.free);
+    if reach.free + reach.over < flags.len() {
+        raise_far(table, flags, slot, reach.free);
+    }
 }
 
 // Flags, 1 before, become 0 where a row is not in the plan. Counts are reach_of's.
@@ -48,5 +50,5 @@ pub fn choose_rows(table: &[u8], flags: &mut [u8], counts: &[u16; 1025], round: 
         leave_one(table, flags, slot, crowd_of(counts, reach.free));
         return;
     }
-    leave_some(table, flags, slot, reach.free);
+    leave_some(table, flags, slot, reach);
 }

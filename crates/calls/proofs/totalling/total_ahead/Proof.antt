@@ -20,7 +20,8 @@ slice-aggregate-choose-rows c =
 choose-rows-requires : tie.Need-choose-rows-requires
 choose-rows-requires c κs =
     let s = c .before .before .before .before .before in
-    (s .pre, c .before .before .reach-of .ensures .0, c .before .before .reach-of .ensures .1, ones-front (s .args .round .used) 1024 (few-rows (s .args .table .now) (s .args .round) (s .pre)))
+    let reached = c .before .before .reach-of .ensures in
+    (s .pre, reached .0, reached .1, ones-front (s .args .round .used) 1024 (few-rows (s .args .table .now) (s .args .round) (s .pre)))
 
 array-share-prefix-flags : tie.Need-array-share-prefix-flags
 array-share-prefix-flags c =

@@ -46,7 +46,9 @@ key-of-requires c κs = (
 )
 
 shared-slice-read-offer-of : tie.Need-shared-slice-read-offer-of Inv-loop μ-loop
-shared-slice-read-offer-of c = let asked = c .before .before .before .before .before .before .before in omega (arith, row asked, asked .before .before .before .before .pre .1 .long)
+shared-slice-read-offer-of c =
+    let asked = c .before .before .before .before .before .before .before in
+    omega (arith, row asked, asked .before .before .before .before .pre .1 .long)
 
 offer-of-requires : tie.Need-offer-of-requires Inv-loop μ-loop
 offer-of-requires c κs = key-read-most _ _ _ _ (c .before .before .weight-at .ensures .most) (c .before .key-of .ensures)
@@ -65,7 +67,8 @@ loop-again c =
     let o =
     offer-read (round-in (s .args .table .now)) (s .args .flags .now) (s .args .span) _ _ _ _ _ _ (known _ _ (s .pre .0) .slot)
     (keyed .before .before .due-at .ensures) (keyed .before .weight-at .ensures) (keyed .key-of .ensures) (offered .offer-of .ensures) in
-    (omega (arith, keyed .before .before .before .before .before .before .loop-test .taken), offer-step _ _ _ _ _ o (c .better-of .ensures) (keyed .before .before .before .before .before .before .before .loop .inv .1))
+    let turn = keyed .before .before .before .before .before .before in
+    (omega (arith, turn .loop-test .taken), offer-step _ _ _ _ _ o (c .better-of .ensures) (turn .before .loop .inv .1))
 
 loop-less-2 : tie.Need-loop-less-2 Inv-loop μ-loop
 loop-less-2 c = search needs

@@ -8,7 +8,7 @@ use Rattle.rules.specs.Table.{round-in}
 use Rattle.tally.proofs.RowLaws.{known}
 use Rattle.plan.proofs.PlanLaws.{chosen-kept}
 use Rattle.plan.proofs.TableLaws.{flagged}
-use Rattle.plan.proofs.CrowdLaws.{free-by, flat, free-crowds, crowd}
+use Rattle.plan.proofs.CrowdLaws.{level-is, flat, free-crowds, crowd}
 use Rattle.plan.proofs.LentLaws.{all-flagged}
 use Rattle.plan.proofs.choose.choose_rows.Statement.{statement}
 use Rattle.plan.proofs.choose.choose_rows.Tie as tie
@@ -25,7 +25,7 @@ crowd-of-requires : tie.Need-crowd-of-requires
 crowd-of-requires c κs =
     let s = c .before .before .before .before .before .before .before .before in
     let k = known _ _ (s .pre .0) in
-    (omega (arith, free-by _ _ _ (s .pre .0) (s .pre .1), k .small), free-crowds _ _ _ (s .pre .0) (s .pre .1) _ (s .pre .2) (c .before .if2 .taken))
+    (omega (arith, level-is _ _ _ (s .pre .0) (s .pre .1) .by, k .small), free-crowds _ _ _ (s .pre .0) (s .pre .1) _ (s .pre .2) (c .before .if2 .taken))
 
 leave-one-requires : tie.Need-leave-one-requires
 leave-one-requires c κs =
@@ -58,7 +58,7 @@ leave-some-requires c κs =
       s .pre .0 .sound,
       head .slot,
       long ∙ head .used,
-      omega (arith, rows, free-by _ _ _ (s .pre .0) (s .pre .1)),
+      rw rows (level-is _ _ _ (s .pre .0) (s .pre .1)),
       rw rows (flat _ _ _ (s .pre .0) (s .pre .1)),
     )
 

@@ -3,9 +3,10 @@ use mathlib.Core.Path.{_≡_, refl, sym, _∙_}
 use native.Mathlib.Omega.{arith}
 use lib.ListN.{length}
 use borrow.Author.Needs.{needs}
+use Rattle.plan.specs.Keys.{ahead-in}
 use Rattle.plan.proofs.ListLaws.{lists-of}
 use Rattle.plan.proofs.PlanLaws.{cleared}
-use Rattle.plan.proofs.FarLaws.{raised-kept}
+use Rattle.plan.proofs.FarLaws.{none-raised, raised-kept}
 use Rattle.plan.proofs.TableLaws.{few-rows, rows-known, flagged}
 use Rattle.plan.proofs.choose.leave_some.Statement.{statement}
 use Rattle.plan.proofs.choose.leave_some.Tie as tie
@@ -27,8 +28,11 @@ sweep-requires c κs =
       flagged _ (s .pre .0) (z .last .0) (w .0 ∙ s .pre .2),
       lists-of _ _ _ (l .last .1 .0) (l .last .1 .1 .0) (w .0) (l .ensures),
       w .1,
-      omega (arith, w .0, s .pre .3),
+      omega (arith, w .0, s .pre .3 .by),
     )
+
+add-if1 : tie.Need-add-if1
+add-if1 c = search needs
 
 raise-far-requires : tie.Need-raise-far-requires
 raise-far-requires c κs = search needs
@@ -38,14 +42,35 @@ same-length c = search needs
 
 returns : tie.Need-returns
 returns c =
-    let swept = c .before .before .before .before .before .before in
+    let swept = c .before .before .before .before .before .before .before .before in
     let w = swept .sweep in
     let s = swept .before .before .before .before .before .before .before .before .before .before .before .before .before in
-    let r = c .before .before .raise-far in
     let n : length (w .last .1 .0) ≡ length (s .args .flags .now) = w .ensures .1 .flagged .used ∙ sym (s .pre .2) in
-    raised-kept _ (w .last .1 .0) (r .last .1 .0) _ (omega (arith, n, s .pre .3)) (w .ensures) (r .ensures) (rw n (s .pre .4))
+    let r = c .before .before .raise-far in
+    raised-kept _ (w .last .1 .0) (r .last .1 .0) _ (omega (arith, n, s .pre .3 .by)) (w .ensures) (r .ensures) (rw n (s .pre .4))
+
+same-length-2 : tie.Need-same-length-2
+same-length-2 c = search needs
+
+returns-2 : tie.Need-returns-2
+returns-2 c =
+    let swept = c .before .before .before .before in
+    let w = swept .sweep in
+    let s = swept .before .before .before .before .before .before .before .before .before .before .before .before .before in
+    let n : length (w .last .1 .0) ≡ length (s .args .flags .now) = w .ensures .1 .flagged .used ∙ sym (s .pre .2) in
+    let none = none-raised (ahead-in (s .args .table .now)) (s .args .reach .free) (w .last .1 .0) (rw n (omega (arith, s .pre .3 .level, c .if1 .left, n))) in
+    raised-kept _ (w .last .1 .0) (w .last .1 .0) _ (omega (arith, n, s .pre .3 .by)) (w .ensures) none (rw n (s .pre .4))
 
 pub leave-some-spec : {M : Type 1} → statement M
 leave-some-spec =
     tie.close
-    (tie.spec link-requires clear-requires sweep-requires raise-far-requires same-length returns)
+    (tie.spec
+    link-requires
+    clear-requires
+    sweep-requires
+    add-if1
+    raise-far-requires
+    same-length
+    returns
+    same-length-2
+    returns-2)

@@ -40,7 +40,7 @@ extern "C" {
 #define LIRVEDD_TICKET_LIMIT 16777216u
 #define LIRVEDD_MOST_TOTAL ((uint64_t)LIRVEDD_MOST_ROWS * LIRVEDD_MOST_WEIGHT)
 
-/* Why a call was refused. Where several apply, the call gives the first in its own order. */
+/* Why a call was refused. Where several apply, the call gives the first in its own order. 1 and 12 are for callers in Rattle. */
 enum lirvedd_refusal_number {
     LIRVEDD_ACCEPTED = 0,
     LIRVEDD_BAD_LENGTH = 2,     /* the length is not LIRVEDD_TABLE_SIZE(n) for an n from 1 to 1,024 */
@@ -94,7 +94,8 @@ uint64_t lirvedd_take(uint32_t due, uint32_t weight, uint8_t *table, size_t leng
 uint64_t lirvedd_send(uint8_t *table, size_t length);
 
 /* The mark of a slot: a frame due there that is taken now raises the plan's total by what its weight is above the mark, and by
- * nothing if it is not above. The mark of a slot still ahead never sinks while the round is not opened anew. The table is only read.
+ * nothing if it is not above. The mark of a slot still ahead never sinks as long as only these calls write the table and none opens it
+ * anew. The table is only read.
  *
  *   slot     from the current slot to the last
  *   reply    the mark (lirvedd_amount), 0 to LIRVEDD_MOST_WEIGHT

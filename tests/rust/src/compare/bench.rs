@@ -2,13 +2,13 @@
 
 use crate::call::Call;
 use crate::calls::Second;
-use crate::compare::library::{ask, Library};
+use crate::compare::library::Library;
 use crate::compare::store::Store;
 use crate::compare::tally::Tally;
 use std::fmt;
 
 pub struct Bench<'a> {
-    library: &'a mut dyn Library,
+    library: &'a dyn Library,
     second: Second,
     store: Store,
     before: Vec<u8>,
@@ -31,7 +31,7 @@ pub struct Difference {
 pub type Agreed<T> = Result<T, Box<Difference>>;
 
 impl<'a> Bench<'a> {
-    pub fn new(library: &'a mut dyn Library, second: Second) -> Bench<'a> {
+    pub fn new(library: &'a dyn Library, second: Second) -> Bench<'a> {
         Bench {
             library,
             second,
@@ -47,7 +47,7 @@ impl<'a> Bench<'a> {
         self.before.clear();
         self.before.extend_from_slice(table);
         let lent = self.store.lend(table, self.agreed as usize);
-        let library = ask(self.library, call, lent);
+        let library = self.library.ask(call, lent);
         let second = self.second.answer(call, table);
         let what = self.difference(library, second, table);
         if let Some(what) = what {

@@ -81,7 +81,7 @@ impl Kind {
 
 /// Runs every kind, telling the agreed calls of each, up to a difference.
 pub fn run(
-    library: &mut dyn Library,
+    library: &dyn Library,
     second: Second,
     settings: Settings,
     tell: impl FnMut(&Kind, u64),
@@ -92,7 +92,7 @@ pub fn run(
 /// The same for the kinds given.
 pub fn run_kinds(
     kinds: &[Kind],
-    library: &mut dyn Library,
+    library: &dyn Library,
     second: Second,
     settings: Settings,
     mut tell: impl FnMut(&Kind, u64),

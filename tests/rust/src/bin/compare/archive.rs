@@ -1,6 +1,7 @@
 //! The library's archive through its C boundary. A slice crosses as a pointer
 //! and a length.
 
+use second::call::Call;
 use second::compare::library::Library;
 
 extern "C" {
@@ -14,29 +15,19 @@ extern "C" {
 
 pub struct Archive;
 
-// Each call lends exactly the slice's bytes for its own duration.
 impl Library for Archive {
-    fn open(&mut self, last: u32, table: &mut [u8]) -> u64 {
-        unsafe { lirvedd_open(last, table.as_mut_ptr(), table.len()) }
-    }
-
-    fn take(&mut self, due: u32, weight: u32, table: &mut [u8]) -> u64 {
-        unsafe { lirvedd_take(due, weight, table.as_mut_ptr(), table.len()) }
-    }
-
-    fn send(&mut self, table: &mut [u8]) -> u64 {
-        unsafe { lirvedd_send(table.as_mut_ptr(), table.len()) }
-    }
-
-    fn mark(&mut self, slot: u32, table: &[u8]) -> u64 {
-        unsafe { lirvedd_mark(slot, table.as_ptr(), table.len()) }
-    }
-
-    fn total(&mut self, table: &[u8]) -> u64 {
-        unsafe { lirvedd_total(table.as_ptr(), table.len()) }
-    }
-
-    fn substitute(&mut self, ticket: u32, table: &[u8]) -> u64 {
-        unsafe { lirvedd_substitute(ticket, table.as_ptr(), table.len()) }
+    fn ask(&self, call: Call, table: &mut [u8]) -> u64 {
+        let (lent, length) = (table.as_mut_ptr(), table.len());
+        // Each call is lent exactly the slice's bytes, for its own duration.
+        unsafe {
+            match call {
+                Call::Open { last } => lirvedd_open(last, lent, length),
+                Call::Take { due, weight } => lirvedd_take(due, weight, lent, length),
+                Call::Send => lirvedd_send(lent, length),
+                Call::Mark { slot } => lirvedd_mark(slot, lent, length),
+                Call::Total => lirvedd_total(lent, length),
+                Call::Substitute { ticket } => lirvedd_substitute(ticket, lent, length),
+            }
+        }
     }
 }

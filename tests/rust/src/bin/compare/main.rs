@@ -8,7 +8,7 @@ use options::{Job, Options};
 use second::call::CallName;
 use second::calls::Second;
 use second::compare::kinds::{run, Settings};
-use second::compare::library::{Itself, Library};
+use second::compare::library::Library;
 use second::ending::{caught, told, Ended};
 use second::mutation::Mutation;
 use std::process::ExitCode;
@@ -38,18 +38,18 @@ fn library(options: Options) -> (Box<dyn Library>, &'static str) {
         return (Box::new(archive::Archive), "the archive");
     }
     let _ = options;
-    (Box::new(Itself), "itself")
+    (Box::new(Second::PLAIN), "itself")
 }
 
 fn compare(options: Options, mutation: Mutation) -> Ended {
-    let (mut library, name) = library(options);
+    let (library, name) = library(options);
     let settings = options.settings;
     println!(
         "compare: with {name}, seed {}, factor {}",
         settings.seed, settings.factor
     );
     let second = Second { mutation };
-    let ended = run(library.as_mut(), second, settings, |kind, agreed| {
+    let ended = run(library.as_ref(), second, settings, |kind, agreed| {
         println!("  {}: {agreed} cases", kind.name);
     });
     match ended {
@@ -67,13 +67,13 @@ fn compare(options: Options, mutation: Mutation) -> Ended {
 /// Where a fault is caught. A fault in planning must be caught by the drawn
 /// inputs alone too.
 fn caught_at(options: Options, mutation: Mutation) -> Option<String> {
-    let (mut library, name) = library(options);
-    let mut place = |drawn_only| {
+    let (library, name) = library(options);
+    let place = |drawn_only| {
         let settings = Settings {
             drawn_only,
             ..options.settings
         };
-        let ended = run(library.as_mut(), Second { mutation }, settings, |_, _| ());
+        let ended = run(library.as_ref(), Second { mutation }, settings, |_, _| ());
         ended
             .err()
             .map(|found| format!("{} {}", found.kind, found.case))

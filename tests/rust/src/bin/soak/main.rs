@@ -83,7 +83,7 @@ fn main() -> ExitCode {
 }
 
 /// Passes until the time is up. The kinds that are not drawn run in the first.
-fn soak(options: &Options, mut library: Counted) -> Result<(), (u64, Found)> {
+fn soak(options: &Options, library: Counted) -> Result<(), (u64, Found)> {
     let began = Instant::now();
     for pass in 0.. {
         let settings = Settings {
@@ -92,7 +92,7 @@ fn soak(options: &Options, mut library: Counted) -> Result<(), (u64, Found)> {
             drawn_only: pass > 0,
         };
         for kinds in [KINDS, FULLEST] {
-            run_pass(kinds, settings, &mut library).map_err(|found| (settings.seed, found))?;
+            run_pass(kinds, settings, &library).map_err(|found| (settings.seed, found))?;
         }
         let minutes = began.elapsed().as_secs_f64() / 60.0;
         let counts = library.counts.borrow();
@@ -107,7 +107,7 @@ fn soak(options: &Options, mut library: Counted) -> Result<(), (u64, Found)> {
     Ok(())
 }
 
-fn run_pass(kinds: &[Kind], settings: Settings, library: &mut Counted) -> Result<(), Found> {
+fn run_pass(kinds: &[Kind], settings: Settings, library: &Counted) -> Result<(), Found> {
     let counts = library.counts;
     run_kinds(kinds, library, Second::PLAIN, settings, |kind, _| {
         counts.borrow_mut().end_of(kind.name);

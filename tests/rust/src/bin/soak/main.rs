@@ -8,8 +8,9 @@ mod counted;
 
 use counted::{Counted, Counts};
 use second::calls::Second;
-use second::compare::kinds::{run_kinds, Found, Kind, Settings, FULLEST, KINDS};
+use second::compare::kinds::{run_kinds, Case, Found, Settings, FULLEST, KINDS};
 use second::compare::library::Library;
+use second::kind::Kind;
 use std::cell::RefCell;
 use std::env;
 use std::process::ExitCode;
@@ -107,7 +108,7 @@ fn soak(options: &Options, library: Counted) -> Result<(), (u64, Found)> {
     Ok(())
 }
 
-fn run_pass(kinds: &[Kind], settings: Settings, library: &Counted) -> Result<(), Found> {
+fn run_pass(kinds: &[Kind<Case>], settings: Settings, library: &Counted) -> Result<(), Found> {
     let counts = library.counts;
     run_kinds(kinds, library, Second::PLAIN, settings, |kind, _| {
         counts.borrow_mut().end_of(kind.name);

@@ -3,7 +3,7 @@
 
 use second::call::CallName;
 use second::calls::Second;
-use second::ending::{caught, with_program, Ended};
+use second::ending::{caught, enough, with_program, Ended};
 use second::kind::counted;
 use second::mutation::Mutation;
 use second::programs::files::KINDS;
@@ -147,18 +147,12 @@ fn difference(run: &Run, wanted: &str) -> String {
 
 /// Every reply was met often enough.
 fn least(runs: &[Run]) -> Result<(), String> {
-    let factor = factor()?.min(1.0);
     for (start, least) in LEAST {
         let replies = runs
             .iter()
             .flat_map(|run| run.output.split(|byte| *byte == b'\n'));
-        let met = replies
-            .filter(|reply| reply.starts_with(start.as_bytes()))
-            .count();
-        println!("  {start}.. {met} times");
-        if (met as f64) < *least as f64 * factor {
-            return Err(format!("streams: fewer than {least}"));
-        }
+        let met = replies.filter(|reply| reply.starts_with(start.as_bytes()));
+        enough("streams", &format!("{start}.."), met.count(), *least)?;
     }
     Ok(())
 }

@@ -3,7 +3,7 @@
 
 use second::call::CallName;
 use second::calls::Second;
-use second::ending::{caught, with_program, Ended};
+use second::ending::{caught, enough, with_program, Ended};
 use second::kind::counted;
 use second::mutation::Mutation;
 use second::programs::process::{ended_well, run, Watch};
@@ -125,14 +125,11 @@ fn difference(one: &Tried, wanted: &[u8]) -> String {
 
 /// Every outcome was met often enough.
 fn least(tried: &[Tried]) -> Result<(), String> {
-    let factor = factor()?.min(1.0);
     for (kind, refusal, least) in LEAST {
         let met = |one: &&Tried| one.request.bytes()[0] == *kind && one.outcome[0] == *refusal;
         let met = tried.iter().filter(met).count();
-        println!("  kind {kind}, refusal {refusal}: {met}");
-        if (met as f64) < *least as f64 * factor {
-            return Err(format!("trials: fewer than {least}"));
-        }
+        let what = format!("kind {kind}, refusal {refusal}");
+        enough("trials", &what, met, *least)?;
     }
     Ok(())
 }

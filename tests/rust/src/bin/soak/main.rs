@@ -1,7 +1,6 @@
 //! The long run: pass after pass of every kind of input, each with a seed of
 //! its own, the archive against the second implementation.
 
-#[cfg(archive)]
 #[path = "../compare/archive.rs"]
 mod archive;
 mod counted;
@@ -9,7 +8,6 @@ mod counted;
 use counted::{Counted, Counts};
 use second::calls::Second;
 use second::compare::kinds::{run_kinds, Case, Found, Settings, FULLEST, KINDS};
-use second::compare::library::Library;
 use second::kind::Kind;
 use std::cell::RefCell;
 use std::env;
@@ -46,22 +44,12 @@ impl Options {
     }
 }
 
-#[cfg(archive)]
-fn library() -> Option<Box<dyn Library>> {
-    Some(Box::new(archive::Archive))
-}
-
-#[cfg(not(archive))]
-fn library() -> Option<Box<dyn Library>> {
-    None
-}
-
 fn main() -> ExitCode {
     let Some(options) = Options::read() else {
         eprintln!("{USAGE}");
         return ExitCode::from(2);
     };
-    let Some(library) = library() else {
+    let Some(library) = archive::linked() else {
         eprintln!("soak: no archive is linked: set LIRVEDD_ARCHIVE");
         return ExitCode::from(2);
     };

@@ -8,7 +8,7 @@ use crate::compare::extremes::NUMBERS;
 use crate::compare::large::chain;
 use crate::compare::lengths;
 use crate::compare::tables::{self, drawn, size, Size};
-use crate::counts::{Slot, Ticket, Weight};
+use crate::counts::{Slot, Weight};
 use crate::kind::Kind;
 use crate::listing::Entry;
 use crate::programs::noise::{damage, long_line, noise, odd_line};
@@ -50,12 +50,7 @@ pub const KINDS: &[Kind<Drawing>] = &[
 
 /// A listing with a room at or near what it needs.
 fn listing(draw: &mut Draw, table: Vec<u8>) -> Request {
-    let blank = Entry {
-        ticket: Ticket(0),
-        due: Slot(0),
-        weight: Weight(0),
-    };
-    let mut entries = [blank; MOST_ROOM];
+    let mut entries = [Entry::ZERO; MOST_ROOM];
     let count = Second::PLAIN.list(&table, &mut entries).unwrap_or(0);
     let room = near(draw, count, table.len() / 24);
     Request::List { table, room }
@@ -86,7 +81,7 @@ fn reachable(draw: &mut Draw, _: u64) -> Request {
 }
 
 fn large(draw: &mut Draw, number: u64) -> Request {
-    if number.is_multiple_of(4) {
+    if number % 4 == 0 {
         let frames = draw.between(4, 1_024);
         return listing(draw, chain(frames));
     }

@@ -4,7 +4,7 @@ use second::call::Call;
 use second::calls::Second;
 use second::compare::kinds::{run, Settings};
 use second::compare::library::Library;
-use std::env;
+use second::settings;
 use tuned::calls;
 
 struct Tuned;
@@ -22,16 +22,11 @@ impl Library for Tuned {
     }
 }
 
-/// LIRVEDD_FACTOR and LIRVEDD_SEED as in tests/rust.
-fn told(name: &str, otherwise: f64) -> f64 {
-    env::var(name).map_or(otherwise, |text| text.parse().expect(name))
-}
-
 #[test]
 fn agrees_with_the_second_implementation() {
     let settings = Settings {
-        seed: told("LIRVEDD_SEED", 1.0) as u64,
-        factor: told("LIRVEDD_FACTOR", 0.1),
+        seed: settings::seed().expect("a seed"),
+        factor: settings::factor_or(0.1).expect("a factor"),
         drawn_only: false,
     };
     let mut calls = 0;

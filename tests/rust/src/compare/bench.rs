@@ -5,6 +5,7 @@ use crate::calls::Second;
 use crate::compare::library::Library;
 use crate::compare::store::Store;
 use crate::compare::tally::Tally;
+use crate::table::{row_at, HEAD, ROW};
 use std::fmt;
 
 pub struct Bench<'a> {
@@ -98,8 +99,8 @@ impl fmt::Display for Difference {
             self.library, self.second
         )?;
         write!(out, "table before, {} bytes:", self.before.len())?;
-        for (at, byte) in self.before.iter().take(16 + 24 * 20).enumerate() {
-            let starts = at == 0 || at >= 16 && (at - 16) % 24 == 0;
+        for (at, byte) in self.before.iter().take(row_at(20)).enumerate() {
+            let starts = at == 0 || at >= HEAD && (at - HEAD) % ROW == 0;
             write!(out, "{}{byte:02X}", if starts { "\n  " } else { " " })?;
         }
         Ok(())

@@ -5,9 +5,9 @@ use crate::command::{Command, TAKE_DIGITS};
 use crate::compare::damage::damaged;
 use crate::compare::draw::Draw;
 use crate::compare::extremes::NUMBERS;
-use crate::compare::large::chain;
+use crate::compare::large;
 use crate::compare::lengths;
-use crate::compare::tables::{self, drawn, size, Size};
+use crate::compare::tables::{drawn, size};
 use crate::counts::{Slot, Weight};
 use crate::kind::Kind;
 use crate::listing::Entry;
@@ -26,7 +26,10 @@ pub const KINDS: &[Kind<Drawing>] = &[
         listing(draw, table)
     }),
     Kind::drawn("reachable", 150, reachable),
-    Kind::drawn("large", 60, large),
+    Kind::drawn("large", 60, |draw, number| {
+        let table = large::drawn(draw, number);
+        listing(draw, table)
+    }),
     Kind::drawn("damaged", 1_500, |draw, number| {
         let table = damaged(draw, number).table;
         listing(draw, table)
@@ -78,16 +81,6 @@ fn reachable(draw: &mut Draw, _: u64) -> Request {
         station.reply(line);
     }
     listing(draw, station.table)
-}
-
-fn large(draw: &mut Draw, number: u64) -> Request {
-    if number % 4 == 0 {
-        let frames = draw.between(4, 1_024);
-        return listing(draw, chain(frames));
-    }
-    let last = *draw.pick(&[300, 1_023, 1_024, 2_000, 4_095]);
-    let round = tables::round(draw, Size { rows: 1_024, last }, 1_024);
-    listing(draw, tables::table(&round, 1_024))
 }
 
 fn writing(draw: &mut Draw, _: u64) -> Request {

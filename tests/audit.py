@@ -31,20 +31,21 @@ def wrong_in(line):
                     yield f"no {name} in {file}"
     for name in re.findall(r"`[^`]+`", NAMED.sub("", line)):
         yield f"{name} stands without a file"
+    if not re.search(PATH, line):
+        yield "nothing is named"
+
+
+def table_lines(page):
+    """The lines of a page's tables, without their heads."""
+    return [line for line in page.splitlines() if re.match(r"\|(?! requirement \||---)", line)]
 
 
 def main():
     passed = failed = 0
-    audit = (TOP / "docs" / "AUDIT.md").read_text(encoding="utf-8")
-    for line in audit.splitlines():
-        cells = [cell.strip() for cell in line.split("|")]
-        if len(cells) < 4 or cells[1] == "requirement" or set(cells[1]) == {"-"}:
-            continue
+    for line in table_lines((TOP / "docs" / "AUDIT.md").read_text(encoding="utf-8")):
         wrong = list(wrong_in(line))
-        if not re.search(PATH, line):
-            wrong.append("nothing is named")
         for what in wrong:
-            print(f"audit: {cells[1]}: {what}")
+            print(f"audit: {line.split('|')[1].strip()}: {what}")
         failed += bool(wrong)
         passed += not wrong
     print(f"{passed} passed, {failed} failed")

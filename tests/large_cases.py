@@ -78,4 +78,5 @@ def main():
         (case / "stdout").write_bytes(wanted)
 
 
-main()
+if __name__ == "__main__":
+    main()

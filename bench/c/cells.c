@@ -4,8 +4,15 @@
 
 #define LEAST_CHAIN 4
 
+#define COUNT(array) (sizeof(array) / sizeof((array)[0]))
+
 static const uint32_t rows_tried[] = {1, 16, 128, 1024};
 static const uint32_t slots_tried[] = {1024, 4096};
+
+static int is_quick(uint32_t rows, uint32_t slots)
+{
+    return slots == 1024 && (rows == 16 || rows == 1024);
+}
 
 static void shapes_of(struct cell cell, void (*measure)(const struct cell *cell))
 {
@@ -25,9 +32,9 @@ static void shapes_of(struct cell cell, void (*measure)(const struct cell *cell)
 void for_each_cell(int quick, void (*measure)(const struct cell *cell))
 {
     for (int call = 0; call < CALLS; call++) {
-        for (int at = 0; at < 8; at++) {
-            const uint32_t rows = rows_tried[at / 2], slots = slots_tried[at % 2];
-            if (!quick || (slots == 1024 && (rows == 16 || rows == 1024))) {
+        for (size_t at = 0; at < COUNT(rows_tried) * COUNT(slots_tried); at++) {
+            const uint32_t rows = rows_tried[at / COUNT(slots_tried)], slots = slots_tried[at % COUNT(slots_tried)];
+            if (!quick || is_quick(rows, slots)) {
                 shapes_of((struct cell){(enum call)call, HALFOUT, rows, slots}, measure);
             }
         }

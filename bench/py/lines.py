@@ -1,11 +1,10 @@
 """Stationround on a long file of busy rounds, against the calls alone on the same input."""
 import os
 import random
-import re
 from collections import namedtuple
 
 from build import BENCH, ROOT, TARGET, Failed, said
-from measured import ONCE
+from measured import ONCE, total
 
 PROGRAM = ROOT / "target" / "bin" / "stationround"
 LAST = 4095
@@ -43,9 +42,9 @@ def counted(words, toggles, stdin):
     options = [f"--callgrind-out-file={out}", *(f"--toggle-collect={name}" for name in toggles)]
     with open(stdin, encoding="ascii") as given:
         printed = said("valgrind", "--tool=callgrind", *options, *words, env=os.environ | ONCE, stdin=given)
-    total = re.search(r"^(?:summary|totals): (\d+)$", out.read_text(), re.M)
+    instructions = total(out.read_text())
     out.unlink()
-    return int(total[1]), printed
+    return instructions, printed
 
 
 def measure(archive, quick, program=None):

@@ -4,7 +4,7 @@ import re
 import shutil
 from collections import namedtuple
 
-from build import CALLS, TARGET, program, said
+from build import CALLS, TARGET, Failed, program, said
 
 # Callgrind counts an instruction that repeats, as memset and memmove may use, once a byte: they are to do without it.
 ONCE = {"GLIBC_TUNABLES": "glibc.cpu.x86_rep_stosb_threshold=99999999:glibc.cpu.x86_rep_movsb_threshold=99999999"}
@@ -43,8 +43,15 @@ def dumped(dump):
     """A dump's cell and its instructions; the dump at the program's end has no cell."""
     text = dump.read_text()
     name = re.search(r"^desc: Trigger: Client Request: (.*)$", text, re.M)
-    total = re.search(r"^(?:summary|totals): (\d+)$", text, re.M)
-    return (cell(name[1])[0], int(total[1])) if name and total else None
+    return (cell(name[1])[0], total(text)) if name else None
+
+
+def total(text):
+    """The instructions in all that a dump tells of."""
+    found = re.search(r"^(?:summary|totals): (\d+)$", text, re.M)
+    if not found:
+        raise Failed("callgrind's dump has no total")
+    return int(found[1])
 
 
 def side(name, archive, quick):

@@ -6,27 +6,26 @@ TITLES = ["call", "shape", "rows", "slots", "library", "tuned", "ratio", "floor"
 
 
 def number(value):
-    return "-" if value is None else f"{value:,.0f}"
+    return f"{value:,.0f}"
 
 
 def ratio(value, other):
-    return f"{value / other:.2f}" if value is not None and other else "-"
+    return f"{value / other:.2f}"
 
 
 def table(library, tuned):
     """Instructions; the floor is soundness alone, the library's own; times are information."""
     print("\nInstructions a call, and nanoseconds")
     print(COLUMNS.format(*TITLES))
-    for cell, own in tuned.instructions.items():
-        ours = library.instructions.get(cell)
+    for cell, theirs in tuned.instructions.items():
+        ours = library.instructions[cell]
         floor = library.instructions[Cell("soundness", "-", cell.rows, cell.slots)]
-        print(COLUMNS.format(*cell, number(ours), number(own), ratio(ours, own), number(floor), ratio(ours, floor),
-                             number(library.time.get(cell)), number(tuned.time[cell])))
+        print(COLUMNS.format(*cell, number(ours), number(theirs), ratio(ours, theirs), number(floor), ratio(ours, floor),
+                             number(library.time[cell]), number(tuned.time[cell])))
 
 
 def most_stack(side, call):
-    found = [bytes_ for cell, bytes_ in side.stack.items() if cell.call == call and cell.rows == 1024]
-    return max(found, default=None)
+    return max(size for cell, size in side.stack.items() if cell.call == call and cell.rows == 1024)
 
 
 def stack(library, tuned):

@@ -8,6 +8,7 @@ import sys
 WIDTH, HEIGHT, TOP, BOTTOM = 960, 560, 76, 470
 LEFT, RIGHT = 80, 400
 ROWS = (1, 16, 128, 1024)
+CALLS = ("open", "take", "send", "mark", "total", "substitute")
 COLOURS = {"open": "#7a5195", "take": "#3a7d44", "total": "#b8860b", "mark": "#d9730d", "substitute": "#b0305c", "send": "#3b6ea5"}
 INK, GREY, GRID, PAPER = "#222222", "#666666", "#dddddd", "#ffffff"
 CELL = re.compile(r"(\w+) +(\w+|-) +(\d+) +(\d+) \| +([\d,]+) +([\d,]+) ")
@@ -74,7 +75,7 @@ def bars(found):
     for ratio in (0, 1, 2):
         yield line(left + unit * ratio, 60, left + unit * ratio, HEIGHT - 20, INK if ratio == 1 else GRID)
         yield text(left + unit * ratio, 52, ratio, GREY, "middle")
-    for call in ("open", "take", "send", "mark", "total", "substitute"):
+    for call in CALLS:
         shapes = [shape for name, shape, rows in found if name == call and rows == 1024]
         for shape in shapes:
             ours, tuned = found[call, shape, 1024]

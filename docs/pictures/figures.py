@@ -3,9 +3,8 @@
 import re
 import sys
 
-from bench import ROWS, cells, costliest
+from bench import CALLS, ROWS, cells, costliest
 
-CALLS = ("open", "take", "send", "mark", "total", "substitute")
 MARKS = re.compile(r"(<!-- figures -->\n).*(<!-- end of figures -->\n)", re.DOTALL)
 
 
@@ -29,7 +28,10 @@ def main():
     with open(bench, encoding="utf-8") as file:
         lines = "\n".join(table(file.read()))
     with open(page, encoding="utf-8") as file:
-        print(MARKS.sub(lambda marks: marks[1] + lines + "\n" + marks[2], file.read()), end="")
+        text, places = MARKS.subn(lambda marks: marks[1] + lines + "\n" + marks[2], file.read())
+    if places != 1:
+        sys.exit(f"figures: {page} has no two marks to write between")
+    print(text, end="")
 
 
 if __name__ == "__main__":

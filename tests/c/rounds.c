@@ -46,24 +46,26 @@ struct hand {
     struct turn turn[MOST_TURNS];
 };
 
+#define TOTAL_IS(n) {TOTAL, 0, 0, AMOUNT(n), 0, {{0}}, 0, {0}, 0, {{0}}}
+
 static const struct hand hands[] = {
     /* P1: ticket 1 goes, ordinary */
     {1, 4, {
         {TAKE, 0, 4, TICKET(1), 1, {{1, 0, 4, 0}}, 2, {4, 0}, 1, {{1, TICKET(1)}}},
         {TAKE, 1, 10, TICKET(2), 2, {{1, 0, 4, 0}, {2, 1, 10, 0}}, 2, {4, 4}, 2, {{1, TICKET(1)}, {2, BLANK(1)}}},
-        {TOTAL, 0, 0, AMOUNT(14ull), 0, {{0}}, 0, {0}, 0, {{0}}},
+        TOTAL_IS(14),
         {SEND, 0, 0, SENT(ORDINARY, FRAME, 1), 1, {{2, 1, 10, 0}}, 1, {10}, 1, {{2, TICKET(2)}}}}},
     /* P2: ticket 2 leaps and leaves a kept blank */
     {1, 4, {
         {TAKE, 0, 4, TICKET(1), 1, {{1, 0, 4, 0}}, 2, {4, 0}, 1, {{1, TICKET(1)}}},
         {TAKE, 1, 11, TICKET(2), 2, {{1, 0, 4, 0}, {2, 1, 11, 0}}, 2, {4, 4}, 2, {{1, TICKET(1)}, {2, BLANK(1)}}},
-        {TOTAL, 0, 0, AMOUNT(15ull), 0, {{0}}, 0, {0}, 0, {{0}}},
+        TOTAL_IS(15),
         {SEND, 0, 0, SENT(LEAP, FRAME, 2), 1, {{2, 1, 4, 1}}, 1, {4}, 1, {{2, TICKET(2)}}}}},
     /* P3: marks 1, 0, 0, 0, 0; ticket 2 leaps; nothing waits after */
     {4, 4, {
         {TAKE, 0, 1, TICKET(1), 1, {{1, 0, 1, 0}}, 5, {1, 0, 0, 0, 0}, 1, {{1, TICKET(1)}}},
         {TAKE, 4, 9, TICKET(2), 2, {{1, 0, 1, 0}, {2, 4, 9, 0}}, 5, {1, 0, 0, 0, 0}, 2, {{1, TICKET(1)}, {2, BLANK(4)}}},
-        {TOTAL, 0, 0, AMOUNT(10ull), 0, {{0}}, 0, {0}, 0, {{0}}},
+        TOTAL_IS(10),
         {SEND, 0, 0, SENT(LEAP, FRAME, 2), 0, {{0}}, 4, {0, 0, 0, 0}, 0, {{0}}}}},
     /* P4: ticket 2 leaps; the mark of slot 1 rises from 4 to 5, slot 2 keeps 4 */
     {2, 6, {
@@ -71,44 +73,44 @@ static const struct hand hands[] = {
         {TAKE, 1, 10, TICKET(2), 2, {{1, 0, 4, 0}, {2, 1, 10, 0}}, 3, {4, 4, 0}, 2, {{1, TICKET(1)}, {2, BLANK(1)}}},
         {TAKE, 2, 5, TICKET(3), 3, {{1, 0, 4, 0}, {2, 1, 10, 0}, {3, 2, 5, 0}}, 3, {4, 4, 4}, 3, {{1, TICKET(1)}, {2, BLANK(1)}, {3, BLANK(2)}}},
         {TAKE, 2, 3, TICKET(4), 4, {{1, 0, 4, 0}, {2, 1, 10, 0}, {3, 2, 5, 0}, {4, 2, 3, 0}}, 3, {4, 4, 4}, 4, {{1, TICKET(1)}, {2, TICKET(4)}, {3, TICKET(4)}, {4, 11}}},
-        {TOTAL, 0, 0, AMOUNT(19ull), 0, {{0}}, 0, {0}, 0, {{0}}},
+        TOTAL_IS(19),
         {SEND, 0, 0, SENT(LEAP, FRAME, 2), 2, {{3, 1, 5, 0}, {4, 2, 4, 0}}, 2, {5, 4}, 2, {{3, TICKET(3)}, {4, BLANK(2)}}}}},
     /* P5: of equals the canonical first */
     {1, 4, {
         {TAKE, 1, 5, TICKET(1), 1, {{1, 1, 5, 0}}, 2, {0, 0}, 1, {{1, BLANK(1)}}},
         {TAKE, 1, 5, TICKET(2), 2, {{1, 1, 5, 0}, {2, 1, 5, 0}}, 2, {5, 5}, 2, {{1, TICKET(2)}, {2, TICKET(2)}}},
-        {TOTAL, 0, 0, AMOUNT(10ull), 0, {{0}}, 0, {0}, 0, {{0}}},
+        TOTAL_IS(10),
         {SEND, 0, 0, SENT(ORDINARY, FRAME, 1), 1, {{2, 1, 5, 0}}, 1, {5}, 1, {{2, TICKET(2)}}}}},
     /* P6: the plan stays */
     {0, 6, {
         {TAKE, 0, 5, TICKET(1), 1, {{1, 0, 5, 0}}, 1, {5}, 1, {{1, TICKET(1)}}},
-        {TOTAL, 0, 0, AMOUNT(5ull), 0, {{0}}, 0, {0}, 0, {{0}}},
+        TOTAL_IS(5),
         {TAKE, 0, 5, TICKET(2), 2, {{1, 0, 5, 0}, {2, 0, 5, 0}}, 1, {5}, 2, {{1, TICKET(1)}, {2, 11}}},
-        {TOTAL, 0, 0, AMOUNT(5ull), 0, {{0}}, 0, {0}, 0, {{0}}},
+        TOTAL_IS(5),
         {SEND, 0, 0, SENT(ORDINARY, FRAME, 1), 0, {{0}}, 0, {0}, 0, {{0}}},
         {SEND, 0, 0, 5, 0, {{0}}, 0, {0}, 0, {{0}}}}},
     /* P7: the total rises by 1 */
     {0, 5, {
         {TAKE, 0, 5, TICKET(1), 1, {{1, 0, 5, 0}}, 1, {5}, 1, {{1, TICKET(1)}}},
-        {TOTAL, 0, 0, AMOUNT(5ull), 0, {{0}}, 0, {0}, 0, {{0}}},
+        TOTAL_IS(5),
         {TAKE, 0, 6, TICKET(2), 2, {{1, 0, 5, 0}, {2, 0, 6, 0}}, 1, {6}, 2, {{1, 11}, {2, TICKET(2)}}},
-        {TOTAL, 0, 0, AMOUNT(6ull), 0, {{0}}, 0, {0}, 0, {{0}}},
+        TOTAL_IS(6),
         {SEND, 0, 0, SENT(ORDINARY, FRAME, 2), 0, {{0}}, 0, {0}, 0, {{0}}}}},
     /* P8: just above the golden ratio */
     {1, 4, {
         {TAKE, 0, 2178309, TICKET(1), 1, {{1, 0, 2178309, 0}}, 2, {2178309, 0}, 1, {{1, TICKET(1)}}},
         {TAKE, 1, 5702887, TICKET(2), 2, {{1, 0, 2178309, 0}, {2, 1, 5702887, 0}}, 2, {2178309, 2178309}, 2, {{1, TICKET(1)}, {2, BLANK(1)}}},
-        {TOTAL, 0, 0, AMOUNT(7881196ull), 0, {{0}}, 0, {0}, 0, {{0}}},
+        TOTAL_IS(7881196),
         {SEND, 0, 0, SENT(LEAP, FRAME, 2), 1, {{2, 1, 2178309, 1}}, 1, {2178309}, 1, {{2, TICKET(2)}}}}},
     /* P9: just below it */
     {1, 4, {
         {TAKE, 0, 3524578, TICKET(1), 1, {{1, 0, 3524578, 0}}, 2, {3524578, 0}, 1, {{1, TICKET(1)}}},
         {TAKE, 1, 9227465, TICKET(2), 2, {{1, 0, 3524578, 0}, {2, 1, 9227465, 0}}, 2, {3524578, 3524578}, 2, {{1, TICKET(1)}, {2, BLANK(1)}}},
-        {TOTAL, 0, 0, AMOUNT(12752043ull), 0, {{0}}, 0, {0}, 0, {{0}}},
+        TOTAL_IS(12752043),
         {SEND, 0, 0, SENT(ORDINARY, FRAME, 1), 1, {{2, 1, 9227465, 0}}, 1, {9227465}, 1, {{2, TICKET(2)}}}}},
     /* P10: a round just opened sends silence, ordinary (Opened-silent says it of every round) */
     {3, 2, {
-        {TOTAL, 0, 0, AMOUNT(0ull), 0, {{0}}, 0, {0}, 0, {{0}}},
+        TOTAL_IS(0),
         {SEND, 0, 0, SENT(ORDINARY, SILENCE, 0), 0, {{0}}, 3, {0, 0, 0}, 0, {{0}}}}},
     /* document 01's sample */
     {1, 4, {
@@ -122,7 +124,7 @@ static const struct hand hands[] = {
         {TAKE, 0, 16777217, 6, 1, {{1, 0, 16777216, 0}}, 1, {16777216}, 1, {{1, TICKET(1)}}},
         {TAKE, 0, 0, 6, 1, {{1, 0, 16777216, 0}}, 1, {16777216}, 1, {{1, TICKET(1)}}},
         {TAKE, 1, 1, 7, 1, {{1, 0, 16777216, 0}}, 1, {16777216}, 1, {{1, TICKET(1)}}},
-        {TOTAL, 0, 0, AMOUNT(16777216ull), 0, {{0}}, 0, {0}, 0, {{0}}}}},
+        TOTAL_IS(16777216)}},
     /* every substitute is of the right segment */
     {4, 9, {
         {TAKE, 4, 2, TICKET(1), 1, {{1, 4, 2, 0}}, 5, {0, 0, 0, 0, 0}, 1, {{1, BLANK(4)}}},
@@ -230,14 +232,15 @@ static const struct hand hands[] = {
 
 static unsigned passed, failed;
 static uint8_t table[LIRVEDD_TABLE_SIZE(MOST_HAND_ROWS)];
+static char place[64]; /* what is being played, for the line of a failure */
 
-static void note(int holds, size_t hand, int turn, const char *what)
+static void note(int holds, const char *what)
 {
     if (holds) {
         passed++;
     } else {
         failed++;
-        printf("tests/c/rounds.c: FAILED: round %zu, turn %d: %s\n", hand + 1, turn + 1, what);
+        printf("tests/c/rounds.c: FAILED: %s: %s\n", place, what);
     }
 }
 
@@ -288,16 +291,18 @@ static uint64_t call(const struct turn *t)
 
 static void play(size_t h)
 {
+    snprintf(place, sizeof place, "round %zu", h + 1);
     memset(table, 7, sizeof table);
-    note(lirvedd_open(hands[h].last, table, sizeof table) == 0, h, 0, "opening");
+    note(lirvedd_open(hands[h].last, table, sizeof table) == 0, "opening");
     for (int i = 0; i < hands[h].turns; i++) {
         const struct turn *t = &hands[h].turn[i];
-        note(call(t) == t->reply, h, i, "reply");
+        snprintf(place, sizeof place, "round %zu, turn %d", h + 1, i + 1);
+        note(call(t) == t->reply, "reply");
         if (t->call == TOTAL)
             continue;
-        note(same_rows(t), h, i, "rows");
-        note(same_marks(t), h, i, "marks");
-        note(same_substitutes(t), h, i, "substitutes");
+        note(same_rows(t), "rows");
+        note(same_marks(t), "marks");
+        note(same_substitutes(t), "substitutes");
     }
 }
 
@@ -305,35 +310,37 @@ static void play(size_t h)
 static void refused(void)
 {
     static uint8_t before[sizeof table];
+    strcpy(place, "refused");
     memset(table, 0, sizeof table);
     memcpy(before, table, sizeof table);
-    note(lirvedd_send(NULL, 0) == 2 && lirvedd_mark(0, NULL, 0) == 2, 99, 0, "length 0");
-    note(lirvedd_total(NULL, 0) == 2 && lirvedd_substitute(1, NULL, 0) == 2, 99, 1, "length 0");
-    note(lirvedd_send(table, sizeof table) == 3 && lirvedd_mark(9, table, sizeof table) == 3, 99, 2, "not sound");
-    note(lirvedd_total(table, sizeof table) == 3 && lirvedd_substitute(9, table, sizeof table) == 3, 99, 3, "not sound");
-    note(memcmp(table, before, sizeof table) == 0, 99, 4, "unchanged");
+    note(lirvedd_send(NULL, 0) == 2 && lirvedd_mark(0, NULL, 0) == 2, "length 0");
+    note(lirvedd_total(NULL, 0) == 2 && lirvedd_substitute(1, NULL, 0) == 2, "length 0");
+    note(lirvedd_send(table, sizeof table) == 3 && lirvedd_mark(9, table, sizeof table) == 3, "not sound");
+    note(lirvedd_total(table, sizeof table) == 3 && lirvedd_substitute(9, table, sizeof table) == 3, "not sound");
+    note(memcmp(table, before, sizeof table) == 0, "unchanged");
     lirvedd_open(1, table, sizeof table);
     lirvedd_take(0, 5, table, sizeof table);
     lirvedd_take(0, 4, table, sizeof table);
-    note(lirvedd_mark(2, table, sizeof table) == 7 && lirvedd_mark(65536, table, sizeof table) == 7, 99, 5, "a slot after the last");
-    note(lirvedd_substitute(0, table, sizeof table) == 10 && lirvedd_substitute(3, table, sizeof table) == 10, 99, 6, "no such ticket");
-    note(lirvedd_substitute(2, table, sizeof table) == 11, 99, 7, "not in the plan");
+    note(lirvedd_mark(2, table, sizeof table) == 7 && lirvedd_mark(65536, table, sizeof table) == 7, "a slot after the last");
+    note(lirvedd_substitute(0, table, sizeof table) == 10 && lirvedd_substitute(3, table, sizeof table) == 10, "no such ticket");
+    note(lirvedd_substitute(2, table, sizeof table) == 11, "not in the plan");
     lirvedd_send(table, sizeof table);
-    note(lirvedd_mark(0, table, sizeof table) == 7, 99, 8, "a slot before the current one");
+    note(lirvedd_mark(0, table, sizeof table) == 7, "a slot before the current one");
     lirvedd_send(table, sizeof table);
     memcpy(before, table, sizeof table);
-    note(lirvedd_send(table, sizeof table) == 5 && lirvedd_mark(9, table, sizeof table) == 5, 99, 9, "over");
-    note(lirvedd_total(table, sizeof table) == 5 && lirvedd_substitute(9, table, sizeof table) == 5, 99, 10, "over");
-    note(memcmp(table, before, sizeof table) == 0, 99, 11, "unchanged");
+    note(lirvedd_send(table, sizeof table) == 5 && lirvedd_mark(9, table, sizeof table) == 5, "over");
+    note(lirvedd_total(table, sizeof table) == 5 && lirvedd_substitute(9, table, sizeof table) == 5, "over");
+    note(memcmp(table, before, sizeof table) == 0, "unchanged");
 }
 
 static void unpacking(void)
 {
     uint64_t leap = SENT(LEAP, KEPT_BLANK, 16777215);
-    note(lirvedd_refusal(leap) == 0 && lirvedd_is_leap(leap) == 1 && lirvedd_out(leap) == LIRVEDD_KEPT_BLANK, 98, 0, "a leap");
-    note(lirvedd_ticket(leap) == 16777215, 98, 1, "its ticket");
-    note(lirvedd_amount(AMOUNT(17179869184ull)) == 17179869184ull, 98, 2, "an amount");
-    note(lirvedd_blank_due(BLANK(4095)) == 4095 && lirvedd_ticket(BLANK(4095)) == 0, 98, 3, "a blank");
+    strcpy(place, "unpacking");
+    note(lirvedd_refusal(leap) == 0 && lirvedd_is_leap(leap) == 1 && lirvedd_out(leap) == LIRVEDD_KEPT_BLANK, "a leap");
+    note(lirvedd_ticket(leap) == 16777215, "its ticket");
+    note(lirvedd_amount(AMOUNT(17179869184ull)) == 17179869184ull, "an amount");
+    note(lirvedd_blank_due(BLANK(4095)) == 4095 && lirvedd_ticket(BLANK(4095)) == 0, "a blank");
 }
 
 int main(void)

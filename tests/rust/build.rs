@@ -1,5 +1,5 @@
 //! Links the library's archive into `compare` and `soak` when LIRVEDD_ARCHIVE names it.
-//! Without it everything still builds, and `compare` knows only itself.
+//! Without it everything still builds, and `compare` has only itself.
 
 use std::env;
 use std::path::Path;

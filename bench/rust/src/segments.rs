@@ -35,6 +35,17 @@ struct Open {
     lightest: u64,
 }
 
+impl Open {
+    #[inline(always)]
+    fn up_to(end: usize) -> Open {
+        Open {
+            end,
+            heaviest: 0,
+            lightest: u64::MAX,
+        }
+    }
+}
+
 impl<const N: usize> Segments<N> {
     #[inline(always)]
     pub fn of(plan: &Plan<N>, busy: usize) -> (Self, Pick) {
@@ -50,21 +61,13 @@ impl<const N: usize> Segments<N> {
             segment: 0,
             substitute: 0,
         };
-        let mut open = Open {
-            end: busy - 1,
-            heaviest: 0,
-            lightest: u64::MAX,
-        };
+        let mut open = Open::up_to(busy - 1);
         let (mut kept, mut outside) = (busy, 0);
         for key in plan.keys[..plan.len].iter().rev() {
             let ahead = ahead_in(*key);
             if kept > ahead && ahead != open.end {
                 segments.close(&mut pick, &open, outside);
-                open = Open {
-                    end: ahead,
-                    heaviest: 0,
-                    lightest: u64::MAX,
-                };
+                open = Open::up_to(ahead);
             }
             if key & OUTSIDE != 0 {
                 outside = outside.max(*key);

@@ -1,58 +1,36 @@
 //! The tuned planner against the second implementation: each reply and each byte, over its drawn tables and lists.
 
-use second::call::CallName;
+use second::call::Call;
 use second::calls::Second;
 use second::compare::kinds::{run, Settings};
 use second::compare::library::Library;
-use std::env;
+use second::settings;
 use tuned::calls;
 
 struct Tuned;
 
 impl Library for Tuned {
-    fn calls(&self) -> &'static [CallName] {
-        CallName::ALL
+    fn ask(&self, call: Call, table: &mut [u8]) -> u64 {
+        match call {
+            Call::Open { last } => calls::open(last, table),
+            Call::Take { due, weight } => calls::take(due, weight, table),
+            Call::Send => calls::send(table),
+            Call::Mark { slot } => calls::mark(slot, table),
+            Call::Total => calls::total(table),
+            Call::Substitute { ticket } => calls::substitute(ticket, table),
+        }
     }
-
-    fn open(&mut self, last: u32, table: &mut [u8]) -> u64 {
-        calls::open(last, table)
-    }
-
-    fn take(&mut self, due: u32, weight: u32, table: &mut [u8]) -> u64 {
-        calls::take(due, weight, table)
-    }
-
-    fn send(&mut self, table: &mut [u8]) -> u64 {
-        calls::send(table)
-    }
-
-    fn mark(&mut self, slot: u32, table: &[u8]) -> u64 {
-        calls::mark(slot, table)
-    }
-
-    fn total(&mut self, table: &[u8]) -> u64 {
-        calls::total(table)
-    }
-
-    fn substitute(&mut self, ticket: u32, table: &[u8]) -> u64 {
-        calls::substitute(ticket, table)
-    }
-}
-
-/// LIRVEDD_FACTOR and LIRVEDD_SEED as in tests/rust.
-fn told(name: &str, otherwise: f64) -> f64 {
-    env::var(name).map_or(otherwise, |text| text.parse().expect(name))
 }
 
 #[test]
 fn agrees_with_the_second_implementation() {
     let settings = Settings {
-        seed: told("LIRVEDD_SEED", 1.0) as u64,
-        factor: told("LIRVEDD_FACTOR", 0.1),
+        seed: settings::seed().expect("a seed"),
+        factor: settings::factor_or(0.1).expect("a factor"),
         drawn_only: false,
     };
     let mut calls = 0;
-    let ended = run(&mut Tuned, Second::PLAIN, settings, |kind, agreed| {
+    let ended = run(&Tuned, Second::PLAIN, settings, |kind, agreed| {
         println!("{}: {agreed} calls", kind.name);
         calls += agreed;
     });

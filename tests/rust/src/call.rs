@@ -12,7 +12,7 @@ pub enum Call {
 
 /// A call without its arguments: the stations' calls, then those for callers
 /// in Rattle, then the program's replies.
-#[derive(Clone, Copy, PartialEq, Eq, Debug)]
+#[derive(Clone, Copy, PartialEq, Eq, PartialOrd, Ord, Debug)]
 pub enum CallName {
     Open,
     Take,

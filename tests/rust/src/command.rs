@@ -59,7 +59,7 @@ pub fn is_payload(digits: &[u8], mutation: Mutation) -> bool {
     let waived = |which: Mutation| mutation == which;
     let all = digits.iter().all(|byte| digit(*byte, mutation).is_some());
     (all || waived(Mutation::AnyPayloadRead))
-        && (digits.len().is_multiple_of(2) || waived(Mutation::OddPayloadRead))
+        && (digits.len() % 2 == 0 || waived(Mutation::OddPayloadRead))
         && digits.len() <= most
 }
 

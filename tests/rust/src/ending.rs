@@ -1,6 +1,7 @@
 //! How a comparison ends: its last line, or what differs.
 
 use crate::mutation::Mutation;
+use crate::settings::factor;
 use std::env;
 use std::path::Path;
 use std::process::ExitCode;
@@ -39,6 +40,15 @@ pub fn caught(name: &str, all: &[Mutation], place: impl Fn(Mutation) -> Option<S
         true => Ok(line),
         false => Err(line),
     }
+}
+
+/// Whether something was met often enough; a factor below 1 asks for less.
+pub fn enough(name: &str, what: &str, met: usize, least: usize) -> Result<(), String> {
+    println!("  {what}: {met} times");
+    if (met as f64) < least as f64 * factor()?.min(1.0) {
+        return Err(format!("{name}: {what}: fewer than {least} times"));
+    }
+    Ok(())
 }
 
 /// A comparison with the program named: NAME PROGRAM [--mutations].

@@ -17,6 +17,13 @@ pub struct Entry {
 }
 
 impl Entry {
+    /// All zero.
+    pub const ZERO: Entry = Entry {
+        ticket: Ticket(0),
+        due: Slot(0),
+        weight: Weight(0),
+    };
+
     fn of_item(item: &Item) -> Entry {
         Entry {
             ticket: item.ticket.unwrap_or(Ticket(0)),
@@ -43,7 +50,7 @@ impl Second {
         }
         entries[..found.len()].copy_from_slice(&found);
         if self.mutation == Mutation::ListTouchesNext && entries.len() > found.len() {
-            entries[found.len()] = Entry::of_item(&Item::blank(Slot(0)));
+            entries[found.len()] = Entry::ZERO;
         }
         Ok(match self.mutation {
             Mutation::CountOfAllRows => round.rows.len(),

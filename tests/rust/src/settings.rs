@@ -9,7 +9,17 @@ pub fn seed() -> Result<u64, String> {
 
 /// How many times as many drawn cases.
 pub fn factor() -> Result<f64, String> {
-    setting("LIRVEDD_FACTOR", 1.0)
+    factor_or(1.0)
+}
+
+/// The same, where another factor is usual. With none above 0 nothing would be
+/// drawn, and nothing could differ.
+pub fn factor_or(usual: f64) -> Result<f64, String> {
+    let factor = setting("LIRVEDD_FACTOR", usual)?;
+    match factor > 0.0 {
+        true => Ok(factor),
+        false => Err("LIRVEDD_FACTOR: not above 0".to_string()),
+    }
 }
 
 fn setting<T: std::str::FromStr>(name: &str, usual: T) -> Result<T, String> {

@@ -71,7 +71,7 @@ impl Second {
             |byte: u8| byte.is_ascii_hexdigit() && waived(Mutation::LowerCasePayloadWritten);
         let digits = |byte: &u8| digit(*byte, Mutation::None).is_some() || lower(*byte);
         payload.iter().all(digits)
-            && (payload.len().is_multiple_of(2) || waived(Mutation::OddPayloadWritten))
+            && (payload.len() % 2 == 0 || waived(Mutation::OddPayloadWritten))
             && (payload.len() <= PAYLOAD_DIGITS || waived(Mutation::LongPayloadWritten))
     }
 

@@ -4,7 +4,7 @@
 use second::call::{Call, CallName};
 use second::calls::Second;
 use second::compare::kinds::{run, Found, Settings};
-use second::compare::library::{ask, Itself, Library};
+use second::compare::library::Library;
 use second::compare::tally::{Outcome, Tally};
 use second::mutation::Mutation;
 
@@ -14,13 +14,13 @@ const SHORT: Settings = Settings {
     drawn_only: false,
 };
 
-fn compared(library: &mut dyn Library, mutation: Mutation) -> Result<Tally, Found> {
+fn compared(library: &dyn Library, mutation: Mutation) -> Result<Tally, Found> {
     run(library, Second { mutation }, SHORT, |_, _| ())
 }
 
 #[test]
 fn meets_every_outcome() {
-    let Ok(tally) = compared(&mut Itself, Mutation::None) else {
+    let Ok(tally) = compared(&Second::PLAIN, Mutation::None) else {
         panic!("it differs from itself");
     };
     let refusals: [(CallName, &[u8]); 6] = [
@@ -49,7 +49,7 @@ fn meets_every_outcome() {
 #[test]
 fn catches_every_mutation() {
     for mutation in Mutation::shown(CallName::ALL) {
-        assert!(compared(&mut Itself, mutation).is_err(), "{mutation:?}");
+        assert!(compared(&Second::PLAIN, mutation).is_err(), "{mutation:?}");
         assert_eq!(Mutation::named(&mutation.name()), Some(mutation));
     }
 }
@@ -59,38 +59,17 @@ type Change = fn(Call, &mut [u8], u64) -> u64;
 
 struct Wrong(Change);
 
-impl Wrong {
-    fn ask(&self, call: Call, table: &mut [u8]) -> u64 {
-        let reply = ask(&mut Itself, call, table);
-        (self.0)(call, table, reply)
-    }
-}
-
 impl Library for Wrong {
-    fn open(&mut self, last: u32, table: &mut [u8]) -> u64 {
-        self.ask(Call::Open { last }, table)
-    }
-    fn take(&mut self, due: u32, weight: u32, table: &mut [u8]) -> u64 {
-        self.ask(Call::Take { due, weight }, table)
-    }
-    fn send(&mut self, table: &mut [u8]) -> u64 {
-        self.ask(Call::Send, table)
-    }
-    fn mark(&mut self, slot: u32, table: &[u8]) -> u64 {
-        self.ask(Call::Mark { slot }, &mut table.to_vec())
-    }
-    fn total(&mut self, table: &[u8]) -> u64 {
-        self.ask(Call::Total, &mut table.to_vec())
-    }
-    fn substitute(&mut self, ticket: u32, table: &[u8]) -> u64 {
-        self.ask(Call::Substitute { ticket }, &mut table.to_vec())
+    fn ask(&self, call: Call, table: &mut [u8]) -> u64 {
+        let reply = Second::PLAIN.answer(call, table);
+        (self.0)(call, table, reply)
     }
 }
 
 #[test]
 fn catches_wrong_libraries() {
     let unchanged = Wrong(|_, _, reply| reply);
-    assert!(compared(&mut { unchanged }, Mutation::None).is_ok());
+    assert!(compared(&unchanged, Mutation::None).is_ok());
     let wrong: [Change; 5] = [
         // Turns every call down.
         |_, _, _| 3,
@@ -120,9 +99,6 @@ fn catches_wrong_libraries() {
         },
     ];
     for (place, change) in wrong.into_iter().enumerate() {
-        assert!(
-            compared(&mut Wrong(change), Mutation::None).is_err(),
-            "{place}"
-        );
+        assert!(compared(&Wrong(change), Mutation::None).is_err(), "{place}");
     }
 }

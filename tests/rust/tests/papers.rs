@@ -2,7 +2,7 @@
 
 use second::call::Call;
 use second::calls::Second;
-use second::counts::{Slot, Ticket, Weight};
+use second::counts::{Slot, Ticket};
 use second::hand::{calls, shown};
 use second::listing::Entry;
 use second::mutation::Mutation;
@@ -41,14 +41,9 @@ fn frame(ticket: u32) -> Out {
 
 /// The tickets of the plan's rows.
 fn plan(table: &[u8]) -> Vec<u32> {
-    let none = Entry {
-        ticket: Ticket(0),
-        due: Slot(0),
-        weight: Weight(0),
-    };
-    let mut entries = [none; 6];
+    let mut entries = [Entry::ZERO; 6];
     let count = Second::PLAIN.list(table, &mut entries).expect("a plan");
-    assert!(entries[count..].iter().all(|entry| *entry == none));
+    assert!(entries[count..].iter().all(|entry| *entry == Entry::ZERO));
     entries[..count]
         .iter()
         .map(|entry| entry.ticket.0)

@@ -1,9 +1,9 @@
 //! The program stationround, and document 01's sample through it.
 
 use second::calls::Second;
+use second::programs::process;
 use second::station;
-use std::io::Write;
-use std::process::{Command, Stdio};
+use std::path::Path;
 
 const SAMPLE: &str = "000001\n01000000000004\n0100010000000B\n02\n02\n";
 const ANSWER: &str = "00\n0100000001\n0100000002\n02010100000002\n02020000000002\n";
@@ -15,16 +15,9 @@ fn printed(input: &[u8]) -> String {
 
 /// What the program itself prints.
 fn run(input: &[u8]) -> String {
-    let mut child = Command::new(env!("CARGO_BIN_EXE_second_stationround"))
-        .stdin(Stdio::piped())
-        .stdout(Stdio::piped())
-        .spawn()
-        .expect("the program starts");
-    let mut stdin = child.stdin.take().expect("its input");
-    stdin.write_all(input).expect("it reads");
-    drop(stdin);
-    let output = child.wait_with_output().expect("it ends");
-    assert!(output.status.success());
+    let program = Path::new(env!("CARGO_BIN_EXE_second_stationround"));
+    let output = process::run(program, input).expect("it runs");
+    assert_eq!(process::ended_well(&output), Ok(()));
     String::from_utf8(output.stdout).expect("digits")
 }
 

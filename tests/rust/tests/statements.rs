@@ -3,7 +3,7 @@
 
 use second::call::Call;
 use second::calls::Second;
-use second::counts::{Slot, Ticket, Weight};
+use second::counts::Ticket;
 use second::hand::{calls, shown, table};
 use second::listing::Entry;
 use second::mutation::Mutation;
@@ -46,12 +46,7 @@ fn one(text: &str, step: Step, rows: &str) {
 fn plan_and_substitutes_of_the_first() {
     let text = "4; 4:2 1:1 4:20 3:9 0:9 2:2 1:2 3:4";
     let (table, _) = play(text);
-    let none = Entry {
-        ticket: Ticket(0),
-        due: Slot(0),
-        weight: Weight(0),
-    };
-    let mut entries = [none; 8];
+    let mut entries = [Entry::ZERO; 8];
     assert_eq!(Second::PLAIN.list(&table, &mut entries), Ok(5));
     let listed: Vec<u32> = entries[..5].iter().map(|entry| entry.ticket.0).collect();
     assert_eq!(listed, [5, 7, 4, 8, 3]);

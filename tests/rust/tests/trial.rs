@@ -69,7 +69,7 @@ fn ends_at_a_bad_head() {
 fn requests_are_read_back() {
     for kind in KINDS {
         for number in 0..20 {
-            let request = (kind.request)(&mut Draw::new(number), number);
+            let request = (kind.case)(&mut Draw::new(number), number);
             assert_eq!(Request::first(&request.bytes()), Some((request, &[][..])));
         }
     }

@@ -3,8 +3,8 @@
 
 use second::call::CallName;
 use second::calls::Second;
-use second::compare::draw::Draw;
-use second::ending::{caught, with_program, Ended};
+use second::ending::{caught, enough, with_program, Ended};
+use second::kind::counted;
 use second::mutation::Mutation;
 use second::programs::files::KINDS;
 use second::programs::pipes::{closed, paced};
@@ -94,15 +94,10 @@ fn compare(program: &Path) -> Ended {
     }
     least(&runs)?;
     let pipes = pipes(program)?;
-    let times = factor()?;
-    let kinds = KINDS
-        .iter()
-        .map(|kind| format!("{} {}", kind.name, kind.files(times)));
-    let kinds: Vec<String> = kinds.collect();
     Ok(format!(
         "streams: {} files agree ({}); {pipes} times in a pipe",
         runs.len(),
-        kinds.join(", ")
+        counted(KINDS, factor()?)
     ))
 }
 
@@ -112,9 +107,8 @@ fn runs(program: &Path) -> Result<Vec<Run>, String> {
     let watch = Watch::default();
     let mut runs = Vec::new();
     for (place, kind) in KINDS.iter().enumerate() {
-        for number in 0..kind.files(factor) {
-            let mut draw = Draw::for_case(seed, place as u64, number);
-            let file = (kind.file)(&mut draw, number);
+        for (number, mut draw) in kind.draws(place, seed, factor) {
+            let file = (kind.case)(&mut draw, number);
             let ended = run(program, &file).map_err(|error| error.to_string())?;
             watch.done();
             let name = kind.name;
@@ -153,18 +147,12 @@ fn difference(run: &Run, wanted: &str) -> String {
 
 /// Every reply was met often enough.
 fn least(runs: &[Run]) -> Result<(), String> {
-    let factor = factor()?.min(1.0);
     for (start, least) in LEAST {
         let replies = runs
             .iter()
             .flat_map(|run| run.output.split(|byte| *byte == b'\n'));
-        let met = replies
-            .filter(|reply| reply.starts_with(start.as_bytes()))
-            .count();
-        println!("  {start}.. {met} times");
-        if (met as f64) < *least as f64 * factor {
-            return Err(format!("streams: fewer than {least}"));
-        }
+        let met = replies.filter(|reply| reply.starts_with(start.as_bytes()));
+        enough("streams", &format!("{start}.."), met.count(), *least)?;
     }
     Ok(())
 }

@@ -3,11 +3,11 @@
 
 use second::call::CallName;
 use second::calls::Second;
-use second::compare::draw::Draw;
-use second::ending::{caught, with_program, Ended};
+use second::ending::{caught, enough, with_program, Ended};
+use second::kind::counted;
 use second::mutation::Mutation;
 use second::programs::process::{ended_well, run, Watch};
-use second::programs::requests::{Kind, KINDS};
+use second::programs::requests::KINDS;
 use second::programs::trial::Request;
 use second::settings::{factor, seed};
 use std::path::Path;
@@ -57,52 +57,51 @@ fn compare(program: &Path) -> Ended {
         }
     }
     least(&tried)?;
-    let of = |kind: &Kind| tried.iter().filter(|one| one.kind == kind.name).count();
-    let kinds = KINDS.iter();
-    let kinds = kinds.map(|kind| format!("{} {}", kind.name, of(kind)));
-    let kinds: Vec<String> = kinds.collect();
-    let count = tried.len();
-    Ok(format!("trials: {count} agree ({})", kinds.join(", ")))
+    let kinds = counted(KINDS, factor()?);
+    Ok(format!("trials: {} agree ({kinds})", tried.len()))
 }
 
-/// Runs the program once for each kind, on all of its requests. Where the
-/// outcomes have another length than they should, the last ones are cut short.
+/// Runs the program once for each kind, on all of its requests.
 fn tried(program: &Path) -> Result<Vec<Tried>, String> {
     let (seed, factor) = (seed()?, factor()?);
     let watch = Watch::default();
     let mut tried = Vec::new();
     for (place, kind) in KINDS.iter().enumerate() {
-        let drawn = |number| {
-            let mut draw = Draw::for_case(seed, place as u64, number);
-            (kind.request)(&mut draw, number)
-        };
-        let count = (kind.requests as f64 * factor).ceil() as u64;
-        let requests: Vec<Request> = (0..count).map(drawn).collect();
+        let draws = kind.draws(place, seed, factor);
+        let requests = draws.map(|(number, mut draw)| (kind.case)(&mut draw, number));
+        let requests: Vec<Request> = requests.collect();
         let input: Vec<u8> = requests.iter().flat_map(Request::bytes).collect();
         let ended = run(program, &input).map_err(|error| error.to_string())?;
         watch.done();
         ended_well(&ended).map_err(|said| format!("{}: {said}", kind.name))?;
-        let mut rest = ended.stdout.as_slice();
-        for (number, request) in (0..).zip(requests) {
-            let length = request.outcome(Second::PLAIN).len();
-            let (outcome, after) = rest.split_at(length.min(rest.len()));
-            rest = after;
-            tried.push(Tried {
-                kind: kind.name,
-                number,
-                request,
-                outcome: outcome.to_vec(),
-            });
-        }
-        if !rest.is_empty() {
-            return Err(format!(
-                "trials: {}: {} bytes too many",
-                kind.name,
-                rest.len()
-            ));
-        }
+        tried.extend(parted(kind.name, requests, &ended.stdout)?);
     }
     Ok(tried)
+}
+
+/// Gives each request its part of what was printed, as long as it should be.
+/// Where there is too little, the last parts are cut short.
+fn parted(
+    kind: &'static str,
+    requests: Vec<Request>,
+    mut printed: &[u8],
+) -> Result<Vec<Tried>, String> {
+    let mut tried = Vec::new();
+    for (number, request) in (0..).zip(requests) {
+        let length = request.outcome(Second::PLAIN).len();
+        let (outcome, rest) = printed.split_at(length.min(printed.len()));
+        printed = rest;
+        tried.push(Tried {
+            kind,
+            number,
+            request,
+            outcome: outcome.to_vec(),
+        });
+    }
+    match printed.len() {
+        0 => Ok(tried),
+        more => Err(format!("trials: {kind}: {more} bytes too many")),
+    }
 }
 
 fn difference(one: &Tried, wanted: &[u8]) -> String {
@@ -126,14 +125,11 @@ fn difference(one: &Tried, wanted: &[u8]) -> String {
 
 /// Every outcome was met often enough.
 fn least(tried: &[Tried]) -> Result<(), String> {
-    let factor = factor()?.min(1.0);
     for (kind, refusal, least) in LEAST {
         let met = |one: &&Tried| one.request.bytes()[0] == *kind && one.outcome[0] == *refusal;
         let met = tried.iter().filter(met).count();
-        println!("  kind {kind}, refusal {refusal}: {met}");
-        if (met as f64) < *least as f64 * factor {
-            return Err(format!("trials: fewer than {least}"));
-        }
+        let what = format!("kind {kind}, refusal {refusal}");
+        enough("trials", &what, met, *least)?;
     }
     Ok(())
 }

@@ -2,13 +2,14 @@
 
 use crate::call::Call;
 use crate::calls::Second;
-use crate::compare::library::{ask, Library};
+use crate::compare::library::Library;
 use crate::compare::store::Store;
 use crate::compare::tally::Tally;
+use crate::table::{row_at, HEAD, ROW};
 use std::fmt;
 
 pub struct Bench<'a> {
-    library: &'a mut dyn Library,
+    library: &'a dyn Library,
     second: Second,
     store: Store,
     before: Vec<u8>,
@@ -31,7 +32,7 @@ pub struct Difference {
 pub type Agreed<T> = Result<T, Box<Difference>>;
 
 impl<'a> Bench<'a> {
-    pub fn new(library: &'a mut dyn Library, second: Second) -> Bench<'a> {
+    pub fn new(library: &'a dyn Library, second: Second) -> Bench<'a> {
         Bench {
             library,
             second,
@@ -47,7 +48,7 @@ impl<'a> Bench<'a> {
         self.before.clear();
         self.before.extend_from_slice(table);
         let lent = self.store.lend(table, self.agreed as usize);
-        let library = ask(self.library, call, lent);
+        let library = self.library.ask(call, lent);
         let second = self.second.answer(call, table);
         let what = self.difference(library, second, table);
         if let Some(what) = what {
@@ -98,8 +99,8 @@ impl fmt::Display for Difference {
             self.library, self.second
         )?;
         write!(out, "table before, {} bytes:", self.before.len())?;
-        for (at, byte) in self.before.iter().take(16 + 24 * 20).enumerate() {
-            let starts = at == 0 || at >= 16 && (at - 16) % 24 == 0;
+        for (at, byte) in self.before.iter().take(row_at(20)).enumerate() {
+            let starts = at == 0 || at >= HEAD && (at - HEAD) % ROW == 0;
             write!(out, "{}{byte:02X}", if starts { "\n  " } else { " " })?;
         }
         Ok(())

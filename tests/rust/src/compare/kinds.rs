@@ -6,52 +6,24 @@ use crate::compare::draw::Draw;
 use crate::compare::library::Library;
 use crate::compare::tally::Tally;
 use crate::compare::{bytes, damage, extremes, fullest, hands, large, lengths, lists, sound};
+use crate::kind::Kind;
 
-/// Runs one case.
-type Run = fn(&mut Bench, &mut Draw, u64) -> Agreed<()>;
+/// Asks all of one case.
+pub type Case = fn(&mut Bench, &mut Draw, u64) -> Agreed<()>;
 
-pub struct Kind {
-    pub name: &'static str,
-    /// How many cases there are.
-    pub cases: u64,
-    /// Whether the factor makes them more; otherwise they are all there are.
-    pub grows: bool,
-    run: Run,
-}
-
-pub const KINDS: &[Kind] = &[
-    fixed("hand", hands::CASES, hands::run),
-    fixed("lengths", lengths::CASES, lengths::run),
-    fixed("extremes", extremes::CASES, extremes::run),
-    fixed("bytes", bytes::CASES, bytes::run),
-    drawn("damaged", 120_000, damage::run),
-    drawn("sound", 120_000, sound::run),
-    drawn("lists", 4_000, lists::run),
-    drawn("large", 200, large::run),
+pub const KINDS: &[Kind<Case>] = &[
+    Kind::fixed("hand", hands::CASES, hands::run),
+    Kind::fixed("lengths", lengths::CASES, lengths::run),
+    Kind::fixed("extremes", extremes::CASES, extremes::run),
+    Kind::fixed("bytes", bytes::CASES, bytes::run),
+    Kind::drawn("damaged", 120_000, damage::run),
+    Kind::drawn("sound", 120_000, sound::run),
+    Kind::drawn("lists", 4_000, lists::run),
+    Kind::drawn("large", 200, large::run),
 ];
 
 /// What the long run has beside them.
-pub const FULLEST: &[Kind] = &[drawn("fullest", 10, fullest::run)];
-
-const fn fixed(name: &'static str, cases: u64, run: Run) -> Kind {
-    let grows = false;
-    Kind {
-        name,
-        cases,
-        grows,
-        run,
-    }
-}
-
-const fn drawn(name: &'static str, cases: u64, run: Run) -> Kind {
-    let grows = true;
-    Kind {
-        name,
-        cases,
-        grows,
-        run,
-    }
-}
+pub const FULLEST: &[Kind<Case>] = &[Kind::drawn("fullest", 10, fullest::run)];
 
 /// What a run is told.
 #[derive(Clone, Copy)]
@@ -69,40 +41,30 @@ pub struct Found {
     pub difference: Box<Difference>,
 }
 
-impl Kind {
-    fn cases(&self, settings: Settings) -> u64 {
-        match self.grows {
-            true => (self.cases as f64 * settings.factor).ceil() as u64,
-            false if settings.drawn_only => 0,
-            false => self.cases,
-        }
-    }
-}
-
 /// Runs every kind, telling the agreed calls of each, up to a difference.
 pub fn run(
-    library: &mut dyn Library,
+    library: &dyn Library,
     second: Second,
     settings: Settings,
-    tell: impl FnMut(&Kind, u64),
+    tell: impl FnMut(&Kind<Case>, u64),
 ) -> Result<Tally, Found> {
     run_kinds(KINDS, library, second, settings, tell)
 }
 
 /// The same for the kinds given.
 pub fn run_kinds(
-    kinds: &[Kind],
-    library: &mut dyn Library,
+    kinds: &[Kind<Case>],
+    library: &dyn Library,
     second: Second,
     settings: Settings,
-    mut tell: impl FnMut(&Kind, u64),
+    mut tell: impl FnMut(&Kind<Case>, u64),
 ) -> Result<Tally, Found> {
     let mut bench = Bench::new(library, second);
-    for (number, kind) in kinds.iter().enumerate() {
+    let places = kinds.iter().enumerate();
+    for (place, kind) in places.filter(|(_, kind)| kind.is_drawn || !settings.drawn_only) {
         let before = bench.agreed;
-        for case in 0..kind.cases(settings) {
-            let mut draw = Draw::for_case(settings.seed, number as u64, case);
-            let ended = (kind.run)(&mut bench, &mut draw, case);
+        for (case, mut draw) in kind.draws(place, settings.seed, settings.factor) {
+            let ended = (kind.case)(&mut bench, &mut draw, case);
             ended.map_err(|difference| Found {
                 kind: kind.name,
                 case,

@@ -8,14 +8,7 @@ use crate::compare::tables::{round, table, Size};
 use crate::hand;
 
 pub fn run(bench: &mut Bench, draw: &mut Draw, case: u64) -> Agreed<()> {
-    let mut table = match case % 4 {
-        0 => chain(draw.between(4, 1_024)),
-        _ => {
-            let last = *draw.pick(&[300, 1_023, 1_024, 2_000, 4_095]);
-            let round = round(draw, Size { rows: 1_024, last }, 1_024);
-            table(&round, 1_024)
-        }
-    };
+    let mut table = drawn(draw, case);
     for _ in 0..4 {
         let slot = draw.between(0, 4_095);
         bench.check_aside(Call::Mark { slot }, &table)?;
@@ -31,8 +24,18 @@ pub fn run(bench: &mut Bench, draw: &mut Draw, case: u64) -> Agreed<()> {
     Ok(())
 }
 
+/// A table of 1,024 rows, once in four times one with a long leap.
+pub fn drawn(draw: &mut Draw, number: u64) -> Vec<u8> {
+    if number % 4 == 0 {
+        return chain(draw.between(4, 1_024));
+    }
+    let last = *draw.pick(&[300, 1_023, 1_024, 2_000, 4_095]);
+    let round = round(draw, Size { rows: 1_024, last }, 1_024);
+    table(&round, 1_024)
+}
+
 /// A round whose first sending shifts as many members as can be.
-pub fn chain(frames: u32) -> Vec<u8> {
+fn chain(frames: u32) -> Vec<u8> {
     let last = frames - 2;
     let mut rows = vec![(1, 0, 1, false)];
     for due in 1..=last {

@@ -6,7 +6,7 @@ use std::collections::BTreeMap;
 
 #[derive(Default, Clone)]
 pub struct Tally {
-    counts: BTreeMap<(usize, Outcome), u64>,
+    counts: BTreeMap<(CallName, Outcome), u64>,
 }
 
 /// What a packed reply says, without its numbers.
@@ -22,10 +22,8 @@ pub enum Outcome {
 
 impl Tally {
     pub fn add(&mut self, call: CallName, reply: u64) {
-        *self
-            .counts
-            .entry((call as usize, outcome(call, reply)))
-            .or_default() += 1;
+        let met = (call, outcome(call, reply));
+        *self.counts.entry(met).or_default() += 1;
     }
 
     /// Calls in all.
@@ -34,20 +32,14 @@ impl Tally {
     }
 
     pub fn met(&self, call: CallName, outcome: Outcome) -> u64 {
-        self.counts
-            .get(&(call as usize, outcome))
-            .copied()
-            .unwrap_or(0)
+        self.counts.get(&(call, outcome)).copied().unwrap_or(0)
     }
 
     /// One line for each call that was asked.
     pub fn lines(&self) -> Vec<String> {
         let mut lines = Vec::new();
         for call in CallName::ALL {
-            let own = self
-                .counts
-                .iter()
-                .filter(|((place, _), _)| *place == *call as usize);
+            let own = self.counts.iter().filter(|((name, _), _)| name == call);
             let told: Vec<String> = own
                 .map(|((_, outcome), count)| format!("{} {count}", said(*outcome)))
                 .collect();

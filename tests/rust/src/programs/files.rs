@@ -3,84 +3,47 @@
 use crate::call::Call;
 use crate::compare::draw::Draw;
 use crate::hand;
+use crate::kind::Kind;
 use crate::programs::noise::{damage, long_line, noise, odd_line};
 use crate::programs::rounds::{by_hand, leaps, line, lines, round, Drawn};
 use crate::round::Round;
 
 /// Draws one file; the number says which of its kind.
-type File = fn(&mut Draw, u64) -> Vec<u8>;
+pub type File = fn(&mut Draw, u64) -> Vec<u8>;
 
-pub struct Kind {
-    pub name: &'static str,
-    /// How many files there are.
-    pub files: u64,
-    /// Whether the factor makes them more; otherwise they are all there are.
-    pub grows: bool,
-    pub file: File,
-}
-
-pub const KINDS: &[Kind] = &[
-    fixed("by hand", hand::ROUNDS.len() as u64, |_, number| {
+pub const KINDS: &[Kind<File>] = &[
+    Kind::fixed("by hand", hand::ROUNDS.len() as u64, |_, number| {
         by_hand(hand::ROUNDS[number as usize].1)
     }),
-    fixed("cut at every length", PREFIXES, prefix),
-    drawn("valid", 1_200, valid),
-    drawn("leaps", 1_000, |draw, _| leaps(draw)),
-    drawn("reopened", 400, |draw, _| {
+    Kind::fixed("cut at every length", PREFIXES, prefix),
+    Kind::drawn("valid", 1_200, valid),
+    Kind::drawn("leaps", 1_000, |draw, _| leaps(draw)),
+    Kind::drawn("reopened", 400, |draw, _| {
         let (start, lines) = (Drawn::reopened(draw), lines(draw));
         round(draw, start, lines)
     }),
-    drawn("damaged", 1_200, |draw, number| {
+    Kind::drawn("damaged", 1_200, |draw, number| {
         let mut file = valid(draw, number);
         damage(draw, &mut file);
         file
     }),
-    drawn("cut", 400, |draw, number| {
+    Kind::drawn("cut", 400, |draw, number| {
         let mut file = valid(draw, number);
         file.truncate(draw.below(file.len() as u64 + 1) as usize);
         file
     }),
-    drawn("odd lines", 800, |draw, _| {
+    Kind::drawn("odd lines", 800, |draw, _| {
         let (start, few) = (Drawn::new(draw), draw.between(0, 6));
         let mut file = round(draw, start, few);
         file.extend(odd_line(draw));
         file.extend_from_slice(b"02\n");
         file
     }),
-    drawn("random bytes", 600, |draw, _| noise(draw)),
-    drawn("long lines", 60, long),
-    drawn("long files", 12, many_lines),
-    drawn("full tables", 24, full),
+    Kind::drawn("random bytes", 600, |draw, _| noise(draw)),
+    Kind::drawn("long lines", 60, long),
+    Kind::drawn("long files", 12, many_lines),
+    Kind::drawn("full tables", 24, full),
 ];
-
-const fn fixed(name: &'static str, files: u64, file: File) -> Kind {
-    let grows = false;
-    Kind {
-        name,
-        files,
-        grows,
-        file,
-    }
-}
-
-const fn drawn(name: &'static str, files: u64, file: File) -> Kind {
-    let grows = true;
-    Kind {
-        name,
-        files,
-        grows,
-        file,
-    }
-}
-
-impl Kind {
-    pub fn files(&self, factor: f64) -> u64 {
-        match self.grows {
-            true => (self.files as f64 * factor).ceil() as u64,
-            false => self.files,
-        }
-    }
-}
 
 fn valid(draw: &mut Draw, _: u64) -> Vec<u8> {
     let (start, lines) = (Drawn::new(draw), lines(draw));

@@ -3,12 +3,12 @@
 
 use crate::calls::Second;
 use crate::command::END;
-use crate::programs::process::{written, PATIENCE};
+use crate::programs::process::{ended_well, started, written, PATIENCE};
 use crate::station::Station;
-use std::io::{BufRead, BufReader, Read, Write};
+use std::io::{BufRead, BufReader, Write};
 use std::os::unix::process::ExitStatusExt;
 use std::path::Path;
-use std::process::{Child, Command, ExitStatus, Stdio};
+use std::process::{Child, Command, Output};
 use std::sync::mpsc::{channel, Receiver};
 use std::thread::{sleep, spawn};
 use std::time::{Duration, Instant};
@@ -19,7 +19,7 @@ const PIPE_SIGNAL: i32 = 13;
 /// Writes the input in parts. The replies to all lines that are whole by then
 /// have to come before the next part is written.
 pub fn paced(program: &Path, input: &[u8], parts: &[usize]) -> Result<(), String> {
-    let mut child = started(Command::new(program).stdout(Stdio::piped()))?;
+    let mut child = started(&mut Command::new(program)).map_err(|error| error.to_string())?;
     let mut stdin = child.stdin.take().ok_or("no input")?;
     let replies = replies_of(&mut child)?;
     let mut station = Station::new(Second::PLAIN);
@@ -44,11 +44,10 @@ pub fn paced(program: &Path, input: &[u8], parts: &[usize]) -> Result<(), String
     if goes_on && done < input.len() {
         expect(&replies, &mut station, &input[done..])?;
     }
-    match replies.recv_timeout(PATIENCE) {
-        Ok(more) => Err(format!("a reply too many: {more:?}")),
-        Err(_) => Ok(()),
-    }?;
-    ended(&mut child).map(|_| ())
+    if let Ok(more) = replies.recv_timeout(PATIENCE) {
+        return Err(format!("a reply too many: {more:?}"));
+    }
+    ended_well(&ended(child)?)
 }
 
 /// Waits for the reply to a line; whether the program goes on after it.
@@ -90,44 +89,35 @@ pub fn closed(program: &Path) -> Result<usize, String> {
     let input = "02\n".repeat(30_000);
     for (words, signal) in CLOSED {
         let mut shell = Command::new("sh");
-        let mut child = started(
-            shell
-                .args(["-c", words])
-                .arg(program)
-                .stdout(Stdio::piped()),
-        )?;
+        let mut child =
+            started(shell.args(["-c", words]).arg(program)).map_err(|error| error.to_string())?;
         drop(child.stdout.take());
         let mut stdin = child.stdin.take().ok_or("no input")?;
         written(stdin.write_all(input.as_bytes())).map_err(|error| error.to_string())?;
-        let status = ended(&mut child).map_err(|told| format!("with its output closed {told}"))?;
-        let quiet = status.code().is_some() || *signal && status.signal() == Some(PIPE_SIGNAL);
-        if !quiet {
-            return Err(format!("with its output closed it ended with {status}"));
-        }
-        let mut said = String::new();
-        let mut errors = child.stderr.take().ok_or("no errors")?;
-        errors
-            .read_to_string(&mut said)
-            .map_err(|error| error.to_string())?;
-        if !said.is_empty() {
-            return Err(format!("with its output closed it says {said}"));
-        }
+        let output = ended(child).map_err(|told| format!("with its output closed {told}"))?;
         drop(stdin);
+        let status = output.status;
+        let quiet = status.code().is_some() || *signal && status.signal() == Some(PIPE_SIGNAL);
+        if !quiet || !output.stderr.is_empty() {
+            let said = String::from_utf8_lossy(&output.stderr);
+            return Err(format!(
+                "with its output closed it ended with {status}: {said}"
+            ));
+        }
     }
     Ok(CLOSED.len())
 }
 
-fn started(command: &mut Command) -> Result<Child, String> {
-    let piped = command.stdin(Stdio::piped()).stderr(Stdio::piped());
-    piped.spawn().map_err(|error| error.to_string())
-}
-
 /// Waits for the program's end.
-fn ended(child: &mut Child) -> Result<ExitStatus, String> {
+fn ended(mut child: Child) -> Result<Output, String> {
     let began = Instant::now();
     while began.elapsed() < PATIENCE {
-        if let Some(status) = child.try_wait().map_err(|error| error.to_string())? {
-            return Ok(status);
+        if child
+            .try_wait()
+            .map_err(|error| error.to_string())?
+            .is_some()
+        {
+            return child.wait_with_output().map_err(|error| error.to_string());
         }
         sleep(Duration::from_millis(1));
     }

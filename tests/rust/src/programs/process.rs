@@ -2,7 +2,7 @@
 
 use std::io::{self, ErrorKind, Write};
 use std::path::Path;
-use std::process::{exit, Command, Output, Stdio};
+use std::process::{exit, Child, Command, Output, Stdio};
 use std::sync::atomic::{AtomicU64, Ordering};
 use std::sync::Arc;
 use std::thread;
@@ -11,13 +11,15 @@ use std::time::Duration;
 /// How long to wait for a program before it counts as hanging.
 pub const PATIENCE: Duration = Duration::from_secs(20);
 
+/// Starts it with pipes for its input, its output and what it says besides.
+pub fn started(command: &mut Command) -> io::Result<Child> {
+    let piped = command.stdin(Stdio::piped()).stdout(Stdio::piped());
+    piped.stderr(Stdio::piped()).spawn()
+}
+
 /// The program's whole output, its exit status and what it says besides.
 pub fn run(program: &Path, input: &[u8]) -> io::Result<Output> {
-    let mut child = Command::new(program)
-        .stdin(Stdio::piped())
-        .stdout(Stdio::piped())
-        .stderr(Stdio::piped())
-        .spawn()?;
+    let mut child = started(&mut Command::new(program))?;
     let mut stdin = child.stdin.take().ok_or(ErrorKind::BrokenPipe)?;
     thread::scope(|scope| {
         let writer = scope.spawn(move || written(stdin.write_all(input)));

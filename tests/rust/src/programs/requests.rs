@@ -5,10 +5,11 @@ use crate::command::{Command, TAKE_DIGITS};
 use crate::compare::damage::damaged;
 use crate::compare::draw::Draw;
 use crate::compare::extremes::NUMBERS;
-use crate::compare::large::chain;
+use crate::compare::large;
 use crate::compare::lengths;
-use crate::compare::tables::{self, drawn, size, Size};
-use crate::counts::{Slot, Ticket, Weight};
+use crate::compare::tables::{drawn, size};
+use crate::counts::{Slot, Weight};
+use crate::kind::Kind;
 use crate::listing::Entry;
 use crate::programs::noise::{damage, long_line, noise, odd_line};
 use crate::programs::rounds::{payload, round, Drawn};
@@ -16,37 +17,33 @@ use crate::programs::trial::{Request, MOST_ROOM, MOST_SIZE};
 use crate::station::Station;
 
 /// Draws one request; the number says which of its kind.
-type Drawing = fn(&mut Draw, u64) -> Request;
+pub type Drawing = fn(&mut Draw, u64) -> Request;
 
-pub struct Kind {
-    pub name: &'static str,
-    /// How many there are, made more by the factor.
-    pub requests: u64,
-    pub request: Drawing,
-}
-
-pub const KINDS: &[Kind] = &[
-    kind("sound", 3_000, |draw, _| {
+pub const KINDS: &[Kind<Drawing>] = &[
+    Kind::drawn("sound", 3_000, |draw, _| {
         let size = size(draw);
         let table = drawn(draw, size).0;
         listing(draw, table)
     }),
-    kind("reachable", 150, reachable),
-    kind("large", 60, large),
-    kind("damaged", 1_500, |draw, number| {
+    Kind::drawn("reachable", 150, reachable),
+    Kind::drawn("large", 60, |draw, number| {
+        let table = large::drawn(draw, number);
+        listing(draw, table)
+    }),
+    Kind::drawn("damaged", 1_500, |draw, number| {
         let table = damaged(draw, number).table;
         listing(draw, table)
     }),
-    kind("lengths", lengths::CASES, |draw, number| {
+    Kind::drawn("lengths", lengths::CASES, |draw, number| {
         let length = lengths::length(number % lengths::CASES);
         listing(draw, lengths::opened(length))
     }),
-    kind("written", 4_000, writing),
-    kind("read", 3_000, |draw, _| Request::Read {
+    Kind::drawn("written", 4_000, writing),
+    Kind::drawn("read", 3_000, |draw, _| Request::Read {
         line: good_line(draw),
     }),
-    kind("read damaged", 3_000, broken),
-    kind("read long", 60, |draw, _| {
+    Kind::drawn("read damaged", 3_000, broken),
+    Kind::drawn("read long", 60, |draw, _| {
         let length = draw.between(60, MOST_SIZE as u32) as usize;
         Request::Read {
             line: long_line(draw, length),
@@ -54,22 +51,9 @@ pub const KINDS: &[Kind] = &[
     }),
 ];
 
-const fn kind(name: &'static str, requests: u64, request: Drawing) -> Kind {
-    Kind {
-        name,
-        requests,
-        request,
-    }
-}
-
 /// A listing with a room at or near what it needs.
 fn listing(draw: &mut Draw, table: Vec<u8>) -> Request {
-    let blank = Entry {
-        ticket: Ticket(0),
-        due: Slot(0),
-        weight: Weight(0),
-    };
-    let mut entries = [blank; MOST_ROOM];
+    let mut entries = [Entry::ZERO; MOST_ROOM];
     let count = Second::PLAIN.list(&table, &mut entries).unwrap_or(0);
     let room = near(draw, count, table.len() / 24);
     Request::List { table, room }
@@ -97,16 +81,6 @@ fn reachable(draw: &mut Draw, _: u64) -> Request {
         station.reply(line);
     }
     listing(draw, station.table)
-}
-
-fn large(draw: &mut Draw, number: u64) -> Request {
-    if number.is_multiple_of(4) {
-        let frames = draw.between(4, 1_024);
-        return listing(draw, chain(frames));
-    }
-    let last = *draw.pick(&[300, 1_023, 1_024, 2_000, 4_095]);
-    let round = tables::round(draw, Size { rows: 1_024, last }, 1_024);
-    listing(draw, tables::table(&round, 1_024))
 }
 
 fn writing(draw: &mut Draw, _: u64) -> Request {

@@ -1,42 +1,45 @@
-//! The library's archive through its C boundary. A slice crosses as a pointer
-//! and a length.
+//! The library's archive, where LIRVEDD_ARCHIVE named one when this was built.
 
 use second::compare::library::Library;
 
-extern "C" {
-    fn lirvedd_open(last: u32, table: *mut u8, length: usize) -> u64;
-    fn lirvedd_take(due: u32, weight: u32, table: *mut u8, length: usize) -> u64;
-    fn lirvedd_send(table: *mut u8, length: usize) -> u64;
-    fn lirvedd_mark(slot: u32, table: *const u8, length: usize) -> u64;
-    fn lirvedd_total(table: *const u8, length: usize) -> u64;
-    fn lirvedd_substitute(ticket: u32, table: *const u8, length: usize) -> u64;
+pub fn linked() -> Option<Box<dyn Library>> {
+    #[cfg(archive)]
+    return Some(Box::new(boundary::Archive));
+    #[cfg(not(archive))]
+    None
 }
 
-pub struct Archive;
+/// Its C boundary: a slice crosses as a pointer and a length.
+#[cfg(archive)]
+mod boundary {
+    use second::call::Call;
+    use second::compare::library::Library;
 
-// Each call lends exactly the slice's bytes for its own duration.
-impl Library for Archive {
-    fn open(&mut self, last: u32, table: &mut [u8]) -> u64 {
-        unsafe { lirvedd_open(last, table.as_mut_ptr(), table.len()) }
+    extern "C" {
+        fn lirvedd_open(last: u32, table: *mut u8, length: usize) -> u64;
+        fn lirvedd_take(due: u32, weight: u32, table: *mut u8, length: usize) -> u64;
+        fn lirvedd_send(table: *mut u8, length: usize) -> u64;
+        fn lirvedd_mark(slot: u32, table: *const u8, length: usize) -> u64;
+        fn lirvedd_total(table: *const u8, length: usize) -> u64;
+        fn lirvedd_substitute(ticket: u32, table: *const u8, length: usize) -> u64;
     }
 
-    fn take(&mut self, due: u32, weight: u32, table: &mut [u8]) -> u64 {
-        unsafe { lirvedd_take(due, weight, table.as_mut_ptr(), table.len()) }
-    }
+    pub struct Archive;
 
-    fn send(&mut self, table: &mut [u8]) -> u64 {
-        unsafe { lirvedd_send(table.as_mut_ptr(), table.len()) }
-    }
-
-    fn mark(&mut self, slot: u32, table: &[u8]) -> u64 {
-        unsafe { lirvedd_mark(slot, table.as_ptr(), table.len()) }
-    }
-
-    fn total(&mut self, table: &[u8]) -> u64 {
-        unsafe { lirvedd_total(table.as_ptr(), table.len()) }
-    }
-
-    fn substitute(&mut self, ticket: u32, table: &[u8]) -> u64 {
-        unsafe { lirvedd_substitute(ticket, table.as_ptr(), table.len()) }
+    impl Library for Archive {
+        fn ask(&self, call: Call, table: &mut [u8]) -> u64 {
+            let (lent, length) = (table.as_mut_ptr(), table.len());
+            // Each call is lent exactly the slice's bytes, for its own duration.
+            unsafe {
+                match call {
+                    Call::Open { last } => lirvedd_open(last, lent, length),
+                    Call::Take { due, weight } => lirvedd_take(due, weight, lent, length),
+                    Call::Send => lirvedd_send(lent, length),
+                    Call::Mark { slot } => lirvedd_mark(slot, lent, length),
+                    Call::Total => lirvedd_total(lent, length),
+                    Call::Substitute { ticket } => lirvedd_substitute(ticket, lent, length),
+                }
+            }
+        }
     }
 }

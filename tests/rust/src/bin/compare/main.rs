@@ -1,6 +1,5 @@
 //! Compares the library's archive with the second implementation.
 
-#[cfg(archive)]
 mod archive;
 mod options;
 
@@ -8,7 +7,6 @@ use options::{Job, Options};
 use second::call::CallName;
 use second::calls::Second;
 use second::compare::kinds::{run, Settings};
-use second::compare::library::{Itself, Library};
 use second::ending::{caught, told, Ended};
 use second::mutation::Mutation;
 use std::process::ExitCode;
@@ -22,34 +20,20 @@ fn main() -> ExitCode {
         }
     };
     told(match options.job {
-        Job::Compare => compare(options, Mutation::None),
-        Job::Mutation(mutation) => compare(options, mutation),
+        Job::Compare(mutation) => compare(&options, mutation),
         Job::Mutations => caught("compare", &Mutation::shown(CallName::ALL), |mutation| {
-            caught_at(options, mutation)
+            caught_at(&options, mutation)
         }),
     })
 }
 
-/// The archive, or the second implementation when there is none or it is
-/// asked for.
-fn library(options: Options) -> (Box<dyn Library>, &'static str) {
-    #[cfg(archive)]
-    if !options.itself {
-        return (Box::new(archive::Archive), "the archive");
-    }
-    let _ = options;
-    (Box::new(Itself), "itself")
-}
-
-fn compare(options: Options, mutation: Mutation) -> Ended {
-    let (mut library, name) = library(options);
-    let settings = options.settings;
+fn compare(options: &Options, mutation: Mutation) -> Ended {
+    let (library, settings) = (options.library.as_ref(), options.settings);
     println!(
-        "compare: with {name}, seed {}, factor {}",
-        settings.seed, settings.factor
+        "compare: with {}, seed {}, factor {}",
+        options.name, settings.seed, settings.factor
     );
-    let second = Second { mutation };
-    let ended = run(library.as_mut(), second, settings, |kind, agreed| {
+    let ended = run(library, Second { mutation }, settings, |kind, agreed| {
         println!("  {}: {agreed} cases", kind.name);
     });
     match ended {
@@ -66,14 +50,14 @@ fn compare(options: Options, mutation: Mutation) -> Ended {
 
 /// Where a fault is caught. A fault in planning must be caught by the drawn
 /// inputs alone too.
-fn caught_at(options: Options, mutation: Mutation) -> Option<String> {
-    let (mut library, name) = library(options);
-    let mut place = |drawn_only| {
+fn caught_at(options: &Options, mutation: Mutation) -> Option<String> {
+    let (library, name) = (options.library.as_ref(), options.name);
+    let place = |drawn_only| {
         let settings = Settings {
             drawn_only,
             ..options.settings
         };
-        let ended = run(library.as_mut(), Second { mutation }, settings, |_, _| ());
+        let ended = run(library, Second { mutation }, settings, |_, _| ());
         ended
             .err()
             .map(|found| format!("{} {}", found.kind, found.case))

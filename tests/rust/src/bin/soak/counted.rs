@@ -1,10 +1,11 @@
 //! A library that counts what is asked of it: by kind of input, by size of
 //! table, and by outcome.
 
-use second::call::CallName;
+use second::call::Call;
 use second::compare::library::Library;
 use second::compare::tally::Tally;
-use second::table::row_at;
+use second::mutation::Mutation;
+use second::table::{row_at, rows_of};
 use std::cell::RefCell;
 use std::collections::BTreeMap;
 use std::fmt::Display;
@@ -33,6 +34,16 @@ pub struct Counts {
 }
 
 impl Counts {
+    /// One call more, by the table it was lent and the reply.
+    fn add(&mut self, call: Call, table: &[u8], reply: u64) {
+        self.sizes[size(table.len())] += 1;
+        self.outcomes.add(call.name(), reply);
+        let fullest = table.len() == row_at(1_024) && table[2..4] == [0xFF, 0x0F];
+        if call == Call::Send && reply & 0xFF == 0 && fullest {
+            self.fullest += 1;
+        }
+    }
+
     /// What was counted since the last kind ended belongs to this one.
     pub fn end_of(&mut self, kind: &'static str) {
         let own = self.kinds.entry(kind).or_default();
@@ -76,58 +87,17 @@ pub struct Counted<'a> {
     pub counts: &'a RefCell<Counts>,
 }
 
-impl Counted<'_> {
-    /// Counts one call by the table it was lent and the reply.
-    fn count(&self, call: CallName, table: &[u8], reply: u64) -> u64 {
-        let mut counts = self.counts.borrow_mut();
-        counts.sizes[size(table.len())] += 1;
-        counts.outcomes.add(call, reply);
-        let fullest = table.len() == row_at(1_024) && table[2..4] == [0xFF, 0x0F];
-        if call == CallName::Send && reply & 0xFF == 0 && fullest {
-            counts.fullest += 1;
-        }
+impl Library for Counted<'_> {
+    fn ask(&self, call: Call, table: &mut [u8]) -> u64 {
+        let reply = self.library.ask(call, table);
+        self.counts.borrow_mut().add(call, table, reply);
         reply
     }
 }
 
 /// The place of a table's size; a length that refusal 2 turns down is the last one.
 fn size(length: usize) -> usize {
-    let rows = (1..=1_024).find(|rows| row_at(*rows) >= length);
-    match rows {
-        Some(rows) if row_at(rows) == length => SIZES.iter().position(|size| rows <= size.0),
-        _ => None,
-    }
-    .unwrap_or(SIZES.len() - 1)
-}
-
-impl Library for Counted<'_> {
-    fn open(&mut self, last: u32, table: &mut [u8]) -> u64 {
-        let reply = self.library.open(last, table);
-        self.count(CallName::Open, table, reply)
-    }
-
-    fn take(&mut self, due: u32, weight: u32, table: &mut [u8]) -> u64 {
-        let reply = self.library.take(due, weight, table);
-        self.count(CallName::Take, table, reply)
-    }
-
-    fn send(&mut self, table: &mut [u8]) -> u64 {
-        let reply = self.library.send(table);
-        self.count(CallName::Send, table, reply)
-    }
-
-    fn mark(&mut self, slot: u32, table: &[u8]) -> u64 {
-        let reply = self.library.mark(slot, table);
-        self.count(CallName::Mark, table, reply)
-    }
-
-    fn total(&mut self, table: &[u8]) -> u64 {
-        let reply = self.library.total(table);
-        self.count(CallName::Total, table, reply)
-    }
-
-    fn substitute(&mut self, ticket: u32, table: &[u8]) -> u64 {
-        let reply = self.library.substitute(ticket, table);
-        self.count(CallName::Substitute, table, reply)
-    }
+    let rows = rows_of(length, Mutation::None).unwrap_or(usize::MAX);
+    let place = SIZES.iter().position(|size| rows <= size.0);
+    place.expect("the last has no limit")
 }

@@ -1,15 +1,14 @@
 //! The long run: pass after pass of every kind of input, each with a seed of
 //! its own, the archive against the second implementation.
 
-#[cfg(archive)]
 #[path = "../compare/archive.rs"]
 mod archive;
 mod counted;
 
 use counted::{Counted, Counts};
 use second::calls::Second;
-use second::compare::kinds::{run_kinds, Found, Kind, Settings, FULLEST, KINDS};
-use second::compare::library::Library;
+use second::compare::kinds::{run_kinds, Case, Found, Settings, FULLEST, KINDS};
+use second::kind::Kind;
 use std::cell::RefCell;
 use std::env;
 use std::process::ExitCode;
@@ -45,22 +44,12 @@ impl Options {
     }
 }
 
-#[cfg(archive)]
-fn library() -> Option<Box<dyn Library>> {
-    Some(Box::new(archive::Archive))
-}
-
-#[cfg(not(archive))]
-fn library() -> Option<Box<dyn Library>> {
-    None
-}
-
 fn main() -> ExitCode {
     let Some(options) = Options::read() else {
         eprintln!("{USAGE}");
         return ExitCode::from(2);
     };
-    let Some(library) = library() else {
+    let Some(library) = archive::linked() else {
         eprintln!("soak: no archive is linked: set LIRVEDD_ARCHIVE");
         return ExitCode::from(2);
     };
@@ -83,7 +72,7 @@ fn main() -> ExitCode {
 }
 
 /// Passes until the time is up. The kinds that are not drawn run in the first.
-fn soak(options: &Options, mut library: Counted) -> Result<(), (u64, Found)> {
+fn soak(options: &Options, library: Counted) -> Result<(), (u64, Found)> {
     let began = Instant::now();
     for pass in 0.. {
         let settings = Settings {
@@ -92,7 +81,7 @@ fn soak(options: &Options, mut library: Counted) -> Result<(), (u64, Found)> {
             drawn_only: pass > 0,
         };
         for kinds in [KINDS, FULLEST] {
-            run_pass(kinds, settings, &mut library).map_err(|found| (settings.seed, found))?;
+            run_pass(kinds, settings, &library).map_err(|found| (settings.seed, found))?;
         }
         let minutes = began.elapsed().as_secs_f64() / 60.0;
         let counts = library.counts.borrow();
@@ -107,7 +96,7 @@ fn soak(options: &Options, mut library: Counted) -> Result<(), (u64, Found)> {
     Ok(())
 }
 
-fn run_pass(kinds: &[Kind], settings: Settings, library: &mut Counted) -> Result<(), Found> {
+fn run_pass(kinds: &[Kind<Case>], settings: Settings, library: &Counted) -> Result<(), Found> {
     let counts = library.counts;
     run_kinds(kinds, library, Second::PLAIN, settings, |kind, _| {
         counts.borrow_mut().end_of(kind.name);

@@ -3,7 +3,6 @@ use mathlib.Core.Path.{_≡_, sym, ap, _∙_}
 use mathlib.Core.List.{List}
 use Prim.Native.Nat.{ℕ, _+_, _-_, _≤_, _<_}
 use native.Mathlib.Omega.{arith}
-use Rattle.rules.specs.Rows.{Round}
 use Rattle.rules.specs.Table.{round-in}
 use Rattle.theory.specs.Near.{near-edge}
 use Rattle.theory.specs.Segments.{segment-begin, segment-end}

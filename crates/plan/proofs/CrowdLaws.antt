@@ -1,15 +1,14 @@
 -- How many rows are due before each slot, from what reach_of found. Assumes nothing.
-use mathlib.Core.Path.{_≡_, refl, sym, ap, _∙_}
+use mathlib.Core.Path.{_≡_, sym, ap, _∙_}
 use mathlib.Core.Logic.{inl, inr}
 use mathlib.Core.Bool.{cond}
 use mathlib.Core.List.{List}
-use Prim.Native.Nat.{ℕ, suc, _+_, _-_, _≤_, _<_, min}
+use Prim.Native.Nat.{ℕ, suc, _+_, _-_, _≤_, _<_}
 use native.Mathlib.Omega.{arith}
 use lib.Dec.{ltb}
-use lib.ListN.{length, getD, replicate, length-replicate}
-use Rattle.rules.specs.Rows.{Row, Round, blank, chosen}
+use lib.ListN.{length, replicate, length-replicate}
+use Rattle.rules.specs.Rows.{Round, blank, chosen}
 use Rattle.rules.specs.Table.{round-in}
-use Rattle.rules.specs.Conditions.{slot-in, used-in}
 use Rattle.theory.specs.Tests.{leb?}
 use Rattle.theory.specs.Sum.{sum}
 use Rattle.theory.specs.Count.{bucket, under, counts-none}

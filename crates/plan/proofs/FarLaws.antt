@@ -3,13 +3,13 @@ use mathlib.Core.Path.{_≡_, refl, sym, ap, _∙_}
 use mathlib.Core.Logic.{inl, inr}
 use mathlib.Core.Bool.{true, false, cond, true≢false}
 use mathlib.Core.List.{List}
-use Prim.Native.Nat.{ℕ, zero, suc, _+_, _-_, _≤_, _<_}
+use Prim.Native.Nat.{ℕ, zero, suc, _+_, _≤_, _<_}
 use native.Mathlib.Omega.{arith}
 use lib.Dec.{eqb}
 use lib.ListN.{length, getD, set, replicate, length-set, getD-replicate}
 use Rattle.theory.specs.Tests.{either, leb?, ltb?, eqb?}
 use Rattle.plan.specs.Keys.{key-in, ahead-in}
-use Rattle.plan.specs.Sweep.{kept?, tally, before, smaller, Flagged, Swept, Swept-by, Kept}
+use Rattle.plan.specs.Sweep.{kept?, tally, before, smaller, Swept-by, Kept}
 use Rattle.plan.specs.Crowd.{due-before, Flat, Raised}
 use Rattle.plan.proofs.ArrayLaws.{set?}
 use Rattle.plan.proofs.TallyLaws.{part-yes, part-no, tally-most, before?, before-yes, before-no, before-1}
@@ -105,9 +105,6 @@ none-raised S edge fs h =
 -- THE CERTIFICATE of all rows
 module _ (t fs gs : List ℕ) (edge : ℕ) (by : edge ≤ length fs) (W : Swept-by t fs edge) (R : Raised (ahead-in t) edge fs gs)
     (flat : Flat (ahead-in t) (length fs) edge) where
-  abbrev S : ℕ → ℕ
-  S = ahead-in t
-
   -- a flag before stays, and a row without one is due before the edge
   stays : (j : ℕ) → j < length fs → kept? fs j ≡ true → kept? gs j ≡ true
   stays j h e = elim (ltb? (ahead-in t j) edge) [

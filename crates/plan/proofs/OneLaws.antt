@@ -3,16 +3,16 @@ use mathlib.Core.Path.{_≡_, refl, sym, ap, _∙_}
 use mathlib.Core.Logic.{inl, inr}
 use mathlib.Core.Bool.{true, false, true≢false}
 use mathlib.Core.List.{List}
-use Prim.Native.Nat.{ℕ, suc, _+_, _*_, _%_, _≤_, _<_}
+use Prim.Native.Nat.{ℕ, _+_, _%_, _≤_, _<_}
 use native.Mathlib.Omega.{arith}
 use native.Mathlib.Numerals.{add-one}
 use lib.Dec.{ltb, eqb}
 use lib.ListN.{length, getD, set, replicate, length-set, getD-replicate}
 use borrow.Author.Tests.{ltb-true, lt-ltb}
-use Rattle.theory.specs.Tests.{leb?, ltb?, eqb?}
+use Rattle.theory.specs.Tests.{leb?, ltb?}
 use Rattle.tally.specs.Near.{upto}
 use Rattle.plan.specs.Keys.{key-in, ahead-in}
-use Rattle.plan.specs.Sweep.{kept?, tally, before, smaller, Barred, Flagged, Lightest, Kept}
+use Rattle.plan.specs.Sweep.{kept?, tally, before, smaller, Flagged, Lightest, Kept}
 use Rattle.plan.specs.Crowd.{due-before, Crowd, First-crowd}
 use Rattle.plan.proofs.TallyLaws.{kept-set?, tally-off, tally-le, tally-some, before?, before-yes, smaller-yes}
 use Rattle.plan.proofs.SweepLaws.{differ}
@@ -65,12 +65,6 @@ some-early S n e h =
 -- THE LIGHTEST LEAVES, row z
 module _ (t fs : List ℕ) (F : Flagged t fs) (ones : fs ≡ replicate (length fs) 1) (edge : ℕ) (C : Crowd (ahead-in t) (length fs) edge) (top : ℕ)
     (L : Lightest t (length fs) (λ j. ltb (ahead-in t j) edge) top) (z : ℕ) (named : z ≡ top % 1024) where
-  abbrev S : ℕ → ℕ
-  S = ahead-in t
-
-  abbrev n : ℕ
-  n = length fs
-
   abbrev gs : List ℕ
   gs = set fs z 0
 

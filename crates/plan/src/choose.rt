@@ -1,6 +1,5 @@
 // The plan's rows of a sound table.
 ghost use mathlib.Core.Path.{_≡_};
-ghost use Prim.Native.Nat.{_≤_};
 ghost use lib.ListN.{length, replicate};
 ghost use Rattle.rules.specs.Table.{round-in, table-refusal};
 ghost use Rattle.rules.specs.Conditions.{slot-in, used-in};

@@ -34,7 +34,7 @@ leave-one-requires c κs =
     let long : length (s .args .flags .now) ≡ s .args .round .used = ap length (s .pre .3) ∙ length-replicate {A = ℕ} (s .args .round .used) 1 in
     let rows : length (s .args .flags .now) ≡ length (round-in (s .args .table .now) .rows) = long ∙ known _ _ (s .pre .0) .used in (
       flagged _ (s .pre .0 .sound) (s .args .flags .now) (long ∙ head .used),
-      head .slot,
+      omega (arith, head .slot),
       s .pre .3 ∙ ap (λ (n : ℕ). replicate {A = ℕ} n 1) (sym long),
       rw rows (crowd _ _ _ (s .pre .0) (s .pre .1) _ (s .pre .2) (c .before .before .if2 .taken) _ (c .crowd-of .ensures)),
     )
@@ -56,7 +56,7 @@ leave-some-requires c κs =
     let long : length (s .args .flags .now) ≡ s .args .round .used = ap length (s .pre .3) ∙ length-replicate {A = ℕ} (s .args .round .used) 1 in
     let rows : length (s .args .flags .now) ≡ length (round-in (s .args .table .now) .rows) = long ∙ known _ _ (s .pre .0) .used in (
       s .pre .0 .sound,
-      head .slot,
+      omega (arith, head .slot),
       long ∙ head .used,
       rw rows (level-is _ _ _ (s .pre .0) (s .pre .1)),
       rw rows (flat _ _ _ (s .pre .0) (s .pre .1)),

@@ -1,4 +1,5 @@
 -- `early_key`: by the two outcomes of its test. Assumes nothing.
+use native.Mathlib.Omega.{arith}
 use borrow.Author.Needs.{needs}
 use Rattle.plan.proofs.LightLaws.{key-early, key-late}
 use Rattle.plan.proofs.one.early_key.Statement.{statement}
@@ -11,7 +12,11 @@ key-at-requires : tie.Need-key-at-requires
 key-at-requires c κs = search needs
 
 returns : tie.Need-returns
-returns c = key-early _ _ _ _ _ (c .before .before .ahead-of .ensures .0) (c .before .if1 .taken) (c .key-at .ensures .0)
+returns c =
+    let ahead = c .before .before .ahead-of in
+    let s = c .before .before .before .before in
+    key-early (s .args .table .now) (s .args .row) (ahead .result) (s .args .edge) _ (ahead .ensures .0) (omega (arith, c .before .if1 .taken))
+    (c .key-at .ensures .0)
 
 returns-2 : tie.Need-returns-2
 returns-2 c = key-late _ _ _ _ (c .before .ahead-of .ensures .0) (c .if1 .left)

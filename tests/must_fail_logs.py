@@ -110,7 +110,7 @@ def no_longer_computes(block, folder, edit):
     if not types or not at or types[3] != types[4] or types[3] not in (types[1], types[2]):
         return None
     name = re.escape(at[2])
-    said = re.search(rf'^(?:pub )?{name} : (.*)\n(?:unfolding (.*)\n)?{name} = refl$', read(os.path.join(folder, at[1])), re.M)
+    said = re.search(rf'^(?:pub )?{name} : (.*)\n(?:unfolding (.*\n(?: .*\n)*))?{name} = refl$', read(os.path.join(folder, at[1])), re.M)
     if not said or '→' in said[1]:
         return None
     used = {word for line in re.findall(r'^new:(.*)', edit, re.M) for word in re.split(r'[\s()]+', line)}
@@ -203,10 +203,11 @@ SAMPLES = [
     (False, 'empty', ''),
 ]
 
-# The same refusal of a `refl`, under four declarations and two edits.
+# The same refusal of a `refl`, under five declarations and two edits.
 REFUSED_REFL = 'a/must-fail/b/c/proofs/Facts.antt:3:1: error: `fact`: expected type `played all ≡ all`, but this has type `played all ≡ played all`\n  what the two types compute to is not shown' + END
 REFL_SAMPLES = [
     (True, 'computed', 'pub fact : played all ≡ all\nunfolding played step\nfact = refl\n', 'new: step a + 1'),
+    (True, 'computed, opened on two lines', 'pub fact : played all ≡ all\nunfolding played\n    step\nfact = refl\n', 'new: step a + 1'),
     (False, 'not opened', 'pub fact : played all ≡ all\nunfolding played\nfact = refl\n', 'new: (step a)'),
     (False, 'with a variable', 'pub fact : (n : ℕ) → played n ≡ n\nunfolding played step\nfact n = refl\n', 'new: step a'),
     (False, 'not refl', 'pub fact : played all ≡ all\nunfolding played step\nfact = other\n', 'new: step a'),

@@ -54,8 +54,9 @@ add-t17 c = omega (arith, near (c .before .before))
 returns-2 : tie.Need-returns-2
 returns-2 c =
     let s = c .before .before .before .before .before .before .before .before .before .before in
-    stretch-spans _ _ _ _ _ (s .pre .0) (s .pre .1) (s .pre .2) (c .before .before .before .before .keep-counts .ensures) _ _ (s .pre .4)
-    (c .before .before .stretch-of .ensures)
+    let z = stretch-spans _ _ _ _ _ (s .pre .0) (s .pre .1) (s .pre .2) (c .before .before .before .before .keep-counts .ensures) _ _ (s .pre .4)
+    (c .before .before .stretch-of .ensures) in
+    record { first = omega (arith, z .first); last = omega (arith, z .last) }
 
 pub segment-of-spec : {M : Type 1} → statement M
 segment-of-spec =

@@ -23,12 +23,12 @@ This page is written by tests/edits.py from the first lines of the edits.
 
 # The nearest is another program, not an edit of this one: it is proved that it sends otherwise.
 PLAYED_OUT = "`played-out-misses`, `canonical-first-differs`, `no-order-serves` in crates/theory/specs/PlayedOut.antt; "
-OVER = " ".join(f"calls/{call}over_in_the_last_slot" for call in ("", "send_", "mark_", "total_")) + " rules/last_slot_over"
+OVER = " ".join(f"{call}over_in_the_last_slot" for call in ("calls/", "calls/send_", "asking/mark_", "asking/total_")) + " rules/last_slot_over"
 
 BREAKAGES = [
     ("a sender that plans the first slot and plays that plan out afterwards (demand 2)",
      "pick/canonical_first_instead_of_the_pick rules/canonical_first"),
-    ("a listing whose count is not the plan's rows (2)", "calls/list_count_of_all_rows order/rows_left_out_are_listed"),
+    ("a listing whose count is not the plan's rows (2)", "listing/list_count_of_all_rows order/rows_left_out_are_listed"),
     ("a table reported full with a row free, or a round reported over in its last slot (1)", "calls/full_with_a_row_free " + OVER),
     ("a sender always silent (2)", "calls/always_silent sender/silence_with_a_row_waiting"),
     ("a taker that gives a ticket but stores nothing (2 and 3)", "calls/ticket_but_nothing_stored"),
@@ -47,10 +47,10 @@ KINDS = [
     ("a substitute from before the tight slot", "marks/substitute_from_before_the_tight_slot"),
     ("a sender that forgets to move the slot on", "closing/slot_not_moved_on"),
     ("an expired row left in", "closing/expired_row_left_in"),
-    ("refusals 10 and 11 exchanged", "calls/ten_and_eleven_exchanged"),
+    ("refusals 10 and 11 exchanged", "asking/ten_and_eleven_exchanged"),
     ("refusal 5 given in the last slot", OVER),
-    ("a listing whose count is not the plan's rows", "calls/list_count_of_all_rows"),
-    ("a listing that touches an entry past the count", "calls/list_past_the_count"),
+    ("a listing whose count is not the plan's rows", "listing/list_count_of_all_rows"),
+    ("a listing that touches an entry past the count", "listing/list_past_the_count"),
     ("canonical order broken among equals", "order/later_ticket_first rules/tie_by_larger_ticket"),
     ("a reader that takes lower-case digits", "lines/lower_case_digits_read"),
     ("a payload off by one digit", "lines/payload_off_by_one_digit"),
@@ -72,7 +72,9 @@ CONTRACTS = {
     "sender": "`send_sound` (`Sent-says`): plan, pick and leap put together",
     "marks": "`mark_at` and `total_of`, equal to `mark` and `total`; `segment_of` (`Spans`), `substitute_at` (`Substitutes`)",
     "order": "`order_of` (`Ordered`): the plan's rows in canonical order",
-    "calls": "each public call: reply and bytes (`Says`), reply alone (`answer`, `substitute-answer`), the listing (`Lists`)",
+    "calls": "`open_round`, `take_frame`, `send_slot` (`Says`): reply and bytes",
+    "asking": "`mark_of`, `plan_total` (`Says`); `substitute_of`, whose reply is `substitute-answer`",
+    "listing": "`list_plan` (`Lists`): reply and entries",
     "station": "each exported call: the packed reply (`pack`) and the bytes (`Exports`)",
     "lines": "`read_command` (`read`), `payload` (`Part`), `write_line` (`Writes`), `line_end` (`Ends`), the reply writers (`Replies`)",
     "turns": "`take_turn` (`Turns`), `answer_lines` (`Serves`), `keep_rest` (`Kept`)",

@@ -10,12 +10,11 @@ use lib.Seq.{length-take-le}
 use Rattle.rules.specs.Limits.{most-last}
 use Rattle.rules.specs.Rows.{round}
 use Rattle.rules.specs.Table.{round-in, length-good}
-use Rattle.rules.specs.Calls.{opening, done, open-refusal, refusal, says, leaves}
+use Rattle.rules.specs.Calls.{opening, done, open-refusal, refusal, says, leaves, Says}
 use Rattle.theory.specs.Clauses.{length-long}
+use Rattle.theory.specs.Outcomes.{says-accepted, opening-number}
 use Rattle.round.specs.Numbers.{head-numbers}
 use Rattle.round.proofs.TableLaws.{opened-table}
-use Rattle.calls.specs.Says.{Says}
-use Rattle.calls.proofs.Outcomes.{says-accepted, opening-number}
 
 module _ (l : ℕ) (t : List ℕ) (good : length-good (length t) ≡ true) where
   pub last-refused : most-last < l → refusal (opening l) t ≡ 4

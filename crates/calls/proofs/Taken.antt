@@ -8,16 +8,15 @@ use lib.Seq.{sets}
 use Rattle.rules.specs.Rows.{round}
 use Rattle.rules.specs.Table.{round-in, table-refusal}
 use Rattle.rules.specs.Conditions.{used-in, row-at}
-use Rattle.rules.specs.Calls.{taking, ticket, refusal, says, leaves}
+use Rattle.rules.specs.Calls.{taking, ticket, take-refusal, round-refusal, refusal, says, leaves, Says}
 use Rattle.theory.specs.Clauses.{rows-count}
+use Rattle.theory.specs.Outcomes.{says-accepted, judges, by-round}
 use Rattle.round.specs.declared.Round.{Round}
 use Rattle.round.specs.Head.{Head-of}
 use Rattle.round.specs.Numbers.{head-numbers, row-numbers}
 use Rattle.round.proofs.HeadLaws.{sound-head}
 use Rattle.round.proofs.TableLaws.{taken-table}
-use Rattle.calls.specs.Says.{Says}
 use Rattle.calls.specs.Taking.{taking-number, One-more}
-use Rattle.calls.proofs.Outcomes.{says-accepted, taking-round}
 use Rattle.calls.proofs.TakingNumber.{number-none}
 
 abbrev pub number-of : Round → (due weight : ℕ) → ℕ
@@ -25,9 +24,9 @@ number-of h d w = taking-number (h .slot .0) (h .last .0) (h .next .0) (h .used)
 
 module _ (t : List ℕ) (h : Round) (sound : table-refusal t ≡ 0) (head : Head-of t h) (d w : ℕ) where
   pub taking-refused : refusal (taking d w) t ≡ number-of h d w
-  unfolding round-in round
+  unfolding round-in round round-refusal take-refusal taking-number
   taking-refused =
-      taking-round d w t sound
+      by-round (taking d w) t (judges d w 0 .0) sound
       ∙ rw (rows-count (used-in t) (drop 16 t), ← head .slot, ← head .last, ← head .next, ← head .used, ← head .room)
 
   pub used-room : h .used ≤ 1024

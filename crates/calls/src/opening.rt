@@ -1,7 +1,6 @@
 // Opening a round: refusals 2 and 4.
-ghost use Rattle.rules.specs.Calls.{opening};
+ghost use Rattle.rules.specs.Calls.{opening, Says};
 ghost use Rattle.calls.specs.Replies.{of-opened};
-ghost use Rattle.calls.specs.Says.{Says};
 use round::Round;
 use round::Slot;
 use round::head::length_is_good;

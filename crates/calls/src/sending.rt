@@ -1,11 +1,10 @@
 // Sending a slot: refusals 2, 3 and 5.
 ghost use mathlib.Core.Path.{_≡_};
 ghost use Rattle.rules.specs.Table.{table-refusal};
-ghost use Rattle.rules.specs.Calls.{sending};
+ghost use Rattle.rules.specs.Calls.{sending, Says};
 ghost use Rattle.round.specs.Head.{Head-of};
 ghost use Rattle.leap.specs.Send.{went-out, went-step};
 ghost use Rattle.calls.specs.Steps.{of-out, of-step, of-sent};
-ghost use Rattle.calls.specs.Says.{Says};
 use leap::send::Went;
 use round::Round;
 use round::Ticket;

@@ -2,10 +2,9 @@
 ghost use mathlib.Core.Path.{_≡_};
 ghost use Prim.Native.Nat.{_<_};
 ghost use Rattle.rules.specs.Table.{table-refusal};
-ghost use Rattle.rules.specs.Calls.{taking};
+ghost use Rattle.rules.specs.Calls.{taking, Says};
 ghost use Rattle.round.specs.Head.{Head-of};
 ghost use Rattle.calls.specs.Replies.{of-taken};
-ghost use Rattle.calls.specs.Says.{Says};
 ghost use Rattle.calls.specs.Taking.{taking-number, One-more};
 use round::Round;
 use round::Slot;

@@ -5,3 +5,5 @@ pub mod HeadLaws
 pub mod JudgeLaws
 pub mod WriteLaws
 pub mod TableLaws
+pub mod Asked
+pub mod Sorts

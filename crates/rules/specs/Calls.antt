@@ -1,4 +1,5 @@
 -- The calls: what each refuses, answers and leaves, on a round and on a lent table; lists of calls. Assumes nothing: these are definitions.
+use mathlib.Core.Path.{_≡_}
 use mathlib.Core.Bool.{_||_, cond}
 use mathlib.Core.List.{List, [], _∷_, _++_, map}
 use mathlib.Core.Option.{Option, none, some}
@@ -108,6 +109,10 @@ answer c t = cond (eqb (refusal c t) 0) (says c (round-in t)) (refused (refusal 
 
 unfoldable pub left : Call → List ℕ → List ℕ
 left c t = cond (eqb (refusal c t) 0) (table (leaves c (round-in t))) t
+
+-- WHAT A PUBLIC CALL PROMISES: its reply, and every byte of the table, are these
+abbrev pub Says : Call → Reply → (entry exit : List ℕ) → Type 0
+Says c a t z = (a ≡ answer c t) × (z ≡ left c t)
 
 -- LISTS OF CALLS on one table: the bytes after them, and their replies
 unfoldable pub run : List Call → List ℕ → List ℕ

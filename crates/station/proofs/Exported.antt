@@ -3,8 +3,7 @@ use mathlib.Core.Path.{_≡_, ap, _∙_}
 use mathlib.Core.List.{List}
 use Prim.Native.Nat.{ℕ, _+_, _*_}
 use native.Mathlib.Omega.{arith}
-use Rattle.rules.specs.Calls.{Reply, opening, taking, sending, marking, frame, kept-blank, answer, substitute-answer}
-use Rattle.calls.specs.Says.{Says}
+use Rattle.rules.specs.Calls.{Call, Reply, opening, taking, marking, frame, kept-blank, substitute-answer, Says}
 use Rattle.station.specs.Packing.{pack-out, pack, Exports}
 
 pub opening-exported : (l m n : ℕ) (a : Reply) (t z : List ℕ) → m ≡ l → n ≡ pack a → Says (opening m) a t z → Exports (opening l) n t z
@@ -14,11 +13,12 @@ pub taking-exported : (d w d′ w′ n : ℕ) (a : Reply) (t z : List ℕ) → d
 taking-exported d w d′ w′ n a t z e g f s =
     let x : Exports (taking d′ w′) n t z = (f ∙ ap pack (s .0), s .1) in rw (e, g) at x
 
-pub sending-exported : (n : ℕ) (a : Reply) (t z : List ℕ) → n ≡ pack a → Says sending a t z → Exports sending n t z
-sending-exported n a t z f s = (f ∙ ap pack (s .0), s .1)
+-- sending, and a total
+pub exported : (c : Call) (n : ℕ) (a : Reply) (t z : List ℕ) → n ≡ pack a → Says c a t z → Exports c n t z
+exported c n a t z f s = (f ∙ ap pack (s .0), s .1)
 
-pub marking-exported : (s u n : ℕ) (a : Reply) (t : List ℕ) → u ≡ s → n ≡ pack a → a ≡ answer (marking u) t → n ≡ pack (answer (marking s) t)
-marking-exported s u n a t e f g = f ∙ ap pack (g ∙ ap (λ (v : ℕ). answer (marking v) t) e)
+pub marking-exported : (s u n : ℕ) (a : Reply) (t z : List ℕ) → u ≡ s → n ≡ pack a → Says (marking u) a t z → Exports (marking s) n t z
+marking-exported s u n a t z e f g = let x : Exports (marking u) n t z = (f ∙ ap pack (g .0), g .1) in rw e at x
 
 pub substitute-exported : (k u n : ℕ) (a : Reply) (t : List ℕ) → u ≡ k → n ≡ pack a → a ≡ substitute-answer u t → n ≡ pack (substitute-answer k t)
 substitute-exported k u n a t e f g = f ∙ ap pack (g ∙ ap (λ (v : ℕ). substitute-answer v t) e)

@@ -1,6 +1,6 @@
 // The C boundary: each call over numbers and the lent table, its reply packed into one number by docs/REPLIES.md.
 ghost use mathlib.Core.Path.{_≡_};
-ghost use Rattle.rules.specs.Calls.{opening, taking, sending, marking, totalling, answer, substitute-answer};
+ghost use Rattle.rules.specs.Calls.{opening, taking, sending, marking, totalling, substitute-answer};
 ghost use Rattle.station.specs.Packing.{pack, Exports};
 use crate::packing::pack_marked;
 use crate::packing::pack_opened;
@@ -8,12 +8,12 @@ use crate::packing::pack_sent;
 use crate::packing::pack_substituted;
 use crate::packing::pack_taken;
 use crate::packing::pack_totalled;
-use calls::marking::mark_of;
+use asking::marking::mark_of;
+use asking::substituting::substitute_of;
+use asking::totalling::plan_total;
 use calls::opening::open_round;
 use calls::sending::send_slot;
-use calls::substituting::substitute_of;
 use calls::taking::take_frame;
-use calls::totalling::plan_total;
 use round::Slot;
 use round::Ticket;
 use round::Weight;
@@ -44,14 +44,14 @@ pub extern "C" fn lirvedd_send(table: &mut [u8]) -> u64
 // The calls below only read the table.
 #[no_mangle]
 pub extern "C" fn lirvedd_mark(slot: u32, table: &[u8]) -> u64
-    ensures { λ r. ⌜ r ≡ pack (answer (marking slot) (now (table .entry))) ⌝ }
+    ensures { λ r. ⌜ Exports (marking slot) r (now (table .entry)) (now (table .exit)) ⌝ }
 {
     pack_marked(mark_of(Slot(slot), table))
 }
 
 #[no_mangle]
 pub extern "C" fn lirvedd_total(table: &[u8]) -> u64
-    ensures { λ r. ⌜ r ≡ pack (answer totalling (now (table .entry))) ⌝ }
+    ensures { λ r. ⌜ Exports totalling r (now (table .entry)) (now (table .exit)) ⌝ }
 {
     pack_totalled(plan_total(table))
 }

@@ -52,6 +52,7 @@ pub mod Soundness
 pub mod Checks
 pub mod Refusals
 pub mod Stays
+pub mod Outcomes
 pub mod Digits
 pub mod Lines
 pub mod Flags

@@ -2,14 +2,14 @@
 ghost use mathlib.Core.Path.{_≡_};
 ghost use Prim.Native.Nat.{_≤_};
 ghost use lib.ListN.{length};
-use crate::listing::try_list;
+use crate::entries::try_list;
 use crate::reading::try_read;
 use crate::writing::try_write;
 use libc::STDIN_FILENO;
 use libc::STDOUT_FILENO;
 use round::bytes::read4;
 
-mod listing; // listing.rt: the listing
+mod entries; // entries.rt: the listing
 mod writing; // writing.rt: the line writer
 mod reading; // reading.rt: the command, and the payload with its place
 

@@ -12,7 +12,7 @@ pack-marked-requires : tie.Need-pack-marked-requires
 pack-marked-requires c κs = search needs
 
 returns : tie.Need-returns
-returns c = marking-exported _ _ _ _ _ (omega arith) (c .pack-marked .ensures) (c .before .mark-of .ensures)
+returns c = marking-exported _ _ _ _ _ _ (omega arith) (c .pack-marked .ensures) (c .before .mark-of .ensures)
 
 pub lirvedd-mark-spec : {M : Type 1} → statement M
 lirvedd-mark-spec = tie.close (tie.spec mark-of-requires pack-marked-requires returns)

@@ -1,5 +1,5 @@
 -- `station::lirvedd_send` meets its contract. Assumes nothing.
-use Rattle.station.proofs.Exported.{sending-exported}
+use Rattle.station.proofs.Exported.{exported}
 use borrow.Author.Needs.{needs}
 use Rattle.station.proofs.lirvedd_send.Statement.{statement}
 use Rattle.station.proofs.lirvedd_send.Tie as tie
@@ -14,7 +14,7 @@ same-length : tie.Need-same-length
 same-length c = search needs
 
 returns : tie.Need-returns
-returns c = sending-exported _ _ _ _ (c .pack-sent .ensures) (c .before .before .before .send-slot .ensures)
+returns c = exported _ _ _ _ _ (c .pack-sent .ensures) (c .before .before .before .send-slot .ensures)
 
 pub lirvedd-send-spec : {M : Type 1} → statement M
 lirvedd-send-spec = tie.close (tie.spec send-slot-requires pack-sent-requires same-length returns)

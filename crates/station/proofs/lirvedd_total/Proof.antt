@@ -1,7 +1,8 @@
 -- `station::lirvedd_total` meets its contract. Assumes nothing.
+use Rattle.station.proofs.Exported.{exported}
 use Rattle.station.proofs.Amounts.{total-answer-small}
-use Rattle.station.specs.Packing.{pack, Small}
-use mathlib.Core.Path.{sym, ap, subst, _∙_}
+use Rattle.station.specs.Packing.{Small}
+use mathlib.Core.Path.{sym, subst}
 use borrow.Author.Needs.{needs}
 use Rattle.station.proofs.lirvedd_total.Statement.{statement}
 use Rattle.station.proofs.lirvedd_total.Tie as tie
@@ -10,10 +11,10 @@ plan-total-requires : tie.Need-plan-total-requires
 plan-total-requires c κs = search needs
 
 pack-totalled-requires : tie.Need-pack-totalled-requires
-pack-totalled-requires c κs = subst Small (sym (c .plan-total .ensures)) (total-answer-small (c .before .before .args .table .now))
+pack-totalled-requires c κs = subst Small (sym (c .plan-total .ensures .0)) (total-answer-small (c .before .before .args .table .now))
 
 returns : tie.Need-returns
-returns c = c .pack-totalled .ensures ∙ ap pack (c .before .plan-total .ensures)
+returns c = exported _ _ _ _ _ (c .pack-totalled .ensures) (c .before .plan-total .ensures)
 
 pub lirvedd-total-spec : {M : Type 1} → statement M
 lirvedd-total-spec = tie.close (tie.spec plan-total-requires pack-totalled-requires returns)

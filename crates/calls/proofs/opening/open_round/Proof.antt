@@ -7,7 +7,7 @@ use native.Mathlib.Omega.{arith}
 use lib.ListN.{length}
 use Rattle.rules.specs.Table.{length-good}
 use Rattle.rules.specs.Calls.{opening}
-use Rattle.calls.proofs.Outcomes.{says-refused, opening-length}
+use Rattle.theory.specs.Outcomes.{says-refused, opening-length}
 use Rattle.calls.proofs.Opened.{last-refused, head-fits, cleared-fits, opened-says}
 use Rattle.calls.proofs.opening.open_round.Statement.{statement}
 use Rattle.calls.proofs.opening.open_round.Tie as tie

@@ -1,6 +1,6 @@
 -- `calls::sending::send_in` meets its contract. Assumes nothing.
-use Rattle.calls.proofs.Asked.{over}
-use Rattle.calls.proofs.Outcomes.{says-refused}
+use Rattle.round.proofs.Asked.{over}
+use Rattle.theory.specs.Outcomes.{says-refused}
 use Rattle.rules.specs.Calls.{sending, step}
 use native.Mathlib.Omega.{arith}
 use mathlib.Core.Path.{sym, ap, _∙_}

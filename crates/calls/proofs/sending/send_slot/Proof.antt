@@ -1,5 +1,5 @@
 -- `calls::sending::send_slot` meets its contract. Assumes nothing.
-use Rattle.calls.proofs.Outcomes.{says-refused, judges, by-table}
+use Rattle.theory.specs.Outcomes.{says-refused, judges, by-table}
 use Rattle.rules.specs.Calls.{sending}
 use Rattle.round.specs.Judge.{Judge-says}
 use mathlib.Core.Path.{subst}

@@ -3,7 +3,7 @@ use borrow.Author.Needs.{needs}
 use mathlib.Core.Path.{subst}
 use Rattle.rules.specs.Calls.{taking}
 use Rattle.round.specs.Judge.{Judge-says}
-use Rattle.calls.proofs.Outcomes.{says-refused, judges, by-table}
+use Rattle.theory.specs.Outcomes.{says-refused, judges, by-table}
 use Rattle.calls.proofs.taking.take_frame.Statement.{statement}
 use Rattle.calls.proofs.taking.take_frame.Tie as tie
 

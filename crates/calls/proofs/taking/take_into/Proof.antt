@@ -6,7 +6,7 @@ use native.Mathlib.Omega.{arith}
 use lib.ListN.{length}
 use lib.Seq.{length-sets}
 use Rattle.rules.specs.Calls.{taking}
-use Rattle.calls.proofs.Outcomes.{says-refused}
+use Rattle.theory.specs.Outcomes.{says-refused}
 use Rattle.calls.proofs.Taken.{taking-refused, used-room, row-free, taken-says}
 use Rattle.calls.proofs.taking.take_into.Statement.{statement}
 use Rattle.calls.proofs.taking.take_into.Tie as tie

@@ -1,5 +1,5 @@
 -- `station::packing::pack_substituted` meets its contract. Assumes nothing.
-use Rattle.calls.specs.Asking.{of-substituted}
+use Rattle.asking.specs.Asking.{of-substituted}
 use Rattle.station.specs.Packing.{pack}
 use mathlib.Core.Path.{sym, ap}
 use borrow.Author.Needs.{needs}

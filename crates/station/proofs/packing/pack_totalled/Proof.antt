@@ -1,5 +1,5 @@
 -- `station::packing::pack_totalled` meets its contract. Assumes nothing.
-use Rattle.calls.specs.Asking.{of-totalled}
+use Rattle.asking.specs.Asking.{of-totalled}
 use Rattle.station.specs.Packing.{pack, Small}
 use Prim.Native.Nat.{_≤_}
 use native.Mathlib.Omega.{arith}

@@ -1,0 +1,3 @@
+pub mod Asked
+pub mod Standing
+pub mod Readings

@@ -1,0 +1,4 @@
+pub mod Readings
+pub mod ListFilled
+pub mod Listings
+pub mod EntriesFit

@@ -62,7 +62,8 @@ KINDS = [
 # What the edits of a crate aim at.
 CONTRACTS = {
     "rules": "the definitions, held to the rounds, bytes and lines worked out by hand in crates/rules/proofs",
-    "round": "`judge` (`Judge-says`): a table is sound, or refused with 2 or 3; numbers in bytes, read and written",
+    "numbers": "numbers in bytes: read (`field`) and written (`low`)",
+    "round": "`judge` (`Judge-says`): a table is sound, or refused with 2 or 3",
     "plan": "`choose_rows` (`Chosen`): the flags are those of the plan's rows",
     "tally": "`reach_of` (`Reaches`): how far the plan is full; `tally` (`Tallied`): the plan's rows by due slot",
     "pick": "`choose` and `choose_all` (`Picked`): the row that goes is the pick",

@@ -7,12 +7,12 @@ ghost use Rattle.rules.specs.Conditions.{row-at};
 ghost use Rattle.rules.specs.Table.{round-in, table-refusal};
 ghost use Rattle.round.specs.Head.{Head-of};
 ghost use Rattle.closing.specs.Close.{stays-in, Kept, Front, Closed-rows, closed-up};
+use numbers::read2;
+use numbers::read4;
+use numbers::write2;
 use round::Round;
 use round::Slot;
 use round::Ticket;
-use round::bytes::read2;
-use round::bytes::read4;
-use round::bytes::write2;
 use round::rows::row_at;
 use round::zeros::clear;
 

@@ -6,11 +6,11 @@ ghost use lib.ListN.{length};
 ghost use lib.Seq.{sets};
 ghost use Rattle.rules.specs.Conditions.{row-at};
 ghost use Rattle.rules.specs.Table.{low};
+use numbers::write2;
+use numbers::write4;
 use round::Round;
 use round::Slot;
 use round::Weight;
-use round::bytes::write2;
-use round::bytes::write4;
 use round::rows::row_at;
 
 // A shifted row: its due slot and weight.

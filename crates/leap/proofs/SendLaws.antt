@@ -17,7 +17,7 @@ use Rattle.theory.specs.Keys.{key, key-index}
 use Rattle.theory.specs.Members.{Rows, planned-rows, of-rows-fine}
 use Rattle.theory.specs.Sane.{sound}
 use Rattle.theory.specs.Whole.{Sends, sends-silence, sends-first, sends-far, sends-kept}
-use Rattle.round.proofs.NumberLaws.{field-suc, field-zero}
+use Rattle.numbers.proofs.NumberLaws.{field-suc, field-zero}
 use Rattle.tally.specs.Rows.{Ready, at, key-at}
 use Rattle.pick.specs.Lead.{Lightest, Least-by}
 use Rattle.pick.specs.Whole.{every}

@@ -9,6 +9,7 @@ ghost use Rattle.leap.specs.Send.{Went-of, Leaves-alone, Goes-by, Noted,
 use closing::close::close_up;
 use closing::write::write_kept;
 use closing::write::write_weight;
+use numbers::read4;
 use pick::choice::Pick;
 use pick::lead::least_by;
 use pick::stretch::stretch_of;
@@ -16,7 +17,6 @@ use round::Round;
 use round::Slot;
 use round::Ticket;
 use round::Weight;
-use round::bytes::read4;
 use round::rows::row_at;
 use shifting::chain::row_of;
 use shifting::chain::shift_chain;

@@ -1,4 +1,3 @@
-pub mod NumberLaws
 pub mod ZeroLaws
 pub mod RowLaws
 pub mod HeadLaws

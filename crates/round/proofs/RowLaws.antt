@@ -11,7 +11,7 @@ use lib.Seq.{drop-cons, drop-drop, take-all, getD-take, getD-drop}
 use Rattle.rules.specs.Table.{field}
 use Rattle.theory.specs.Judge.{zeros, row-judged, rows-judged}
 use Rattle.theory.specs.Fields.{zeros-at}
-use Rattle.round.proofs.NumberLaws.{field-suc, field-zero}
+use Rattle.numbers.proofs.NumberLaws.{field-suc, field-zero}
 use Rattle.round.proofs.ZeroLaws.{value-small, zeros-rest}
 
 -- eight bytes are at most 1 as a number when the first is and the others are zero

@@ -11,10 +11,10 @@ ghost use Rattle.round.specs.Numbers.{head-numbers};
 use crate::Round;
 use crate::Slot;
 use crate::Ticket;
-use crate::bytes::read2;
-use crate::bytes::read4;
-use crate::bytes::write2;
-use crate::bytes::write4;
+use numbers::read2;
+use numbers::read4;
+use numbers::write2;
+use numbers::write4;
 
 // Refusal 2: whether a length is that of a head and 1 to 1,024 rows.
 pub fn length_is_good(length: usize) -> bool

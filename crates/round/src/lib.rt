@@ -1,7 +1,6 @@
 // A round over its lent table of bytes: three sorts of count, the head as a value, and the limits.
 ghost use mathlib.Core.Path.{_≡_};
 
-pub mod bytes; // bytes.rt: numbers in bytes
 pub mod zeros; // zeros.rt: bytes that are zero
 pub mod head; // head.rt: the table's length and its head
 pub mod rows; // rows.rt: a row's bytes

@@ -11,11 +11,11 @@ use crate::Round;
 use crate::Slot;
 use crate::Ticket;
 use crate::Weight;
-use crate::bytes::read2;
-use crate::bytes::read4;
-use crate::bytes::read8;
-use crate::bytes::write2;
-use crate::bytes::write4;
+use numbers::read2;
+use numbers::read4;
+use numbers::read8;
+use numbers::write2;
+use numbers::write4;
 
 // Where a row begins; the place behind the last row, too.
 pub fn row_at(row: usize) -> usize

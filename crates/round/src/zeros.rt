@@ -6,7 +6,7 @@ ghost use lib.ListN.{length, take, drop, replicate};
 ghost use Rattle.rules.specs.Limits.{row-size};
 ghost use Rattle.theory.specs.Judge.{zeros};
 use crate::Round;
-use crate::bytes::read4;
+use numbers::read4;
 
 // Whether all bytes from a place on are zero; whole rows follow it.
 pub fn zeros_from(table: &[u8], from: usize) -> bool

@@ -4,9 +4,9 @@ ghost use Prim.Native.Nat.{_-_, _/_, _≤_, _<_, max, min};
 ghost use Rattle.rules.specs.Table.{round-in};
 ghost use Rattle.theory.specs.Keys.{key};
 ghost use Rattle.tally.specs.Rows.{Ready, Due-at, Weight-at};
+use numbers::read2;
+use numbers::read4;
 use round::Round;
-use round::bytes::read2;
-use round::bytes::read4;
 use round::rows::row_at;
 
 // The last bucket: all rows due later count there, too.

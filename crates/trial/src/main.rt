@@ -7,7 +7,7 @@ use crate::reading::try_read;
 use crate::writing::try_write;
 use libc::STDIN_FILENO;
 use libc::STDOUT_FILENO;
-use round::bytes::read4;
+use numbers::read4;
 
 mod entries; // entries.rt: the listing
 mod writing; // writing.rt: the line writer

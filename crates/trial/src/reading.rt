@@ -8,7 +8,7 @@ use lines::Reading;
 use lines::payload;
 use lines::payload_place;
 use lines::read_command;
-use round::bytes::write4;
+use numbers::write4;
 
 // Refusal, command, slot and weight, the payload's place, and the payload with its length.
 const PAYLOAD_AT: usize = 28;

@@ -7,9 +7,9 @@ use crate::small;
 use lines::Command;
 use lines::Written;
 use lines::write_line;
+use numbers::write4;
 use round::Slot;
 use round::Weight;
-use round::bytes::write4;
 
 // What each byte of the buffer is before the call.
 const BEFORE: u8 = 42;

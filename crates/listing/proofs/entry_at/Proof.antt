@@ -4,8 +4,8 @@ use Rattle.listing.proofs.entry_at.Statement.{statement}
 use Rattle.listing.proofs.entry_at.Tie as tie
 use Rattle.listing.proofs.entry_at.Reads as reads
 use Rattle.listing.proofs.entry_at.Lts as lts
-use Rattle.round.proofs.bytes.read2.Reads as read2-reads
-use Rattle.round.proofs.bytes.read4.Reads as read4-reads
+use Rattle.numbers.proofs.read2.Reads as read2-reads
+use Rattle.numbers.proofs.read4.Reads as read4-reads
 use Rattle.round.proofs.rows.row_at.Reads as row-at-reads
 
 -- src/listing.rt:61:9

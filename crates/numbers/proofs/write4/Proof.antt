@@ -1,9 +1,9 @@
--- `round::bytes::write4` meets its contract: four stores side by side are the bytes of a number. Assumes nothing.
+-- `numbers::write4` meets its contract: four stores side by side are the bytes of a number. Assumes nothing.
 use lib.ListN.{length-set}
 use borrow.Author.Needs.{needs}
-use Rattle.round.proofs.NumberLaws.{sets4}
-use Rattle.round.proofs.bytes.write4.Statement.{statement}
-use Rattle.round.proofs.bytes.write4.Tie as tie
+use Rattle.numbers.proofs.NumberLaws.{sets4}
+use Rattle.numbers.proofs.write4.Statement.{statement}
+use Rattle.numbers.proofs.write4.Tie as tie
 
 cast-bytes : tie.Need-cast-bytes
 cast-bytes c = search needs

@@ -1,9 +1,9 @@
--- `round::bytes::read4` meets its contract: the bytes joined are a field of four. Assumes nothing.
+-- `numbers::read4` meets its contract: the bytes joined are a field of four. Assumes nothing.
 use mathlib.Core.Path.{sym, _∙_}
 use borrow.Author.Needs.{needs}
-use Rattle.round.proofs.NumberLaws.{field4}
-use Rattle.round.proofs.bytes.read4.Statement.{statement}
-use Rattle.round.proofs.bytes.read4.Tie as tie
+use Rattle.numbers.proofs.NumberLaws.{field4}
+use Rattle.numbers.proofs.read4.Statement.{statement}
+use Rattle.numbers.proofs.read4.Tie as tie
 
 shared-slice-read-join4 : tie.Need-shared-slice-read-join4
 shared-slice-read-join4 c = search needs

@@ -1,9 +1,9 @@
--- `round::bytes::read2` meets its contract: the bytes joined are a field of two. Assumes nothing.
+-- `numbers::read2` meets its contract: the bytes joined are a field of two. Assumes nothing.
 use mathlib.Core.Path.{sym, _∙_}
 use borrow.Author.Needs.{needs}
-use Rattle.round.proofs.NumberLaws.{field2}
-use Rattle.round.proofs.bytes.read2.Statement.{statement}
-use Rattle.round.proofs.bytes.read2.Tie as tie
+use Rattle.numbers.proofs.NumberLaws.{field2}
+use Rattle.numbers.proofs.read2.Statement.{statement}
+use Rattle.numbers.proofs.read2.Tie as tie
 
 shared-slice-read-join2 : tie.Need-shared-slice-read-join2
 shared-slice-read-join2 c = search needs

@@ -1,9 +1,9 @@
--- `round::bytes::write2` meets its contract: two stores side by side are the bytes of a number. Assumes nothing.
+-- `numbers::write2` meets its contract: two stores side by side are the bytes of a number. Assumes nothing.
 use lib.ListN.{length-set}
 use borrow.Author.Needs.{needs}
-use Rattle.round.proofs.NumberLaws.{sets2}
-use Rattle.round.proofs.bytes.write2.Statement.{statement}
-use Rattle.round.proofs.bytes.write2.Tie as tie
+use Rattle.numbers.proofs.NumberLaws.{sets2}
+use Rattle.numbers.proofs.write2.Statement.{statement}
+use Rattle.numbers.proofs.write2.Tie as tie
 
 cast-bytes : tie.Need-cast-bytes
 cast-bytes c = search needs

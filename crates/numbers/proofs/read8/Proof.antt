@@ -1,9 +1,9 @@
--- `round::bytes::read8` meets its contract: two fields of four, joined, are one of eight. Assumes nothing.
+-- `numbers::read8` meets its contract: two fields of four, joined, are one of eight. Assumes nothing.
 use native.Mathlib.Omega.{arith}
 use borrow.Author.Needs.{needs}
-use Rattle.round.proofs.NumberLaws.{field8}
-use Rattle.round.proofs.bytes.read8.Statement.{statement}
-use Rattle.round.proofs.bytes.read8.Tie as tie
+use Rattle.numbers.proofs.NumberLaws.{field8}
+use Rattle.numbers.proofs.read8.Statement.{statement}
+use Rattle.numbers.proofs.read8.Tie as tie
 
 read4-requires : tie.Need-read4-requires
 read4-requires c κs = search needs

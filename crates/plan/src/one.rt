@@ -1,7 +1,7 @@
 // One row too many: the lightest of those that crowd leaves.
 ghost use mathlib.Core.Path.{_≡_};
 ghost use mathlib.Core.Bool.{cond};
-ghost use Prim.Native.Nat.{_≤_, _<_, max};
+ghost use Prim.Native.Nat.{_≤_, _<_};
 ghost use lib.Dec.{ltb};
 ghost use lib.ListN.{length, replicate};
 ghost use Rattle.rules.specs.Conditions.{slot-in, used-in};
@@ -12,6 +12,7 @@ ghost use Rattle.plan.specs.Sweep.{Flagged, Lightest, Kept};
 use crate::keys::ahead_of;
 use crate::keys::key_at;
 use crate::keys::row_of;
+use tally::rows::larger;
 use tally::rows::wide;
 
 // The first bucket that has more rows before it than buckets.
@@ -40,15 +41,6 @@ fn early_key(table: &[u8], row: usize, used: usize, slot: usize, edge: usize) ->
         return key_at(table, row);
     }
     0
-}
-
-fn larger(a: u64, b: u64) -> u64
-    ensures { λ r. ⌜ r ≡ max a b ⌝ }
-{
-    if a < b {
-        return b;
-    }
-    a
 }
 
 // The greatest key of the rows due before edge.

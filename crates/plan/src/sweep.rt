@@ -10,7 +10,7 @@ use crate::heap::rise;
 use crate::heap::sink;
 use crate::keys::key_at;
 use crate::keys::row_of;
-use crate::lists::wide;
+use tally::rows::wide;
 
 // One row. Answers how many are kept.
 fn admit(

@@ -35,14 +35,14 @@ loop-less : tie.Need-loop-less Inv-loop μ-loop
 loop-less c =
     let s = c .before .before .before .before .before .before .before .before .before .before .before in
     let l = c .before .before .before .before .before .before .before .before .loop in
-    omega (arith, c .wide .ensures, s .pre .0 (l .row) (omega arith) (omega arith) .from)
+    omega (arith, c .wide .ensures .0, s .pre .0 (l .row) (omega arith) (omega arith) .from)
 
 loop-again : tie.Need-loop-again Inv-loop μ-loop
 loop-again c =
     let s = c .before .before .before .before .before .before .before .before .before .before .before in
     let l = c .before .before .before .before .before .before .before .before .loop in
     let a = c .before .before .before .before .admit .ensures in
-    (list-more _ _ _ _ (s .args .next .now) _ _ _ _ _ (l .inv .0) (search needs) (search needs) (a .0) (s .pre .0) (c .wide .ensures), a .1)
+    (list-more _ _ _ _ (s .args .next .now) _ _ _ _ _ (l .inv .0) (search needs) (search needs) (a .0) (s .pre .0) (c .wide .ensures .0), a .1)
 
 same-length : tie.Need-same-length Inv-loop μ-loop
 same-length c = search needs

@@ -36,7 +36,7 @@ admit-list-requires c κs =
     let s = c .before .before .before .before .before .before .before .before in
     let l = c .before .before .before .before .before .loop .inv in (
       nexts-of _ _ _ (s .args .next .now) (l .0) (s .pre .1 .1),
-      start-of _ _ _ (s .args .first .now) _ _ (l .0) (s .pre .1 .0) (search needs) (c .wide .ensures),
+      start-of _ _ _ (s .args .first .now) _ _ (l .0) (s .pre .1 .0) (search needs) (c .wide .ensures .0),
       l .2,
       l .3,
     )

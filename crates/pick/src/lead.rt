@@ -1,6 +1,6 @@
 // The row that leads among those due from a slot on, and its score.
 ghost use mathlib.Core.Path.{_≡_};
-ghost use Prim.Native.Nat.{_+_, _-_, _≤_, min};
+ghost use Prim.Native.Nat.{_+_, _-_, _≤_};
 ghost use Rattle.rules.specs.Table.{round-in};
 ghost use Rattle.rules.specs.PlanM.{score};
 ghost use Rattle.theory.specs.Flags.{Chosen};
@@ -9,6 +9,7 @@ ghost use Rattle.pick.specs.Lead.{Greatest, Fair, leader-score, takes-le
 use round::Round;
 use tally::rows::due_at;
 use tally::rows::larger;
+use tally::rows::smaller;
 use tally::rows::weight_at;
 use tally::rows::weight_of;
 
@@ -64,15 +65,6 @@ pub fn takes(lead: Leader, new: Leader) -> bool
         return lead.key < new.key;
     }
     leader_score(lead) <= leader_score(new)
-}
-
-fn smaller(a: u32, b: u32) -> u32
-    ensures { λ r. ⌜ r ≡ min a b ⌝ }
-{
-    if b < a {
-        return b;
-    }
-    a
 }
 
 // The least weight of the plan's rows due by a slot; the largest weight where there is none.

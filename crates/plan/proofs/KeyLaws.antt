@@ -1,19 +1,11 @@
 -- Keys and distances as the code computes them. Assumes nothing.
-use mathlib.Core.Path.{_≡_, ap, _∙_}
-use Prim.Native.Nat.{ℕ, _+_, _*_, _-_, _%_, _≤_, _<_}
+use mathlib.Core.Path.{_≡_}
+use Prim.Native.Nat.{ℕ, _+_, _*_, _-_, _%_, _≤_, _<_, min}
 use mathlib.Core.List.{List}
 use native.Mathlib.Omega.{arith}
-use Rattle.rules.specs.Conditions.{slot-in, used-in, row-at, due-in, weight-in}
-use Rattle.rules.specs.Table.{field}
+use Rattle.rules.specs.Conditions.{slot-in, used-in, due-in, weight-in}
 use Rattle.theory.specs.Keys.{light-key}
 use Rattle.plan.specs.Keys.{key-in, ahead-in}
-
--- a row's numbers at their places
-pub due-read : (t : List ℕ) (i a r : ℕ) → a ≡ row-at i → r ≡ field (a + 4) 2 t → r ≡ due-in t i
-due-read t i a r e f = f ∙ ap (λ (z : ℕ). field (z + 4) 2 t) e
-
-pub weight-read : (t : List ℕ) (i a r : ℕ) → a ≡ row-at i → r ≡ field (a + 6) 4 t → r ≡ weight-in t i
-weight-read t i a r e f = f ∙ ap (λ (z : ℕ). field (z + 6) 4 t) e
 
 -- THE KEY
 pub key-read : (t : List ℕ) (i w d r : ℕ) → w ≡ weight-in t i → d ≡ due-in t i → r ≡ ((16777217 - w) * 4096 + d) * 1024 + i →
@@ -30,13 +22,9 @@ unfolding light-key
 key-some t i h = omega arith
 
 -- HOW FAR AHEAD
-pub near : (t : List ℕ) (i d s n : ℕ) → d ≡ due-in t i → s ≡ slot-in t → n ≡ used-in t → d - s < n → d - s ≡ ahead-in t i
+pub ahead-read : (t : List ℕ) (i d s n r : ℕ) → d ≡ due-in t i → s ≡ slot-in t → n ≡ used-in t → r ≡ min (d - s) n → r ≡ ahead-in t i
 unfolding ahead-in
-near t i d s n a b c h = omega arith
-
-pub far : (t : List ℕ) (i d s n : ℕ) → d ≡ due-in t i → s ≡ slot-in t → n ≡ used-in t → n ≤ d - s → n ≡ ahead-in t i
-unfolding ahead-in
-far t i d s n a b c h = omega arith
+ahead-read t i d s n r a b c e = omega arith
 
 pub ahead-by : (t : List ℕ) (i : ℕ) → ahead-in t i ≤ used-in t
 unfolding ahead-in

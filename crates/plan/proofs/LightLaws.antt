@@ -9,9 +9,9 @@ use lib.Dec.{ltb}
 use borrow.Author.Tests.{lt-ltb, le-ltb}
 use Rattle.rules.specs.Conditions.{due-in, weight-in}
 use Rattle.theory.specs.Tests.{either, leb?, eqb?}
-use Rattle.plan.specs.Keys.{key-in, ahead-in, Rows-known}
+use Rattle.plan.specs.Keys.{key-in, ahead-in}
 use Rattle.plan.specs.Sweep.{Lightest}
-use Rattle.plan.proofs.KeyLaws.{row-in-key, key-some}
+use Rattle.plan.proofs.KeyLaws.{row-in-key}
 
 -- a row's key where it is due before an edge, else 0
 pub key-early : (t : List ℕ) (i a e k : ℕ) → a ≡ ahead-in t i → a < e → k ≡ key-in t i → k ≡ cond (ltb (ahead-in t i) e) (key-in t i) 0
@@ -29,7 +29,7 @@ pub record Seen (t : List ℕ) (n : ℕ) (p : ℕ → Bool) (i top : ℕ) : Type
 pub seen-none : (t : List ℕ) (n : ℕ) (p : ℕ → Bool) → Seen t n p 0 0
 seen-none t n p = record { by = omega arith; named = λ h. absurd (omega arith); most = λ j h. absurd (omega arith) }
 
-module _ (t : List ℕ) (n : ℕ) (p : ℕ → Bool) (known : Rows-known t n) (i top : ℕ) (S : Seen t n p i top) (h : i < n) where
+module _ (t : List ℕ) (n : ℕ) (p : ℕ → Bool) (few : n ≤ 1024) (i top : ℕ) (S : Seen t n p i top) (h : i < n) where
   -- one more row, which is not looked for
   seen-other : p i ≡ false → Seen t n p (i + 1) top
   seen-other e =
@@ -54,7 +54,7 @@ module _ (t : List ℕ) (n : ℕ) (p : ℕ → Bool) (known : Rows-known t n) (i
               rw m (omega (arith, n .0), n .1, n .2)
           | inr b ↦
               let m : max top (key-in t i) ≡ key-in t i = omega (arith, b .1) in
-              let r : key-in t i % 1024 ≡ i = row-in-key (weight-in t i) (due-in t i) i (known i h .few) in
+              let r : key-in t i % 1024 ≡ i = row-in-key (weight-in t i) (due-in t i) i (omega (arith, few)) in
               rw (m, r) (omega arith, e, refl)
         ];
         most = λ j a f. elim (eqb? j i) [
@@ -74,8 +74,7 @@ module _ (t : List ℕ) (n : ℕ) (p : ℕ → Bool) (known : Rows-known t n) (i
   ]
 
 -- THE LAST ROW IS SEEN, and row j is one of those
-pub seen-all : (t : List ℕ) (n : ℕ) (p : ℕ → Bool) (i top j : ℕ) → Rows-known t n → j < n → p j ≡ true → Seen t n p i top → n ≤ i → Lightest t n p top
-seen-all t n p i top j known l e S h =
-    let k = key-some t j (known j l .most) in
+pub seen-all : (t : List ℕ) (n : ℕ) (p : ℕ → Bool) (i top j : ℕ) → 1 ≤ key-in t j → j < n → p j ≡ true → Seen t n p i top → n ≤ i → Lightest t n p top
+seen-all t n p i top j k l e S h =
     let m = S .named (omega (arith, k, S .most j (omega arith) e)) in
     record { in-rows = omega (arith, m .0, S .by); has = m .1; key = m .2; most = λ i a. S .most i (omega arith) }

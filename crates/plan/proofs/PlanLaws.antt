@@ -8,7 +8,7 @@ use native.Mathlib.Omega.{arith}
 use borrow.Author.Tests.{lt-ltb}
 use lib.ListN.{length, getD, take, replicate, length-replicate}
 use lib.Seq.{take-all}
-use Rattle.rules.specs.Rows.{Row, Round, heavier, chosen, All}
+use Rattle.rules.specs.Rows.{Row, Round, blank, heavier, chosen, All}
 use Rattle.rules.specs.Table.{round-in, table-refusal}
 use Rattle.rules.specs.Conditions.{slot-in, used-in}
 use Rattle.theory.specs.Tests.{leb?}
@@ -23,6 +23,7 @@ use Rattle.theory.specs.Index.{chosen-next}
 use Rattle.theory.specs.Sane.{sound}
 use Rattle.theory.specs.Soundness.{accepted-sound}
 use Rattle.theory.specs.Flags.{raised, length-raised, raised-at, Chosen}
+use Rattle.tally.specs.Rows.{at}
 use Rattle.plan.specs.Keys.{key-in, ahead-in}
 use Rattle.plan.specs.Sweep.{kept?, tally, before, smaller, Barred, Kept}
 use Rattle.plan.proofs.TallyLaws.{tally-le, tally-most, before-yes, smaller?, smaller-1}
@@ -65,11 +66,11 @@ module _ (t : List ℕ) (e : table-refusal t ≡ 0) (fs : List ℕ) (size : leng
   abbrev n : ℕ
   n = length fs
 
-  z : Row
-  z = record { ticket = 0; due = 0; weight = 0; kind = 0 }
+  abbrev z : Row
+  z = blank 0
 
   abbrev X : ℕ → Row
-  X j = getD (round-in t .rows) j z
+  X = at (round-in t)
 
   abbrev rs : List Row
   rs = chosen (raised fs) (round-in t .rows)
@@ -92,12 +93,12 @@ module _ (t : List ℕ) (e : table-refusal t ≡ 0) (fs : List ℕ) (size : leng
   ahead-is : (j : ℕ) → j < length fs → ahead-in t j ≡ min (X j .due - round-in t .slot) (length fs)
   unfolding ahead-in
   ahead-is j h =
-      ap (λ (d : ℕ). min (d - slot-in t) (used-in t)) (sym (due-held t z j (omega (arith, size))))
+      ap (λ (d : ℕ). min (d - slot-in t) (used-in t)) (sym (due-held t j (omega (arith, size))))
       ∙ ap (λ (k : ℕ). min (X j .due - k) (used-in t)) (sym (slot-held t))
       ∙ ap (min (X j .due - round-in t .slot)) (sym size)
 
   due-from : (j : ℕ) → j < length fs → round-in t .slot ≤ X j .due
-  due-from j h = omega (arith, due-held t z j (omega (arith, size)), slot-held t, accepted-sound t e .dues-from j (omega (arith, size)))
+  due-from j h = omega (arith, due-held t j (omega (arith, size)), slot-held t, accepted-sound t e .dues-from j (omega (arith, size)))
 
   -- THE ROWS WITH A FLAG FIT
   fits : Feas (round-in t) rs
@@ -127,12 +128,12 @@ module _ (t : List ℕ) (e : table-refusal t ≡ 0) (fs : List ℕ) (size : leng
       let b : j < used-in t = omega (arith, size) in
       rows-light-key 1 (round-in t .next) (round-in t .rows) z i j (f .rising)
       (omega (arith, rows-held t, few-rows t e)) (omega (arith, long)) (omega (arith, long))
-      (omega (arith, due-held t z i a, s .dues-by i a, s .last-most)) (omega (arith, due-held t z j b, s .dues-by j b, s .last-most))
-      (omega (arith, weight-held t z i a, s .weights-most i a)) (omega (arith, weight-held t z j b, s .weights-most j b))
+      (omega (arith, due-held t i a, s .dues-by i a, s .last-most)) (omega (arith, due-held t j b, s .dues-by j b, s .last-most))
+      (omega (arith, weight-held t i a, s .weights-most i a)) (omega (arith, weight-held t j b, s .weights-most j b))
       ∙ lt-ltb (light-key (X i .weight) (X i .due) i) (light-key (X j .weight) (X j .due) j) (omega (arith, key-held i a, key-held j b))
     where
       key-held : (i : ℕ) → i < used-in t → light-key (X i .weight) (X i .due) i ≡ key-in t i
-      key-held i h = ap₂ (λ (w : ℕ) (d : ℕ). light-key w d i) (weight-held t z i h) (due-held t z i h)
+      key-held i h = ap₂ (λ (w : ℕ) (d : ℕ). light-key w d i) (weight-held t i h) (due-held t i h)
 
   -- EACH OTHER ROW IS LEFT OUT
   module _ (j : ℕ) (h : j < length fs) (B : Barred (key-in t) (ahead-in t) (length fs) fs j) where

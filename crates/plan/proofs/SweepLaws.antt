@@ -19,8 +19,7 @@ use Rattle.plan.proofs.FlagLaws.{off, join, stay, sums, exchange, skip,
 
 -- other flags of the same rows
 pub flagged-as : (t fs gs : List ℕ) → Flagged t fs → length gs ≡ length fs → Flagged t gs
-flagged-as t fs gs F l =
-    record { used = l ∙ F .used; few = omega (arith, F .few); known = λ i h. F .known i (omega arith) }
+flagged-as t fs gs F l = record { used = l ∙ F .used; few = omega (arith, F .few) }
 
 -- a key names its row, and different rows have different ones
 pub row-is : (t fs : List ℕ) → Flagged t fs → (j : ℕ) → j < length fs → key-in t j % 1024 ≡ j

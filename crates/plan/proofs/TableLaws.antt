@@ -1,37 +1,29 @@
 -- A sound table's rows by their places. Assumes nothing.
-use mathlib.Core.Path.{_≡_, refl, sym, ap, _∙_}
+use mathlib.Core.Path.{_≡_, refl, ap, _∙_}
 use mathlib.Core.List.{List}
-use Prim.Native.Nat.{ℕ, zero, suc, _+_, _≤_, _<_}
+use Prim.Native.Nat.{ℕ, _≤_, _<_}
 use native.Mathlib.Omega.{arith}
-use lib.ListN.{length, getD, drop}
+use lib.ListN.{length, drop}
 use Rattle.rules.specs.Rows.{Row, row, round}
-use Rattle.rules.specs.Table.{rows-in, round-in, table-refusal}
-use Rattle.rules.specs.Conditions.{slot-in, used-in, row-at, due-in, weight-in}
+use Rattle.rules.specs.Table.{round-in, table-refusal}
+use Rattle.rules.specs.Conditions.{slot-in, used-in, due-in, weight-in}
 use Rattle.theory.specs.Clauses.{rows-count, length-long, accepted-length}
-use Rattle.theory.specs.Soundness.{row-in, row-there, row-next, accepted-sound}
-use Rattle.plan.specs.Keys.{Rows-known}
+use Rattle.theory.specs.Soundness.{accepted-sound}
+use Rattle.round.specs.declared.Round.{Round as Head}
+use Rattle.tally.specs.Rows.{Ready, Due-at, Weight-at, at}
+use Rattle.tally.proofs.RowLaws.{at-held}
+use Rattle.plan.specs.Keys.{key-in}
 use Rattle.plan.specs.Sweep.{Flagged}
-
-rows-there : (t : List ℕ) (z : Row) (k i j : ℕ) → j < k → getD (rows-in k (drop (row-at i) t)) j z ≡ row-in t (i + j)
-unfolding rows-in
-rows-there t z zero i j h = absurd (omega arith)
-rows-there t z (suc k) i zero h = let e : i + 0 ≡ i = omega arith in row-there t i ∙ ap (row-in t) (sym e)
-rows-there t z (suc k) i (suc j) h =
-    let e : suc i + j ≡ i + suc j = omega arith in
-    ap (λ (bs : List ℕ). getD (rows-in k bs) j z) (row-next t i) ∙ rows-there t z k (suc i) j (omega arith) ∙ ap (row-in t) e
+use Rattle.plan.proofs.KeyLaws.{key-some}
 
 -- ROW j of the round that a table holds
-pub row-held : (t : List ℕ) (z : Row) (j : ℕ) → j < used-in t → getD (round-in t .rows) j z ≡ row-in t j
-unfolding round-in round
-row-held t z j h = let e : 0 + j ≡ j = omega arith in rows-there t z (used-in t) 0 j h ∙ ap (row-in t) e
-
-pub due-held : (t : List ℕ) (z : Row) (j : ℕ) → j < used-in t → getD (round-in t .rows) j z .due ≡ due-in t j
+pub due-held : (t : List ℕ) (j : ℕ) → j < used-in t → at (round-in t) j .due ≡ due-in t j
 unfolding row
-due-held t z j h = ap (λ (x : Row). x .due) (row-held t z j h)
+due-held t j h = ap (λ (x : Row). x .due) (at-held t j h)
 
-pub weight-held : (t : List ℕ) (z : Row) (j : ℕ) → j < used-in t → getD (round-in t .rows) j z .weight ≡ weight-in t j
+pub weight-held : (t : List ℕ) (j : ℕ) → j < used-in t → at (round-in t) j .weight ≡ weight-in t j
 unfolding row
-weight-held t z j h = ap (λ (x : Row). x .weight) (row-held t z j h)
+weight-held t j h = ap (λ (x : Row). x .weight) (at-held t j h)
 
 pub rows-held : (t : List ℕ) → length (round-in t .rows) ≡ used-in t
 unfolding round-in round
@@ -41,22 +33,24 @@ pub slot-held : (t : List ℕ) → round-in t .slot ≡ slot-in t
 unfolding round-in round
 slot-held t = refl
 
--- WHAT A SOUND TABLE LETS THE CODE READ
+-- WHAT A SOUND TABLE HAS, for one flag a row
 module _ (t : List ℕ) (e : table-refusal t ≡ 0) where
   pub few-rows : used-in t ≤ 1024
   few-rows = let l = length-long t (accepted-length t e) in omega (arith, accepted-sound t e .rows-fit, l .2)
 
-  pub rows-known : Rows-known t (used-in t)
-  rows-known i h =
-      let s = accepted-sound t e in
-      let l = length-long t (accepted-length t e) in
-      record {
-        few = omega (arith, few-rows);
-        long = omega (arith, s .rows-fit, l .0);
-        from = s .dues-from i h;
-        by = omega (arith, s .dues-by i h, s .last-most);
-        most = s .weights-most i h;
-      }
-
   pub flagged : (fs : List ℕ) → length fs ≡ used-in t → Flagged t fs
-  flagged fs l = record { used = l; few = omega (arith, few-rows); known = λ i h. rows-known i (omega arith) }
+  flagged fs l = record { used = l; few = omega (arith, few-rows) }
+
+-- A ROW AS TALLY READS IT, by its bytes
+module _ (t : List ℕ) (h : Head) (ready : Ready t h) (i : ℕ) (l : i < h .used) where
+  in-use : i < used-in t
+  in-use = omega (arith, l, ready .head .used)
+
+  pub due-found : (d : ℕ) → Due-at (round-in t) i d → d ≡ due-in t i
+  due-found d D = D .is ∙ due-held t i in-use
+
+  pub weight-found : (w : ℕ) → Weight-at (round-in t) i w → w ≡ weight-in t i
+  weight-found w W = W .is ∙ weight-held t i in-use
+
+  pub key-held : 1 ≤ key-in t i
+  key-held = key-some t i (accepted-sound t (ready .sound) .weights-most i in-use)

@@ -8,7 +8,7 @@ use lib.Dec.{ltb, eqb}
 use lib.ListN.{length, getD}
 use Rattle.rules.specs.Limits.{most-rows}
 use Rattle.rules.specs.Conditions.{used-in}
-use Rattle.plan.specs.Keys.{key-in, ahead-in, Rows-known}
+use Rattle.plan.specs.Keys.{key-in, ahead-in}
 use Rattle.plan.specs.Heap.{Heap, heaped}
 
 -- whether a row has a flag, and the sum of a measure of the first n rows that have one
@@ -51,7 +51,6 @@ pub record Mid (key ahead : ℕ → ℕ) (n : ℕ) (fs : List ℕ) (s a count : 
 pub record Flagged (t fs : List ℕ) : Type 0 where
   pub used : length fs ≡ used-in t
   pub few : length fs ≤ most-rows
-  pub known : Rows-known t (length fs)
 
 -- in the midst of a table's rows
 pub record Swept (t fs : List ℕ) (s a count : ℕ) : Type 0 where

@@ -1,8 +1,7 @@
 // The plan's rows of a sound table.
 ghost use mathlib.Core.Path.{_≡_};
 ghost use lib.ListN.{length, replicate};
-ghost use Rattle.rules.specs.Table.{round-in, table-refusal};
-ghost use Rattle.rules.specs.Conditions.{slot-in, used-in};
+ghost use Rattle.rules.specs.Table.{round-in};
 ghost use Rattle.theory.specs.Flags.{Chosen};
 ghost use Rattle.tally.specs.Rows.{Ready};
 ghost use Rattle.tally.specs.Near.{Counted, Reaches};
@@ -20,18 +19,18 @@ use round::zeros::clear;
 use tally::near::Reach;
 
 // Rows due before free pass through a heap; the others stay, if there are any. The arrays take 12 KB of stack.
-fn leave_some(table: &[u8], flags: &mut [u8], slot: usize, reach: Reach)
-    requires { ⌜ (table-refusal (now table) ≡ 0) × (slot ≡ slot-in (now table)) × (length (now flags) ≡ used-in (now table))
-        × Level (ahead-in (now table)) (length (now flags)) reach × Flat (ahead-in (now table)) (length (now flags)) (reach .free) ⌝ }
+fn leave_some(table: &[u8], flags: &mut [u8], round: Round, reach: Reach)
+    requires { ⌜ Ready (now table) round × (length (now flags) ≡ round .used)
+        × Level (ahead-in (now table)) (round .used) reach × Flat (ahead-in (now table)) (round .used) (reach .free) ⌝ }
     ensures { λ _. ⌜ Kept (now (table .entry)) (now (flags .exit)) ⌝ }
 {
     let mut first = [NONE; 1025];
     let mut next = [NONE; 1024];
-    link(table, &mut first, &mut next, flags.len(), slot);
+    link(table, &mut first, &mut next, round);
     clear(flags, 0);
-    sweep(table, flags, &first, &next, reach.free);
-    if reach.free + reach.over < flags.len() {
-        raise_far(table, flags, slot, reach.free);
+    sweep(table, flags, &first, &next, round, reach.free);
+    if reach.free + reach.over < round.used {
+        raise_far(table, flags, round, reach.free);
     }
 }
 
@@ -44,10 +43,9 @@ pub fn choose_rows(table: &[u8], flags: &mut [u8], counts: &[u16; 1025], round: 
     if reach.over == 0 {
         return;
     }
-    let slot = round.slot.0 as usize;
     if reach.over == 1 {
-        leave_one(table, flags, slot, crowd_of(counts, reach.free));
+        leave_one(table, flags, round, crowd_of(counts, reach.free));
         return;
     }
-    leave_some(table, flags, slot, reach);
+    leave_some(table, flags, round, reach);
 }

@@ -2,6 +2,7 @@
 ghost use mathlib.Core.Path.{_≡_};
 ghost use Prim.Native.Nat.{suc, _≤_, _<_};
 ghost use lib.ListN.{length, replicate};
+ghost use Rattle.tally.specs.Rows.{Ready};
 ghost use Rattle.plan.specs.Keys.{ahead-in};
 ghost use Rattle.plan.specs.Lists.{Next, Nexts, Listed};
 ghost use Rattle.plan.specs.Sweep.{Flagged, Swept, Swept-by, Heaped};
@@ -10,22 +11,24 @@ use crate::heap::rise;
 use crate::heap::sink;
 use crate::keys::key_at;
 use crate::keys::row_of;
-use crate::lists::wide;
+use round::Round;
+use tally::rows::wide;
 
 // One row. Answers how many are kept.
 fn admit(
     table: &[u8],
     heap: &mut [u64; 1026],
     flags: &mut [u8],
+    round: Round,
     row: usize,
     ahead: usize,
     count: usize,
 ) -> usize
-    requires { ⌜ (row < length (now flags)) × (ahead-in (now table) row ≡ ahead) × Swept (now table) (now flags) ahead row count
-        × Heaped (now table) (now heap) (now flags) count ⌝ }
+    requires { ⌜ Ready (now table) round × (row < length (now flags)) × (ahead-in (now table) row ≡ ahead)
+        × Swept (now table) (now flags) ahead row count × Heaped (now table) (now heap) (now flags) count ⌝ }
     ensures { λ r. ⌜ Swept (now (table .entry)) (now (flags .exit)) ahead (suc row) r × Heaped (now (table .entry)) (now (heap .exit)) (now (flags .exit)) r ⌝ }
 {
-    let key = key_at(table, row);
+    let key = key_at(table, round, row);
     let slots = ahead + 1;
     if count < slots {
         rise(heap, count, key);
@@ -48,26 +51,35 @@ fn admit_list(
     heap: &mut [u64; 1026],
     flags: &mut [u8],
     next: &[u16; 1024],
+    round: Round,
     start: usize,
     ahead: usize,
     kept: usize,
 ) -> usize
-    requires { ⌜ Nexts (ahead-in (now table)) (length (now flags)) 0 (now next) × Next (ahead-in (now table)) (length (now flags)) ahead 0 start
+    requires { ⌜ Ready (now table) round × Nexts (ahead-in (now table)) (length (now flags)) 0 (now next)
+        × Next (ahead-in (now table)) (length (now flags)) ahead 0 start
         × Swept (now table) (now flags) ahead 0 kept × Heaped (now table) (now heap) (now flags) kept ⌝ }
     ensures { λ r. ⌜ Swept (now (table .entry)) (now (flags .exit)) (suc ahead) 0 r × Heaped (now (table .entry)) (now (heap .exit)) (now (flags .exit)) r ⌝ }
 {
     let mut row = start;
     let mut count = kept;
     while row < flags.len() {
-        count = admit(table, heap, flags, row, ahead, count);
+        count = admit(table, heap, flags, round, row, ahead, count);
         row = wide(next[row]);
     }
     count
 }
 
 // The lists below edge.
-pub fn sweep(table: &[u8], flags: &mut [u8], first: &[u16; 1025], next: &[u16; 1024], edge: usize)
-    requires { ⌜ Flagged (now table) (now flags) × Listed (ahead-in (now table)) (length (now flags)) (now first) (now next)
+pub fn sweep(
+    table: &[u8],
+    flags: &mut [u8],
+    first: &[u16; 1025],
+    next: &[u16; 1024],
+    round: Round,
+    edge: usize,
+)
+    requires { ⌜ Ready (now table) round × Flagged (now table) (now flags) × Listed (ahead-in (now table)) (length (now flags)) (now first) (now next)
         × (now flags ≡ replicate (length (now flags)) 0) × (edge ≤ length (now flags)) ⌝ }
     ensures { λ _. ⌜ Swept-by (now (table .entry)) (now (flags .exit)) edge ⌝ }
 {
@@ -80,6 +92,7 @@ pub fn sweep(table: &[u8], flags: &mut [u8], first: &[u16; 1025], next: &[u16; 1
             &mut heap,
             flags,
             next,
+            round,
             wide(first[ahead]),
             ahead,
             count,

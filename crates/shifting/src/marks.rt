@@ -1,6 +1,6 @@
 // Marks by slot: the least weight of the plan's rows due by it. Buckets count slots from the current one on.
 ghost use mathlib.Core.Path.{_≡_};
-ghost use Prim.Native.Nat.{_≤_, _<_, min};
+ghost use Prim.Native.Nat.{_≤_, _<_};
 ghost use lib.ListN.{length};
 ghost use Rattle.rules.specs.Table.{round-in};
 ghost use Rattle.theory.specs.Flags.{Chosen};
@@ -8,16 +8,8 @@ ghost use Rattle.tally.specs.Rows.{Ready};
 ghost use Rattle.shifting.specs.Marks.{Blank-marks, Lowered, lowered, Own-marks, Marks};
 use round::Round;
 use tally::rows::due_at;
+use tally::rows::smaller;
 use tally::rows::weight_at;
-
-fn smaller(a: u32, b: u32) -> u32
-    ensures { λ r. ⌜ r ≡ min a b ⌝ }
-{
-    if b < a {
-        return b;
-    }
-    a
-}
 
 // The largest weight for every bucket up to the last.
 fn start_marks(marks: &mut [u32; 1025], last: usize)

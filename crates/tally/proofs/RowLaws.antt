@@ -52,10 +52,12 @@ rows-there (suc n) t i zero h = let e : i ≡ i + 0 = omega arith in row-there t
 rows-there (suc n) t i (suc j) h =
     let e : suc i + j ≡ i + suc j = omega arith in rw (row-next t i) (rows-there n t (suc i) j (omega arith) ∙ ap (row-in t) e)
 
-pub at-is : (t : List ℕ) (h : Head) → Ready t h → (i : ℕ) → i < h .used → at (round-in t) i ≡ row-in t i
+pub at-held : (t : List ℕ) (i : ℕ) → i < used-in t → at (round-in t) i ≡ row-in t i
 unfolding round-in round
-at-is t h k i l =
-    let e : 0 + i ≡ i = omega arith in rows-there (used-in t) t 0 i (omega (arith, l, k .head .used)) ∙ ap (row-in t) e
+at-held t i l = let e : 0 + i ≡ i = omega arith in rows-there (used-in t) t 0 i l ∙ ap (row-in t) e
+
+pub at-is : (t : List ℕ) (h : Head) → Ready t h → (i : ℕ) → i < h .used → at (round-in t) i ≡ row-in t i
+at-is t h k i l = at-held t i (omega (arith, l, k .head .used))
 
 -- and keep the bounds of a sound round
 pub at-fine : (t : List ℕ) (h : Head) → Ready t h → (i : ℕ) → i < h .used → Row-fine (round-in t) (at (round-in t) i)

@@ -9,10 +9,10 @@ use Rattle.plan.proofs.far.raise_far.Statement.{statement}
 use Rattle.plan.proofs.far.raise_far.Tie as tie
 
 abbrev Inv-loop : tie.InvT-loop
-Inv-loop table flags₀ slot edge i₀ flags i = (i ≤ length flags₀) × Raising (ahead-in table) edge flags₀ i flags
+Inv-loop table flags₀ round edge i₀ flags i = (i ≤ length flags₀) × Raising (ahead-in table) edge flags₀ i flags
 
 abbrev μ-loop : tie.MeasureT-loop
-μ-loop table flags₀ slot edge i₀ flags i = length flags₀ - i
+μ-loop table flags₀ round edge i₀ flags i = length flags₀ - i
 
 loop-holds : tie.Need-loop-holds Inv-loop μ-loop
 loop-holds c = (search needs, raise-start _ _ _)
@@ -23,7 +23,7 @@ add-i c = search needs
 ahead-of-requires : tie.Need-ahead-of-requires Inv-loop μ-loop
 ahead-of-requires c κs =
     let s = c .before .before .before .before in
-    (s .pre .0 .known _ (omega (arith, c .before .loop .inv .1 .size)), omega (arith, c .before .loop .inv .1 .size, s .pre .0 .used), s .pre .1)
+    (s .pre .0, omega (arith, c .before .loop .inv .1 .size, s .pre .1))
 
 slice-write-flags : tie.Need-slice-write-flags Inv-loop μ-loop
 slice-write-flags c = search needs

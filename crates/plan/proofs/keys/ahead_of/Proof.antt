@@ -1,27 +1,23 @@
 -- `ahead_of`: the smaller of two distances. Assumes nothing.
+use native.Mathlib.Omega.{arith}
 use borrow.Author.Needs.{needs}
-use Rattle.plan.proofs.KeyLaws.{near, far}
+use Rattle.tally.proofs.RowLaws.{known}
+use Rattle.plan.proofs.KeyLaws.{ahead-read}
+use Rattle.plan.proofs.TableLaws.{due-found}
 use Rattle.plan.proofs.keys.ahead_of.Statement.{statement}
 use Rattle.plan.proofs.keys.ahead_of.Tie as tie
 
 due-at-requires : tie.Need-due-at-requires
 due-at-requires c κs = search needs
 
-cast-ahead : tie.Need-cast-ahead
-cast-ahead c = search needs
-
-sub-ahead : tie.Need-sub-ahead
-sub-ahead c = search needs
+bucket-of-requires : tie.Need-bucket-of-requires
+bucket-of-requires c κs = omega (arith, c .due-at .ensures .from, known _ _ (c .before .before .pre .0) .slot)
 
 returns : tie.Need-returns
 returns c =
-    let s = c .before .before .before .before in
-    (near _ _ _ _ _ (c .before .before .due-at .ensures) (s .pre .2) (s .pre .1) (search needs), search needs)
-
-returns-2 : tie.Need-returns-2
-returns-2 c =
-    let s = c .before .before .before .before in
-    (far _ _ _ _ _ (c .before .before .due-at .ensures) (s .pre .2) (s .pre .1) (search needs), search needs)
+    let p = c .before .before .before .pre in
+    let d = due-found _ _ (p .0) _ (p .1) _ (c .before .due-at .ensures) in
+    (ahead-read _ _ _ _ _ _ d (p .0 .head .slot) (p .0 .head .used) (c .bucket-of .ensures), omega (arith, c .bucket-of .ensures))
 
 pub ahead-of-spec : {M : Type 1} → statement M
-ahead-of-spec = tie.close (tie.spec due-at-requires cast-ahead sub-ahead returns returns-2)
+ahead-of-spec = tie.close (tie.spec due-at-requires bucket-of-requires returns)

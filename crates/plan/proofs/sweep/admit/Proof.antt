@@ -8,17 +8,18 @@ use Rattle.plan.proofs.sweep.admit.Statement.{statement}
 use Rattle.plan.proofs.sweep.admit.Tie as tie
 
 key-at-requires : tie.Need-key-at-requires
-key-at-requires c κs = c .before .before .pre .2 .flagged .known _ (search needs)
+key-at-requires c κs =
+    let p = c .before .before .pre in (p .0, omega (arith, p .0 .head .used, p .1, p .3 .flagged .used))
 
 add-slots : tie.Need-add-slots
 add-slots c =
     let s = c .before .before .before in
-    omega (arith, ahead-by (s .args .table .now) (s .args .row), s .pre .2 .flagged .used, s .pre .2 .flagged .few)
+    omega (arith, ahead-by (s .args .table .now) (s .args .row), s .pre .3 .flagged .used, s .pre .3 .flagged .few)
 
 rise-requires : tie.Need-rise-requires
 rise-requires c κs =
     let s = c .before .before .before .before .before in
-    (omega (arith, count-under _ _ _ _ _ (s .pre .2) (s .pre .0) (s .pre .1), s .pre .2 .flagged .few), search needs, s .pre .3 .ordered)
+    (omega (arith, count-under _ _ _ _ _ (s .pre .3) (s .pre .1) (s .pre .2), s .pre .3 .flagged .few), search needs, s .pre .4 .ordered)
 
 slice-write-flags : tie.Need-slice-write-flags
 slice-write-flags c = search needs
@@ -26,7 +27,7 @@ slice-write-flags c = search needs
 add-result : tie.Need-add-result
 add-result c =
     let s = c .before .before .before .before .before .before in
-    omega (arith, count-under _ _ _ _ _ (s .pre .2) (s .pre .0) (s .pre .1), s .pre .2 .flagged .few)
+    omega (arith, count-under _ _ _ _ _ (s .pre .3) (s .pre .1) (s .pre .2), s .pre .3 .flagged .few)
 
 same-length : tie.Need-same-length
 same-length c = search needs
@@ -35,8 +36,8 @@ returns : tie.Need-returns
 returns c =
     let s = c .before .before .before .before .before .before in
     let k = c .before .before .before .key-at .ensures .0 in (
-      joined _ _ _ _ _ (s .pre .2) (s .pre .0) (s .pre .1) (search needs),
-      heap-joined _ _ _ _ _ _ _ _ (s .pre .2) (s .pre .3) (s .pre .0) (s .pre .1) k (c .rise .ensures),
+      joined _ _ _ _ _ (s .pre .3) (s .pre .1) (s .pre .2) (search needs),
+      heap-joined _ _ _ _ _ _ _ _ (s .pre .3) (s .pre .4) (s .pre .1) (s .pre .2) k (c .rise .ensures),
     )
 
 element-copy-out-top : tie.Need-element-copy-out-top
@@ -48,12 +49,12 @@ row-of-requires c κs = search needs
 sink-requires : tie.Need-sink-requires
 sink-requires c κs =
     let s = c .before .before .before .before .before .before .before .before in
-    (search needs, omega (arith, count-by _ _ _ _ _ (s .pre .2), s .pre .2 .flagged .few), search needs, s .pre .3 .ordered, search needs)
+    (search needs, omega (arith, count-by _ _ _ _ _ (s .pre .3), s .pre .3 .flagged .few), search needs, s .pre .4 .ordered, search needs)
 
 slice-write-flags-2 : tie.Need-slice-write-flags-2
 slice-write-flags-2 c =
     let s = c .before .before .before .before .before .before .before .before .before in
-    omega (arith, c .before .before .row-of .ensures, top-lightest _ _ _ _ (s .pre .2 .flagged) (s .pre .3) (omega arith) .in-rows)
+    omega (arith, c .before .before .row-of .ensures, top-lightest _ _ _ _ (s .pre .3 .flagged) (s .pre .4) (omega arith) .in-rows)
 
 slice-write-flags-3 : tie.Need-slice-write-flags-3
 slice-write-flags-3 c = search needs
@@ -66,17 +67,17 @@ returns-2 c =
     let s = c .before .before .before .before .before .before .before .before .before in
     let k = c .before .before .before .before .before .before .key-at .ensures .0 in
     let z = c .before .before .row-of .ensures in
-    let L = top-lightest _ _ _ _ (s .pre .2 .flagged) (s .pre .3) (omega arith) in (
-      exchanged _ _ _ _ _ (s .pre .2) (s .pre .0) (s .pre .1) _ _ k (search needs) L (search needs) _ z,
-      heap-exchanged _ _ _ _ _ _ _ _ (s .pre .2) (s .pre .3) (s .pre .0) (s .pre .1) k _ (search needs) (search needs) z (c .sink .ensures),
+    let L = top-lightest _ _ _ _ (s .pre .3 .flagged) (s .pre .4) (omega arith) in (
+      exchanged _ _ _ _ _ (s .pre .3) (s .pre .1) (s .pre .2) _ _ k (search needs) L (search needs) _ z,
+      heap-exchanged _ _ _ _ _ _ _ _ (s .pre .3) (s .pre .4) (s .pre .1) (s .pre .2) k _ (search needs) (search needs) z (c .sink .ensures),
     )
 
 returns-3 : tie.Need-returns-3
 returns-3 c =
     let s = c .before .before .before .before .before .before in
     let k = c .before .before .before .key-at .ensures .0 in
-    let L = top-lightest _ _ _ _ (s .pre .2 .flagged) (s .pre .3) (omega arith) in
-    (stayed _ _ _ _ _ (s .pre .2) (s .pre .0) (s .pre .1) _ _ k (search needs) L (search needs), s .pre .3)
+    let L = top-lightest _ _ _ _ (s .pre .3 .flagged) (s .pre .4) (omega arith) in
+    (stayed _ _ _ _ _ (s .pre .3) (s .pre .1) (s .pre .2) _ _ k (search needs) L (search needs), s .pre .4)
 
 pub admit-spec : {M : Type 1} → statement M
 admit-spec =

@@ -9,18 +9,18 @@ use Rattle.plan.proofs.sweep.admit_list.Statement.{statement}
 use Rattle.plan.proofs.sweep.admit_list.Tie as tie
 
 abbrev Inv-loop : tie.InvT-loop
-Inv-loop table heap₀ flags₀ next start ahead kept row₀ count₀ heap flags row count =
+Inv-loop table heap₀ flags₀ next round start ahead kept row₀ count₀ heap flags row count =
     Listing table (length flags₀) flags ahead row count × Heaped table heap flags count
 
 abbrev μ-loop : tie.MeasureT-loop
-μ-loop table heap₀ flags₀ next start ahead kept row₀ count₀ heap flags row count = length flags₀ - row
+μ-loop table heap₀ flags₀ next round start ahead kept row₀ count₀ heap flags row count = length flags₀ - row
 
 loop-holds : tie.Need-loop-holds Inv-loop μ-loop
-loop-holds c = (list-start _ _ _ _ _ (c .before .before .pre .2) (c .before .before .pre .1), c .before .before .pre .3)
+loop-holds c = (list-start _ _ _ _ _ (c .before .before .pre .3) (c .before .before .pre .2), c .before .before .pre .4)
 
 admit-requires : tie.Need-admit-requires Inv-loop μ-loop
 admit-requires c κs =
-    let i = c .before .before .before .loop .inv in (search needs, i .0 .here (search needs), i .0 .swept, i .1)
+    let i = c .before .before .before .loop .inv in (search needs, search needs, i .0 .here (search needs), i .0 .swept, i .1)
 
 mul-wide : tie.Need-mul-wide Inv-loop μ-loop
 mul-wide c = let f = c .before .before .before .before .before .before .loop .inv .0 .swept .flagged .few in search needs
@@ -35,14 +35,14 @@ loop-less : tie.Need-loop-less Inv-loop μ-loop
 loop-less c =
     let s = c .before .before .before .before .before .before .before .before .before .before .before in
     let l = c .before .before .before .before .before .before .before .before .loop in
-    omega (arith, c .wide .ensures, s .pre .0 (l .row) (omega arith) (omega arith) .from)
+    omega (arith, c .wide .ensures .0, s .pre .1 (l .row) (omega arith) (omega arith) .from)
 
 loop-again : tie.Need-loop-again Inv-loop μ-loop
 loop-again c =
     let s = c .before .before .before .before .before .before .before .before .before .before .before in
     let l = c .before .before .before .before .before .before .before .before .loop in
     let a = c .before .before .before .before .admit .ensures in
-    (list-more _ _ _ _ (s .args .next .now) _ _ _ _ _ (l .inv .0) (search needs) (search needs) (a .0) (s .pre .0) (c .wide .ensures), a .1)
+    (list-more _ _ _ _ (s .args .next .now) _ _ _ _ _ (l .inv .0) (search needs) (search needs) (a .0) (s .pre .1) (c .wide .ensures .0), a .1)
 
 same-length : tie.Need-same-length Inv-loop μ-loop
 same-length c = search needs

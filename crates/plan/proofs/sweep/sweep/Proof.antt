@@ -11,16 +11,16 @@ use Rattle.plan.proofs.sweep.sweep.Statement.{statement}
 use Rattle.plan.proofs.sweep.sweep.Tie as tie
 
 abbrev Inv-loop : tie.InvT-loop
-Inv-loop table flags₀ first next edge heap₀ ahead₀ count₀ flags heap ahead count =
+Inv-loop table flags₀ first next round edge heap₀ ahead₀ count₀ flags heap ahead count =
     (length flags ≡ length flags₀) × (ahead ≤ edge) × Swept table flags ahead 0 count × Heaped table heap flags count
 
 abbrev μ-loop : tie.MeasureT-loop
-μ-loop table flags₀ first next edge heap₀ ahead₀ count₀ flags heap ahead count = edge - ahead
+μ-loop table flags₀ first next round edge heap₀ ahead₀ count₀ flags heap ahead count = edge - ahead
 
 loop-holds : tie.Need-loop-holds Inv-loop μ-loop
 loop-holds c =
     let p = c .before .before .pre in
-    (refl, search needs, none-swept _ _ (p .0) (p .2), none-heaped _ _ _ refl (p .2))
+    (refl, search needs, none-swept _ _ (p .1) (p .3), none-heaped _ _ _ refl (p .3))
 
 mul-wide : tie.Need-mul-wide Inv-loop μ-loop
 mul-wide c = search needs
@@ -35,8 +35,9 @@ admit-list-requires : tie.Need-admit-list-requires Inv-loop μ-loop
 admit-list-requires c κs =
     let s = c .before .before .before .before .before .before .before .before in
     let l = c .before .before .before .before .before .loop .inv in (
-      nexts-of _ _ _ (s .args .next .now) (l .0) (s .pre .1 .1),
-      start-of _ _ _ (s .args .first .now) _ _ (l .0) (s .pre .1 .0) (search needs) (c .wide .ensures),
+      s .pre .0,
+      nexts-of _ _ _ (s .args .next .now) (l .0) (s .pre .2 .1),
+      start-of _ _ _ (s .args .first .now) _ _ (l .0) (s .pre .2 .0) (search needs) (c .wide .ensures .0),
       l .2,
       l .3,
     )

@@ -1,7 +1,8 @@
 -- `turns::turning::take_turn` meets its contract: the call that the command asks for, and its reply's line. Assumes nothing.
-use mathlib.Core.Path.{ap}
-use Rattle.rules.specs.Lines.{call-of, reply-text}
-use Rattle.turns.proofs.Said.{said-by}
+use mathlib.Core.Path.{ap, ap₂}
+use Rattle.rules.specs.Calls.{opening, taking}
+use Rattle.rules.specs.Lines.{call-of}
+use Rattle.turns.proofs.Said.{turned}
 use borrow.Author.Needs.{needs}
 use Rattle.turns.proofs.turning.take_turn.Statement.{statement}
 use Rattle.turns.proofs.turning.take_turn.Tie as tie
@@ -43,11 +44,8 @@ returns : tie.Need-returns
 unfolding call-of
 returns c =
     let told = c .before .before .before .before .before .before .before .before .before .command .given .1 in
-    let call = c .before .before .before .before .before .before .open-round .ensures in
-    record {
-      said = said-by (c .before .before .say-opened .ensures) (rw told (ap reply-text (cc (call .0))));
-      moved = rw told (cc (call .1));
-    }
+    turned _ _ _ _ _ _ _ _ (rw told (ap opening (search needs))) (c .before .before .before .before .before .before .open-round .ensures)
+    (c .before .before .say-opened .ensures)
 
 same-length-3 : tie.Need-same-length-3
 same-length-3 c = search needs
@@ -59,11 +57,8 @@ returns-2 : tie.Need-returns-2
 unfolding call-of
 returns-2 c =
     let told = c .before .before .before .before .before .before .before .before .before .command2 .given .1 in
-    let call = c .before .before .before .before .before .before .take-frame .ensures in
-    record {
-      said = said-by (c .before .before .say-taken .ensures) (rw told (ap reply-text (cc (call .0))));
-      moved = rw told (cc (call .1));
-    }
+    turned _ _ _ _ _ _ _ _ (rw told (ap₂ taking (search needs) (search needs))) (c .before .before .before .before .before .before .take-frame .ensures)
+    (c .before .before .say-taken .ensures)
 
 same-length-5 : tie.Need-same-length-5
 same-length-5 c = search needs
@@ -75,11 +70,7 @@ returns-3 : tie.Need-returns-3
 unfolding call-of
 returns-3 c =
     let told = c .before .before .before .before .before .before .before .before .enum-told .given .1 in
-    let call = c .before .before .before .before .before .before .send-slot .ensures in
-    record {
-      said = said-by (c .before .before .say-sent .ensures) (rw told (ap reply-text (cc (call .0))));
-      moved = rw told (cc (call .1));
-    }
+    turned _ _ _ _ _ _ _ _ (rw told) (c .before .before .before .before .before .before .send-slot .ensures) (c .before .before .say-sent .ensures)
 
 pub take-turn-spec : {M : Type 1} → statement M
 take-turn-spec =

@@ -119,6 +119,13 @@ serving-none input t o = record { within = omega arith; room = omega arith; smal
 pub out-within : {input t z before after : List ℕ} {from wrote : ℕ} → Serving input t z before after from wrote → wrote ≤ length after
 out-within s = omega (arith, s .room, s .long)
 
+pub room-left : (o : List ℕ) (w : ℕ) → 15 ≤ length o - w → 15 ≤ length (take (length o - w) (drop w o))
+room-left o w h = omega (arith, h, length-take (length o - w) (drop w o), length-drop w o)
+
+pub no-room : {input t z before after : List ℕ} {from wrote : ℕ} → Serving input t z before after from wrote → length after - wrote < 15 →
+    15 ≤ length before - wrote → ⊥
+no-room s h k = omega (arith, s .long, h, k)
+
 kept-on : (a b c : List ℕ) (w r : ℕ) → drop (w + r) a ≡ drop (w + r) b → drop w b ≡ drop w c → drop (w + r) a ≡ drop (w + r) c
 kept-on a b c w r e f = e ∙ sym (drop-drop r w b) ∙ ap (drop r) f ∙ drop-drop r w c
 

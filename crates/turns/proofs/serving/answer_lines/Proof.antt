@@ -1,5 +1,5 @@
 -- `turns::serving::answer_lines` meets its contract: the lines so far are answered; what is left of the input falls. Assumes nothing.
-use mathlib.Core.Path.{_≡_, refl, ap, subst, _∙_}
+use mathlib.Core.Path.{_≡_, refl, sym, ap, subst, _∙_}
 use Prim.Native.Nat.{_-_}
 use native.Mathlib.Nat.{le-refl}
 use native.Mathlib.Omega.{arith}
@@ -9,7 +9,7 @@ use Rattle.lines.specs.Cases.{command-of, reading-of}
 use Rattle.lines.specs.Ends.{Ends, First}
 use Rattle.turns.specs.Serving.{Serving}
 use Rattle.turns.proofs.Said.{said-by}
-use Rattle.turns.proofs.Served.{put-line, reply-within, out-within, serving-none, serving-more, served-broken, served-so-far}
+use Rattle.turns.proofs.Served.{put-line, reply-within, out-within, room-left, no-room, serving-none, serving-more, served-broken, served-so-far}
 use Rattle.turns.proofs.serving.answer_lines.Statement.{statement}
 use Rattle.turns.proofs.serving.answer_lines.Tie as tie
 
@@ -91,7 +91,9 @@ part-write-refusal-end : tie.Need-part-write-refusal-end Inv-loop μ-loop
 part-write-refusal-end c = le-refl _
 
 write-refusal-requires : tie.Need-write-refusal-requires Inv-loop μ-loop
-write-refusal-requires c κs = search needs
+write-refusal-requires c κs =
+    let loop = c .before .before .before .before .before .before .before .before .before .before .loop in
+    room-left (loop .out) (loop .wrote) (c .before .before .before .before .before .before .before .before .before .loop-test .taken)
 
 add-wrote : tie.Need-add-wrote Inv-loop μ-loop
 add-wrote c = let wrote = c .before .before .write-refusal in omega (arith, reply-within (wrote .ensures) (wrote .kept .1 .0))
@@ -121,7 +123,9 @@ part-take-turn-end : tie.Need-part-take-turn-end Inv-loop μ-loop
 part-take-turn-end c = le-refl _
 
 take-turn-requires : tie.Need-take-turn-requires Inv-loop μ-loop
-take-turn-requires c κs = search needs
+take-turn-requires c κs =
+    let loop = c .before .before .before .before .before .before .before .before .before .before .before .before .loop in
+    room-left (loop .out) (loop .wrote) (c .before .before .before .before .before .before .before .before .before .before .before .loop-test .taken)
 
 add-wrote-2 : tie.Need-add-wrote-2 Inv-loop μ-loop
 add-wrote-2 c =
@@ -139,7 +143,7 @@ loop-again c =
     let told = ap reading-of (command .1) in
     let inv = line .before .before .before .before .before .before .before .loop .inv in
     let taken = c .before .before .before .before .take-turn in (
-      serving-more (inv .0) (here (line .before .before)) (command-of (command .0 .0)) (cc (told, line .read-command .ensures)) (refl, refl)
+      serving-more (inv .0) (here (line .before .before)) (command-of (command .0 .0)) (sym told ∙ line .read-command .ensures) (refl, refl)
           (taken .ensures .moved) (put-line (out-within (inv .0)) (taken .ensures .said) (taken .kept .1 .1 .0)),
       taken .kept .1 .0 ∙ inv .1,
     )
@@ -156,7 +160,7 @@ same-length-6 c = c .before .before .loop .inv .0 .long
 returns-3 : tie.Need-returns-3 Inv-loop μ-loop
 returns-3 c =
     let inv = c .before .before .loop .inv .0 in
-    served-so-far inv (c .so-far2 .ensures) (λ h. absurd (omega (arith, inv .long)))
+    served-so-far inv (c .so-far2 .ensures) (λ h. absurd (no-room inv (c .before .loop-test .left) h))
 
 pub answer-lines-spec : {M : Type 1} → statement M
 answer-lines-spec =

@@ -131,7 +131,9 @@ same-length c =
     stored-long (s .table .now) (s .to) (s .from) 7
 
 returns : tie.Need-returns
-returns c = let s = c .before .before .before .before .before .before .before .before in copied8 (s .args .table .now) (s .args .to) (s .args .from) (s .pre .0) (s .pre .1)
+returns c =
+    let s = c .before .before .before .before .before .before .before .before in
+    copied8 (s .args .table .now) (s .args .to) (s .args .from) (s .pre .0) (s .pre .1)
 
 pub copy8-spec : {M : Type 1} → statement M
 copy8-spec =

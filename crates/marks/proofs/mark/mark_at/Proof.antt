@@ -45,7 +45,8 @@ cast-least-by c = edge-fits (close (c .before .before .before .before .before .b
 add-least-by : tie.Need-add-least-by
 add-least-by c =
     let s = c .before .before .before .before .before .before .before .before .before .before .before .before .before in
-    end-fits (close (c .before .before .before .before .before .before .before .before .before)) (c .before .before .back-after .ensures) (s .args .table .now) (s .pre .0)
+    end-fits (close (c .before .before .before .before .before .before .before .before .before)) (c .before .before .back-after .ensures)
+    (s .args .table .now) (s .pre .0)
 
 least-by-requires : tie.Need-least-by-requires
 least-by-requires c κs = let p = c .before .before .before .before .before .before .before .before .before .before .before .before .before .pre in (p .0, p .1)

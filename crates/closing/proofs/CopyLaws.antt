@@ -1,10 +1,38 @@
 -- Bytes copied within a list to a place that is no later. Assumes nothing.
 use mathlib.Core.Path.{_≡_, sym, ap, ap₂, _∙_}
 use mathlib.Core.List.{List, _++_, append-assoc}
-use Prim.Native.Nat.{ℕ, suc, _+_, _-_, _≤_, _<_}
+use Prim.Native.Nat.{ℕ, zero, suc, _+_, _-_, _≤_, _<_}
 use native.Mathlib.Omega.{arith}
-use lib.ListN.{length, getD, set, take, drop, length-drop}
+use lib.ListN.{length, getD, set, take, drop, length-set, length-drop}
 use lib.Seq.{take-add, drop-drop, paste, paste-zero, paste-suc, take-paste, drop-paste, getD-drop}
+use mir.Syntax.{w64}
+use mir.Val.{Fits}
+
+-- WITHIN the list, of eight bytes from a place on: the first, any other, and the place itself as a word
+pub first-of-8 : (n b : ℕ) → b + 8 ≤ n → b < n
+first-of-8 n b h = omega (arith, h)
+
+pub within-8 : (n b j k : ℕ) → b + 8 ≤ n → j + suc k ≡ 8 → b + j < n
+within-8 n b j k h e = omega (arith, h, e)
+
+pub word-8 : (n b j k : ℕ) → n < 18446744073709551616 → b + 8 ≤ n → j + suc k ≡ 8 → Fits w64 (b + j)
+word-8 n b j k l h e = record { fits = omega (arith, l, h, e) }
+
+pub earlier-8 : (n a b : ℕ) → a ≤ b → b + 8 ≤ n → a + 8 ≤ n
+earlier-8 n a b l h = omega (arith, l, h)
+
+-- the list after some stores, and its length
+unfoldable pub stored : (t : List ℕ) (a b : ℕ) → ℕ → List ℕ
+stored t a b zero = set t a (getD t b 0)
+stored t a b (suc j) = set (stored t a b j) (a + suc j) (getD t (b + suc j) 0)
+
+pub stored-long : (t : List ℕ) (a b j : ℕ) → length (stored t a b j) ≡ length t
+unfolding stored
+stored-long t a b zero = length-set t a (getD t b 0)
+stored-long t a b (suc j) = length-set (stored t a b j) (a + suc j) (getD t (b + suc j) 0) ∙ stored-long t a b j
+
+pub within-stored : (t : List ℕ) (a b i j k : ℕ) → a + 8 ≤ length t → j + suc k ≡ 8 → a + j < length (stored t a b i)
+within-stored t a b i j k h e = omega (arith, h, e, stored-long t a b i)
 
 -- one byte more
 copied-more : (t u : List ℕ) (a b j : ℕ) → a ≤ b → b + j < length t → u ≡ paste t a (drop b t) j →

@@ -5,6 +5,8 @@ use mathlib.Core.List.{List}
 use Prim.Native.Nat.{ℕ, suc, _+_, _-_, _≤_, _<_}
 use native.Mathlib.Omega.{arith}
 use lib.Dec.{leb}
+use mir.Syntax.{w32, w64}
+use mir.Val.{Fits}
 use borrow.Author.Tests.{leb-true, leb-false}
 use Rattle.rules.specs.Rows.{Row, Round, In}
 use Rattle.rules.specs.Plan.{plan, tight-after, mark, planned}
@@ -106,6 +108,29 @@ pub nearby : (t : List ℕ) (h : Head) (x : Reach) (s : ℕ) (far : Bool) → Re
 nearby t h x s far k w d e =
     let n = known t h k in
     record { under = leb-false (x .free) (s - h .slot .0) (sym d ∙ e); small = omega (arith, w .sweep .high, n .small) }
+
+-- the numbers on the way to it are within their bounds
+module _ {h : Head} {x : Reach} {s : ℕ} (n : Nearby h x s) where
+  pub some-free : 1 ≤ x .free
+  some-free = omega (arith, n .under)
+
+  pub mid-fits : Fits w64 (s - h .slot .0)
+  mid-fits = record { fits = omega (arith, n .under, n .small) }
+
+  pub back-asked : (many : ℕ) → many ≡ 1025 → (s - h .slot .0 ≤ x .free - 1) × (x .free - 1 ≤ 2048) × (x .free - 1 < many)
+  back-asked many e = (omega (arith, n .under), omega (arith, n .small), omega (arith, n .under, n .small, e))
+
+  module _ {cs : List ℕ} {y : Back} (g : Back-to cs (x .free - 1) (suc (s - h .slot .0)) y) where
+    pub some-edge : 1 ≤ y .edge
+    some-edge = omega (arith, g .back .low)
+
+    pub edge-fits : Fits w32 (y .edge - 1)
+    edge-fits = record { fits = omega (arith, n .small, n .under, g .back .high) }
+
+    pub end-fits : (t : List ℕ) → Ready t h → Fits w32 (h .slot .0 + (y .edge - 1))
+    end-fits t r =
+        let k = known t h r in
+        record { fits = omega (arith, n .small, n .under, g .back .high, k .slot, k .time, k .cap) }
 
 pub near-is : (t : List ℕ) (h : Head) (fs : List ℕ) (x : Reach) (s : ℕ) (cs : List ℕ) (y : Back) (v m : ℕ) → Ready t h → Chosen (round-in t) fs →
     Reaches (round-in t) x → h .slot .0 ≤ s → Nearby h x s → Counted (round-in t) (with-flag (round-in t) fs) cs →

@@ -240,7 +240,10 @@ module _ (r : Round) (f : Fine r) (time : r .slot ≤ r .last) (small : length (
     | inr a ↦ later-blank (a .1) e
   ]
 
--- THE SAME of a ready table
+-- THE SAME of a ready table, where a row's due slot is within the round
+pub due-within : (t : List ℕ) (h : Head) (i d : ℕ) → Ready t h → Due-at (round-in t) i d → (h .slot .0 ≤ d) × (d ≤ h .last .0)
+due-within t h i d k a = let n = known t h k in (omega (arith, a .from, n .slot), omega (arith, a .by, n .last))
+
 module _ (t : List ℕ) (h : Head) (fs : List ℕ) (i d : ℕ) (x : Span) (o : Offer) (k : Ready t h) (c : Chosen (round-in t) fs) (l : i < h .used)
     (on : getD fs i 0 ≡ 1)
     (a : Due-at (round-in t) i d) (w : Spans (round-in t) d x) (b : Best-offer (round-in t) fs x o) where

@@ -1,8 +1,17 @@
--- A reply's line by another name for it. Assumes nothing.
+-- A reply's line by another name for it, and a turn by the call that its command asks for. Assumes nothing.
 use mathlib.Core.Path.{_≡_}
 use mathlib.Core.List.{List}
 use Prim.Native.Nat.{ℕ}
+use Rattle.rules.specs.Calls.{Call, Reply}
+use Rattle.rules.specs.Lines.{Command, call-of, reply-text}
+use Rattle.calls.specs.Says.{Says}
 use Rattle.lines.specs.Writing.{Replies}
+use Rattle.turns.specs.Turns.{Turns}
 
 pub said-by : {line text before after : List ℕ} {r : ℕ} → Replies line before after r → line ≡ text → Replies text before after r
 said-by p e = rw e at p
+
+-- the call is made on the table, and its reply's line written
+pub turned : (c : Command) (k : Call) (o : Reply) (t z before after : List ℕ) (r : ℕ) → call-of c ≡ k → Says k o t z → Replies (reply-text o) before after r →
+    Turns c t z before after r
+turned c k o t z before after r e s p = record { said = rw (e, ← s .0) p; moved = rw e (s .1) }

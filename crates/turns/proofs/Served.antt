@@ -86,10 +86,11 @@ pub record Put (line o o′ : List ℕ) (w r : ℕ) : Type 0 where
   pub kept : drop (w + r) o′ ≡ drop (w + r) o
 
 pub put-line : {line o part : List ℕ} {w r : ℕ} → w ≤ length o → Replies line (take (length o - w) (drop w o)) part r →
-    length part ≡ length o - w → Put line o (putMid w (length o - w) o part) w r
-put-line {line} {o} {part} {w} {r} h p l =
+    length part ≡ length (take (length o - w) (drop w o)) → Put line o (putMid w (length o - w) o part) w r
+put-line {line} {o} {part} {w} {r} h p e =
     let n = length o - w in
     let d = length-drop w o in
+    let l : length part ≡ n = omega (arith, e, length-take n (drop w o)) in
     let front = take w o ++ line in
     let rest = drop (w + r) o in
     let all : take n (drop w o) ≡ drop w o = take-all n (drop w o) (omega arith) in
@@ -114,6 +115,16 @@ reply-within {line} {before} p e =
 -- THE LINES ANSWERED so far
 pub serving-none : (input t o : List ℕ) → Serving input t t o o 0 0
 serving-none input t o = record { within = omega arith; room = omega arith; small = omega arith; long = refl; kept = refl; said = λ more. refl }
+
+pub out-within : {input t z before after : List ℕ} {from wrote : ℕ} → Serving input t z before after from wrote → wrote ≤ length after
+out-within s = omega (arith, s .room, s .long)
+
+pub room-left : (o : List ℕ) (w : ℕ) → 15 ≤ length o - w → 15 ≤ length (take (length o - w) (drop w o))
+room-left o w h = omega (arith, h, length-take (length o - w) (drop w o), length-drop w o)
+
+pub no-room : {input t z before after : List ℕ} {from wrote : ℕ} → Serving input t z before after from wrote → length after - wrote < 15 →
+    15 ≤ length before - wrote → ⊥
+no-room s h k = omega (arith, s .long, h, k)
 
 kept-on : (a b c : List ℕ) (w r : ℕ) → drop (w + r) a ≡ drop (w + r) b → drop w b ≡ drop w c → drop (w + r) a ≡ drop (w + r) c
 kept-on a b c w r e f = e ∙ sym (drop-drop r w b) ∙ ap (drop r) f ∙ drop-drop r w c

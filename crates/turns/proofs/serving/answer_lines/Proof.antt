@@ -1,6 +1,7 @@
 -- `turns::serving::answer_lines` meets its contract: the lines so far are answered; what is left of the input falls. Assumes nothing.
-use mathlib.Core.Path.{_≡_, refl, ap, subst}
+use mathlib.Core.Path.{_≡_, refl, sym, ap, subst, _∙_}
 use Prim.Native.Nat.{_-_}
+use native.Mathlib.Nat.{le-refl}
 use native.Mathlib.Omega.{arith}
 use lib.ListN.{length}
 use borrow.Author.Needs.{needs}
@@ -8,7 +9,7 @@ use Rattle.lines.specs.Cases.{command-of, reading-of}
 use Rattle.lines.specs.Ends.{Ends, First}
 use Rattle.turns.specs.Serving.{Serving}
 use Rattle.turns.proofs.Said.{said-by}
-use Rattle.turns.proofs.Served.{put-line, reply-within, serving-none, serving-more, served-broken, served-so-far}
+use Rattle.turns.proofs.Served.{put-line, reply-within, out-within, room-left, no-room, serving-none, serving-more, served-broken, served-so-far}
 use Rattle.turns.proofs.serving.answer_lines.Statement.{statement}
 use Rattle.turns.proofs.serving.answer_lines.Tie as tie
 
@@ -32,25 +33,25 @@ loop-holds c =
     (serving-none (s .input .now) (s .table .now) (s .out .now), refl)
 
 sub-loop : tie.Need-sub-loop Inv-loop μ-loop
-sub-loop c = search needs
+sub-loop c = out-within (c .loop .inv .0)
 
 line-end-requires : tie.Need-line-end-requires Inv-loop μ-loop
-line-end-requires c κs = search needs
+line-end-requires c κs = tt
 
 enum-known-end : tie.Need-enum-known-end Inv-loop μ-loop
-enum-known-end c = search needs
+enum-known-end c = c .match .keys1
 
 enum-told : tie.Need-enum-told Inv-loop μ-loop
-enum-told c = search needs
+enum-told c = c .match .keys2
 
 so-far-requires : tie.Need-so-far-requires Inv-loop μ-loop
-so-far-requires c κs = search needs
+so-far-requires c κs = tt
 
 same-length : tie.Need-same-length Inv-loop μ-loop
-same-length c = search needs
+same-length c = c .before .before .before .before .before .loop .inv .1
 
 same-length-2 : tie.Need-same-length-2 Inv-loop μ-loop
-same-length-2 c = search needs
+same-length-2 c = c .before .before .before .before .before .loop .inv .0 .long
 
 returns : tie.Need-returns Inv-loop μ-loop
 returns c =
@@ -72,31 +73,33 @@ part-read-command-end : tie.Need-part-read-command-end Inv-loop μ-loop
 part-read-command-end c = omega (arith, here c .within)
 
 read-command-requires : tie.Need-read-command-requires Inv-loop μ-loop
-read-command-requires c κs = search needs
+read-command-requires c κs = tt
 
 enum-known-command : tie.Need-enum-known-command Inv-loop μ-loop
-enum-known-command c = search needs
+enum-known-command c = c .match2 .keys1
 
 enum-told-2 : tie.Need-enum-told-2 Inv-loop μ-loop
-enum-told-2 c = search needs
+enum-told-2 c = c .match2 .keys2
 
 sub-write-refusal : tie.Need-sub-write-refusal Inv-loop μ-loop
-sub-write-refusal c = search needs
+sub-write-refusal c = out-within (c .before .before .before .before .before .before .before .before .before .loop .inv .0)
 
 part-write-refusal-start : tie.Need-part-write-refusal-start Inv-loop μ-loop
-part-write-refusal-start c = search needs
+part-write-refusal-start c = out-within (c .before .before .before .before .before .before .before .before .before .loop .inv .0)
 
 part-write-refusal-end : tie.Need-part-write-refusal-end Inv-loop μ-loop
-part-write-refusal-end c = search needs
+part-write-refusal-end c = le-refl _
 
 write-refusal-requires : tie.Need-write-refusal-requires Inv-loop μ-loop
-write-refusal-requires c κs = search needs
+write-refusal-requires c κs =
+    let loop = c .before .before .before .before .before .before .before .before .before .before .loop in
+    room-left (loop .out) (loop .wrote) (c .before .before .before .before .before .before .before .before .before .loop-test .taken)
 
 add-wrote : tie.Need-add-wrote Inv-loop μ-loop
-add-wrote c = omega (arith, reply-within (c .before .before .write-refusal .ensures) (search needs))
+add-wrote c = let wrote = c .before .before .write-refusal in omega (arith, reply-within (wrote .ensures) (wrote .kept .1 .0))
 
 same-length-3 : tie.Need-same-length-3 Inv-loop μ-loop
-same-length-3 c = search needs
+same-length-3 c = c .before .before .before .before .before .before .before .before .before .before .before .before .before .loop .inv .1
 
 same-length-4 : tie.Need-same-length-4 Inv-loop μ-loop
 same-length-4 c = search needs
@@ -105,24 +108,29 @@ returns-2 : tie.Need-returns-2 Inv-loop μ-loop
 returns-2 c =
     let line = c .before .before .before .before .before .before in
     let told = ap reading-of (c .before .before .before .before .enum-told2 .given .1) in
-    served-broken (line .before .before .before .before .before .before .before .loop .inv .0) (here (line .before .before))
-    (cc (told, line .read-command .ensures)) (search needs)
-    (put-line (search needs) (said-by (c .before .before .write-refusal .ensures) (search needs)) (search needs))
+    let inv = line .before .before .before .before .before .before .before .loop .inv .0 in
+    let wrote = c .before .before .write-refusal in
+    served-broken inv (here (line .before .before)) (cc (told, line .read-command .ensures)) (refl, refl, search needs)
+    (put-line (out-within inv) (said-by (wrote .ensures) refl) (wrote .kept .1 .0))
 
 sub-take-turn : tie.Need-sub-take-turn Inv-loop μ-loop
-sub-take-turn c = search needs
+sub-take-turn c = out-within (c .before .before .before .before .before .before .before .before .before .before .before .loop .inv .0)
 
 part-take-turn-start : tie.Need-part-take-turn-start Inv-loop μ-loop
-part-take-turn-start c = search needs
+part-take-turn-start c = out-within (c .before .before .before .before .before .before .before .before .before .before .before .loop .inv .0)
 
 part-take-turn-end : tie.Need-part-take-turn-end Inv-loop μ-loop
-part-take-turn-end c = search needs
+part-take-turn-end c = le-refl _
 
 take-turn-requires : tie.Need-take-turn-requires Inv-loop μ-loop
-take-turn-requires c κs = search needs
+take-turn-requires c κs =
+    let loop = c .before .before .before .before .before .before .before .before .before .before .before .before .loop in
+    room-left (loop .out) (loop .wrote) (c .before .before .before .before .before .before .before .before .before .before .before .loop-test .taken)
 
 add-wrote-2 : tie.Need-add-wrote-2 Inv-loop μ-loop
-add-wrote-2 c = omega (arith, reply-within (c .before .before .before .before .take-turn .ensures .said) (search needs))
+add-wrote-2 c =
+    let taken = c .before .before .before .before .take-turn in
+    omega (arith, reply-within (taken .ensures .said) (taken .kept .1 .1 .0))
 
 loop-less : tie.Need-loop-less Inv-loop μ-loop
 loop-less c = let line = here (c .before .before .before .before .before .before .before .before .before .before .before .before) in
@@ -133,26 +141,26 @@ loop-again c =
     let line = c .before .before .before .before .before .before .before .before .before .before in
     let command = c .before .before .before .before .before .before .before .before .command .given in
     let told = ap reading-of (command .1) in
-    let taken = c .before .before .before .before .take-turn .ensures in (
-      serving-more (line .before .before .before .before .before .before .before .loop .inv .0) (here (line .before .before))
-          (command-of (command .0 .0)) (cc (told, line .read-command .ensures)) (search needs) (taken .moved)
-          (put-line (search needs) (taken .said) (search needs)),
-      search needs,
+    let inv = line .before .before .before .before .before .before .before .loop .inv in
+    let taken = c .before .before .before .before .take-turn in (
+      serving-more (inv .0) (here (line .before .before)) (command-of (command .0 .0)) (sym told ∙ line .read-command .ensures) (refl, refl)
+          (taken .ensures .moved) (put-line (out-within (inv .0)) (taken .ensures .said) (taken .kept .1 .1 .0)),
+      taken .kept .1 .0 ∙ inv .1,
     )
 
 so-far-requires-2 : tie.Need-so-far-requires-2 Inv-loop μ-loop
-so-far-requires-2 c κs = search needs
+so-far-requires-2 c κs = tt
 
 same-length-5 : tie.Need-same-length-5 Inv-loop μ-loop
-same-length-5 c = search needs
+same-length-5 c = c .before .before .loop .inv .1
 
 same-length-6 : tie.Need-same-length-6 Inv-loop μ-loop
-same-length-6 c = search needs
+same-length-6 c = c .before .before .loop .inv .0 .long
 
 returns-3 : tie.Need-returns-3 Inv-loop μ-loop
 returns-3 c =
     let inv = c .before .before .loop .inv .0 in
-    served-so-far inv (c .so-far2 .ensures) (λ h. absurd (omega (arith, inv .long)))
+    served-so-far inv (c .so-far2 .ensures) (λ h. absurd (no-room inv (c .before .loop-test .left) h))
 
 pub answer-lines-spec : {M : Type 1} → statement M
 answer-lines-spec =

@@ -1,85 +1,76 @@
 -- `turns::turning::take_turn` meets its contract: the call that the command asks for, and its reply's line. Assumes nothing.
-use mathlib.Core.Path.{ap}
-use Rattle.rules.specs.Lines.{call-of, reply-text}
-use Rattle.turns.proofs.Said.{said-by}
+use mathlib.Core.Path.{ap, ap₂}
+use Rattle.rules.specs.Calls.{opening, taking}
+use Rattle.rules.specs.Lines.{call-of}
+use Rattle.turns.proofs.Said.{turned}
 use borrow.Author.Needs.{needs}
 use Rattle.turns.proofs.turning.take_turn.Statement.{statement}
 use Rattle.turns.proofs.turning.take_turn.Tie as tie
 
 enum-known-command : tie.Need-enum-known-command
-enum-known-command c = search needs
+enum-known-command c = c .match .keys1
 
 open-round-requires : tie.Need-open-round-requires
-open-round-requires c κs = search needs
+open-round-requires c κs = tt
 
 say-opened-requires : tie.Need-say-opened-requires
-say-opened-requires c κs = search needs
+say-opened-requires c κs = c .before .before .before .before .before .before .before .before .before .before .pre
 
 enum-known-command-2 : tie.Need-enum-known-command-2
-enum-known-command-2 c = search needs
+enum-known-command-2 c = c .match .keys2
 
 take-frame-requires : tie.Need-take-frame-requires
-take-frame-requires c κs = search needs
+take-frame-requires c κs = tt
 
 say-taken-requires : tie.Need-say-taken-requires
-say-taken-requires c κs = search needs
+say-taken-requires c κs = c .before .before .before .before .before .before .before .before .before .before .pre
 
 enum-told : tie.Need-enum-told
-enum-told c = search needs
+enum-told c = c .match .keys3
 
 send-slot-requires : tie.Need-send-slot-requires
-send-slot-requires c κs = search needs
+send-slot-requires c κs = tt
 
 say-sent-requires : tie.Need-say-sent-requires
-say-sent-requires c κs = search needs
+say-sent-requires c κs = c .before .before .before .before .before .before .before .before .before .pre
 
 same-length : tie.Need-same-length
-same-length c = search needs
+same-length c = c .before .before .before .before .before .before .open-round .kept .1 .0
 
 same-length-2 : tie.Need-same-length-2
-same-length-2 c = search needs
+same-length-2 c = c .before .before .say-opened .kept .1 .0
 
 returns : tie.Need-returns
 unfolding call-of
 returns c =
     let told = c .before .before .before .before .before .before .before .before .before .command .given .1 in
-    let call = c .before .before .before .before .before .before .open-round .ensures in
-    record {
-      said = said-by (c .before .before .say-opened .ensures) (rw told (ap reply-text (cc (call .0))));
-      moved = rw told (cc (call .1));
-    }
+    turned _ _ _ _ _ _ _ _ (rw told (ap opening (search needs))) (c .before .before .before .before .before .before .open-round .ensures)
+    (c .before .before .say-opened .ensures)
 
 same-length-3 : tie.Need-same-length-3
-same-length-3 c = search needs
+same-length-3 c = c .before .before .before .before .before .before .take-frame .kept .1 .1 .0
 
 same-length-4 : tie.Need-same-length-4
-same-length-4 c = search needs
+same-length-4 c = c .before .before .say-taken .kept .1 .0
 
 returns-2 : tie.Need-returns-2
 unfolding call-of
 returns-2 c =
     let told = c .before .before .before .before .before .before .before .before .before .command2 .given .1 in
-    let call = c .before .before .before .before .before .before .take-frame .ensures in
-    record {
-      said = said-by (c .before .before .say-taken .ensures) (rw told (ap reply-text (cc (call .0))));
-      moved = rw told (cc (call .1));
-    }
+    turned _ _ _ _ _ _ _ _ (rw told (ap₂ taking (search needs) (search needs))) (c .before .before .before .before .before .before .take-frame .ensures)
+    (c .before .before .say-taken .ensures)
 
 same-length-5 : tie.Need-same-length-5
-same-length-5 c = search needs
+same-length-5 c = c .before .before .before .before .before .before .send-slot .kept .0
 
 same-length-6 : tie.Need-same-length-6
-same-length-6 c = search needs
+same-length-6 c = c .before .before .say-sent .kept .1 .0
 
 returns-3 : tie.Need-returns-3
 unfolding call-of
 returns-3 c =
     let told = c .before .before .before .before .before .before .before .before .enum-told .given .1 in
-    let call = c .before .before .before .before .before .before .send-slot .ensures in
-    record {
-      said = said-by (c .before .before .say-sent .ensures) (rw told (ap reply-text (cc (call .0))));
-      moved = rw told (cc (call .1));
-    }
+    turned _ _ _ _ _ _ _ _ (rw told) (c .before .before .before .before .before .before .send-slot .ensures) (c .before .before .say-sent .ensures)
 
 pub take-turn-spec : {M : Type 1} → statement M
 take-turn-spec =

@@ -2,9 +2,8 @@
 use mathlib.Core.Path.{_≡_}
 use mathlib.Core.List.{List}
 use Prim.Native.Nat.{ℕ}
-use Rattle.rules.specs.Calls.{Call, Reply}
+use Rattle.rules.specs.Calls.{Call, Reply, Says}
 use Rattle.rules.specs.Lines.{Command, call-of, reply-text}
-use Rattle.calls.specs.Says.{Says}
 use Rattle.lines.specs.Writing.{Replies}
 use Rattle.turns.specs.Turns.{Turns}
 

@@ -22,7 +22,7 @@ use Rattle.tally.proofs.RowLaws.{known, at-fine}
 use Rattle.tally.proofs.NearLaws.{place-by, upto-is}
 use Rattle.plan.specs.Keys.{ahead-in}
 use Rattle.plan.specs.Sweep.{tally, before}
-use Rattle.plan.specs.Crowd.{due-before, Crowd, First-crowd, Level, Flat}
+use Rattle.plan.specs.Crowd.{due-before, Crowd, First-crowd, Flat}
 use Rattle.plan.proofs.TallyLaws.{tally-le, tally-most, before-yes, before-1}
 use Rattle.plan.proofs.TableLaws.{due-held, slot-held}
 use Rattle.plan.proofs.PlanLaws.{chosen-tally}
@@ -69,11 +69,8 @@ module _ (t : List ℕ) (h : Head) (x : Reach) (k : Ready t h) (w : Reaches (rou
   level : D (x .free) ≡ x .free + x .over
   level = omega (arith, counted-is (x .free), w .sweep .level, counts-none (r .slot) (top-of r) (r .rows))
 
-  free-by : x .free + x .over ≤ length (round-in t .rows)
+  pub free-by : x .free + x .over ≤ length (round-in t .rows)
   free-by = omega (arith, level, tally-most (before (ahead-in t) (x .free)) (replicate m 1) m (before-1 (ahead-in t) (x .free)))
-
-  pub level-is : Level (ahead-in t) (length (round-in t .rows)) x
-  level-is = record { by = free-by; level = level }
 
   flat-to : (e : ℕ) → x .free ≤ e → e ≤ suc (top-of r) → D e ≤ D (x .free) + (e - x .free)
   flat-to e a b = elim (leb? e (x .free)) [

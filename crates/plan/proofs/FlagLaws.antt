@@ -25,6 +25,15 @@ barred-full K S n fs s j h full under =
       );
     }
 
+-- before and after row i
+pub later : (S : ℕ → ℕ) (s i j : ℕ) → S i ≡ s → Waits S s (suc i) j → (j ≡ i → ⊥) × Waits S s i j
+later S s i j here (inl a) = (λ e. omega (arith, here, ap S e), inl a)
+later S s i j here (inr a) = (λ e. omega arith, inr (a .0, omega arith))
+
+pub earlier : (S : ℕ → ℕ) (s i j : ℕ) → (j ≡ i → ⊥) → Done S s (suc i) j → Done S s i j
+earlier S s i j d (inl a) = inl a
+earlier S s i j d (inr a) = inr (a .0, elim (ltb? j i) [ inl b ↦ b .1 | inr b ↦ let c = b .1 in absurd (d (omega arith)) ])
+
 module _ (K S : ℕ → ℕ) (n : ℕ) (fs : List ℕ) (s i count : ℕ) (M : Mid K S n fs s i count) (h : i < n) (here : S i ≡ s) where
   pub off : kept? fs i ≡ false
   off = M .new i h (inr (here, omega arith))
@@ -35,15 +44,6 @@ module _ (K S : ℕ → ℕ) (n : ℕ) (fs : List ℕ) (s i count : ℕ) (M : Mi
   pub kept-ahead : (j : ℕ) → j < n → kept? fs j ≡ true → S j ≤ s
   kept-ahead j a e = elim (ltb? s (S j)) [ inl b ↦ absurd (true≢false (sym e ∙ M .new j a (inl (b .1)))) | inr b ↦ b .1 ]
 
-  -- before and after row i
-  later : (j : ℕ) → Waits S s (suc i) j → (j ≡ i → ⊥) × Waits S s i j
-  later j (inl a) = (λ e. omega (arith, here, ap S e), inl a)
-  later j (inr a) = (λ e. omega arith, inr (a .0, omega arith))
-
-  earlier : (j : ℕ) → (j ≡ i → ⊥) → Done S s (suc i) j → Done S s i j
-  earlier j d (inl a) = inl a
-  earlier j d (inr a) = inr (a .0, elim (ltb? j i) [ inl b ↦ b .1 | inr b ↦ let c = b .1 in absurd (d (omega arith)) ])
-
   done-by : (j : ℕ) → Done S s (suc i) j → S j ≤ s
   done-by j (inl a) = omega arith
   done-by j (inr a) = omega arith
@@ -53,7 +53,7 @@ module _ (K S : ℕ → ℕ) (n : ℕ) (fs : List ℕ) (s i count : ℕ) (M : Mi
   join few =
       record {
         size = length-set fs i 1 ∙ M .size;
-        new = λ j a w. let l = later j w in elim (kept-set? fs i 1 j inside) [
+        new = λ j a w. let l = later S s i j here w in elim (kept-set? fs i 1 j inside) [
           | inl b ↦ absurd (l .0 (b .0))
           | inr b ↦ b .1 ∙ M .new j a (l .1)
         ];
@@ -63,7 +63,7 @@ module _ (K S : ℕ → ℕ) (n : ℕ) (fs : List ℕ) (s i count : ℕ) (M : Mi
         out = λ j a d e. elim (kept-set? fs i 1 j inside) [
           | inl b ↦ absurd (false≢true (sym e ∙ b .1))
           | inr b ↦
-              let z = M .out j a (earlier j (b .0) d) (sym (b .1) ∙ e) in
+              let z = M .out j a (earlier S s i j (b .0) d) (sym (b .1) ∙ e) in
               record { at = z .at; past = z .past; full = omega (arith, z .full, tally-on (smaller K S (K j) (z .at)) fs n i h inside off) }
         ];
       }
@@ -73,7 +73,7 @@ module _ (K S : ℕ → ℕ) (n : ℕ) (fs : List ℕ) (s i count : ℕ) (M : Mi
   stay full under =
       record {
         size = M .size;
-        new = λ j a w. M .new j a (later j w .1);
+        new = λ j a w. M .new j a (later S s i j here w .1);
         all = M .all;
         few = M .few;
         fits = M .fits;
@@ -81,7 +81,7 @@ module _ (K S : ℕ → ℕ) (n : ℕ) (fs : List ℕ) (s i count : ℕ) (M : Mi
           | inl b ↦
               let q : j ≡ i = b .1 in
               rw q (barred-full K S n fs s i (omega (arith, here)) (omega (arith, M .all)) (λ k c f. (under k c f, kept-ahead k c f)))
-          | inr b ↦ M .out j a (earlier j (b .1) d) e
+          | inr b ↦ M .out j a (earlier S s i j (b .1) d) e
         ];
       }
 
@@ -149,7 +149,7 @@ module _ (K S : ℕ → ℕ) (n : ℕ) (fs : List ℕ) (s i count : ℕ) (M : Mi
     exchange =
         record {
           size = length-set ms i 1 ∙ length-set fs z 0 ∙ M .size;
-          new = λ j a w. let l = later j w in elim (at? j) [
+          new = λ j a w. let l = later S s i j here w in elim (at? j) [
             | came b c ↦ absurd (l .0 b)
             | gone b c ↦ c
             | old b c d ↦ d ∙ M .new j a (l .1)
@@ -160,7 +160,7 @@ module _ (K S : ℕ → ℕ) (n : ℕ) (fs : List ℕ) (s i count : ℕ) (M : Mi
           out = λ j a d e. elim (at? j) [
             | came b c ↦ absurd (true≢false (sym c ∙ e))
             | gone b c ↦ barred-now j (omega (arith, ap K b)) (done-by j d)
-            | old b c f ↦ barred-on j (done-by j d) (M .out j a (earlier j b d) (sym f ∙ e))
+            | old b c f ↦ barred-on j (done-by j d) (M .out j a (earlier S s i j b d) (sym f ∙ e))
           ];
         }
 

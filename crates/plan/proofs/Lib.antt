@@ -8,6 +8,8 @@ pub mod TallyLaws
 pub mod FlagLaws
 pub mod SweepLaws
 pub mod HeapedLaws
+pub mod ShowLaws
+pub mod GoingLaws
 pub mod LightLaws
 pub mod OneLaws
 pub mod FarLaws

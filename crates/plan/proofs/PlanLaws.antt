@@ -2,11 +2,11 @@
 use mathlib.Core.Path.{_≡_, refl, sym, ap, ap₂, _∙_}
 use mathlib.Core.Logic.{inl, inr}
 use mathlib.Core.Bool.{Bool, true, false, cond}
-use mathlib.Core.List.{List, [], _∷_, _++_}
+use mathlib.Core.List.{List, [], _∷_}
 use Prim.Native.Nat.{ℕ, zero, suc, _+_, _-_, _≤_, _<_, min}
 use native.Mathlib.Omega.{arith}
 use borrow.Author.Tests.{lt-ltb}
-use lib.ListN.{length, getD, take, replicate, length-replicate}
+use lib.ListN.{length, getD, take}
 use lib.Seq.{take-all}
 use Rattle.rules.specs.Rows.{Row, Round, blank, heavier, chosen, All}
 use Rattle.rules.specs.Table.{round-in, table-refusal}
@@ -229,11 +229,3 @@ module _ (t : List ℕ) (e : table-refusal t ≡ 0) (fs : List ℕ) (size : leng
               left-out i h (C .out i h (sym (raised-at fs i h) ∙ b)));
         };
       }
-
--- flags that are cleared
-pub cleared : (fs gs : List ℕ) → gs ≡ take 0 fs ++ replicate (length fs - 0) 0 → (length gs ≡ length fs) × (gs ≡ replicate (length gs) 0)
-cleared fs gs e =
-    let z : length fs - 0 ≡ length fs = omega arith in
-    let a : gs ≡ replicate (length fs) 0 = (rw z at e) in
-    let l : length gs ≡ length fs = ap length a ∙ length-replicate (length fs) 0 in
-    (l, a ∙ ap (λ (n : ℕ). replicate n 0) (sym l))

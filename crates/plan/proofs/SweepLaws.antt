@@ -5,14 +5,13 @@ use mathlib.Core.Bool.{true, false, true≢false}
 use mathlib.Core.List.{List}
 use Prim.Native.Nat.{ℕ, suc, _+_, _%_, _≤_, _<_}
 use native.Mathlib.Omega.{arith}
-use native.Mathlib.Numerals.{add-one}
 use lib.Dec.{eqb}
 use lib.ListN.{length, getD, set, replicate, length-set, getD-replicate}
 use Rattle.theory.specs.Tests.{ltb?}
 use Rattle.rules.specs.Conditions.{due-in, weight-in}
 use Rattle.plan.specs.Keys.{key-in, ahead-in}
-use Rattle.plan.specs.Lists.{Next, Nexts}
-use Rattle.plan.specs.Sweep.{kept?, tally, Flagged, Swept, Swept-by, Lightest}
+use Rattle.plan.specs.Lists.{Next}
+use Rattle.plan.specs.Sweep.{kept?, tally, Flagged, Swept, Lightest}
 use Rattle.plan.proofs.KeyLaws.{row-in-key}
 use Rattle.plan.proofs.TallyLaws.{tally-on, tally-most}
 use Rattle.plan.proofs.FlagLaws.{off, join, stay, sums, exchange, skip, onward, none-yet}
@@ -69,10 +68,10 @@ module _ (t fs : List ℕ) (s i count : ℕ) (W : Swept t fs s i count) (h : i <
 
     -- the row that it names
     module _ (over : k < top) (z : ℕ) (named : z ≡ top % 1024) where
-      in-z : z < length fs
+      pub in-z : z < length fs
       in-z = omega (arith, named, L .in-rows)
 
-      on-z : kept? fs z ≡ true
+      pub on-z : kept? fs z ≡ true
       on-z = ap (kept? fs) named ∙ L .has
 
       pub key-z : key-in t z ≡ top
@@ -101,7 +100,7 @@ module _ (t fs : List ℕ) (s i count : ℕ) (W : Swept t fs s i count) (h : i <
       pub sum-moved : (f : ℕ → ℕ) → tally f (set (set fs z 0) i 1) (length fs) + f z ≡ tally f fs (length fs) + f i
       sum-moved f = sums (key-in t) (ahead-in t) (length fs) fs s i count (W .mid) h here full z in-z on-z most heavier f
 
--- ON TO THE NEXT ROW, the next list, and the edge
+-- ON TO THE NEXT ROW, and the next list
 pub next-row : (t fs : List ℕ) (s a c count : ℕ) → Swept t fs s a count → Next (ahead-in t) (length fs) s a c → Swept t fs s c count
 next-row t fs s a c count W N =
     record { flagged = W .flagged; mid = skip (key-in t) (ahead-in t) (length fs) fs s a c count (W .mid) N }
@@ -110,36 +109,9 @@ pub next-list : (t fs : List ℕ) (s a count : ℕ) → Swept t fs s a count →
 next-list t fs s a count W h =
     record { flagged = W .flagged; mid = onward (key-in t) (ahead-in t) (length fs) fs s a count (W .mid) h }
 
-pub next-ahead : (t fs : List ℕ) (s count : ℕ) → Swept t fs (suc s) 0 count → Swept t fs (s + 1) 0 count
-next-ahead t fs s count W = rw add-one W
-
-pub swept-to : (t fs : List ℕ) (s e count : ℕ) → e ≡ s → Swept t fs s 0 count → Swept-by t fs e
-swept-to t fs s e count h W = (count, rw h W)
-
 pub none-off : (fs : List ℕ) → fs ≡ replicate (length fs) 0 → (j : ℕ) → j < length fs → kept? fs j ≡ false
 none-off fs e j h = ap (λ (xs : List ℕ). kept? xs j) e ∙ ap (λ (z : ℕ). eqb z 1) (getD-replicate (length fs) j 0 0 h)
 
 pub none-swept : (t fs : List ℕ) → Flagged t fs → fs ≡ replicate (length fs) 0 → Swept t fs 0 0 0
 none-swept t fs F e =
     record { flagged = F; mid = none-yet (key-in t) (ahead-in t) (length fs) fs refl (none-off fs e) }
-
--- IN THE MIDST OF A LIST: row is the next one of it
-pub record Listing (t : List ℕ) (n : ℕ) (fs : List ℕ) (s row count : ℕ) : Type 0 where
-  pub size : length fs ≡ n
-  pub here : row < n → ahead-in t row ≡ s
-  pub swept : Swept t fs s row count
-
-pub list-start : (t fs : List ℕ) (s start count : ℕ) → Swept t fs s 0 count → Next (ahead-in t) (length fs) s 0 start →
-    Listing t (length fs) fs s start count
-list-start t fs s start count W N = record { size = refl; here = N .here; swept = next-row t fs s 0 start count W N }
-
-pub list-more : (t : List ℕ) (n : ℕ) (fs gs next : List ℕ) (s row c count kept : ℕ) → Listing t n fs s row kept → row < n →
-    length gs ≡ length fs → Swept t gs s (suc row) count → Nexts (ahead-in t) n 0 next → c ≡ getD next row 0 → Listing t n gs s c count
-list-more t n fs gs next s row c count kept L h l W X e =
-    let z = L .here h in
-    let m : length gs ≡ n = l ∙ L .size in
-    let N : Next (ahead-in t) n s (suc row) c = (rw (z, ← e) at (X row (omega arith) h)) in
-    record { size = m; here = N .here; swept = next-row t gs s (suc row) c count W (rw m N) }
-
-pub list-end : (t : List ℕ) (n : ℕ) (fs : List ℕ) (s row count : ℕ) → Listing t n fs s row count → n ≤ row → Swept t fs (suc s) 0 count
-list-end t n fs s row count L h = next-list t fs s row count (L .swept) (omega (arith, L .size))

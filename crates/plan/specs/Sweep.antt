@@ -62,9 +62,24 @@ pub record Heaped (t heap fs : List ℕ) (count : ℕ) : Type 0 where
   pub ordered : Heap count heap
   pub keys : (μ : ℕ → ℕ) → heaped μ count heap ≡ tally (λ j. μ (key-in t j)) fs (length fs)
 
+-- FLAGS ON THE WAY, gs: 1 for a row that waits, else as in fs, which tells the rows kept so far
+pub record Shows (ahead : ℕ → ℕ) (s a : ℕ) (fs gs : List ℕ) : Type 0 where
+  pub size : length gs ≡ length fs
+  pub done : (j : ℕ) → j < length fs → Done ahead s a j → kept? gs j ≡ kept? fs j
+  pub waits : (j : ℕ) → j < length fs → Waits ahead s a j → kept? gs j ≡ true
+
+pub record Going (t heap gs : List ℕ) (s a count : ℕ) : Type 0 where
+  pub flags : List ℕ
+  pub shows : Shows (ahead-in t) s a flags gs
+  pub swept : Swept t flags s a count
+  pub heaped : Heaped t heap flags count
+
 -- every row due before s slots ahead is done
-abbrev pub Swept-by : (t fs : List ℕ) → (s : ℕ) → Type 0
-Swept-by t fs s = (count : ℕ) × Swept t fs s 0 count
+pub record Swept-by (t gs : List ℕ) (s : ℕ) : Type 0 where
+  pub flags : List ℕ
+  pub count : ℕ
+  pub shows : Shows (ahead-in t) s 0 flags gs
+  pub swept : Swept t flags s 0 count
 
 -- the greatest key of some of n rows, which names the lightest of them
 pub record Lightest (t : List ℕ) (n : ℕ) (some? : ℕ → Bool) (top : ℕ) : Type 0 where

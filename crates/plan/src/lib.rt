@@ -5,4 +5,3 @@ mod one; // one.rt: one row too many, the lightest of those that crowd leaves
 mod lists; // lists.rt: rows by how far ahead they are due
 pub mod heap; // heap.rt: the keys of the rows kept, the lightest row's on top
 mod sweep; // sweep.rt: rows by rising due slot, the lightest leaves where there are too many
-mod far; // far.rt: rows past the full part of the plan

@@ -1,11 +1,11 @@
-// Rows by rising due slot: each is kept while a slot is free for it, else the lightest of all leaves.
+// Rows by rising due slot: each is kept while a slot is free for it, else the lightest of all leaves. Who leaves loses the flag.
 ghost use mathlib.Core.Path.{_≡_};
 ghost use Prim.Native.Nat.{suc, _≤_, _<_};
 ghost use lib.ListN.{length, replicate};
 ghost use Rattle.tally.specs.Rows.{Ready};
 ghost use Rattle.plan.specs.Keys.{ahead-in};
 ghost use Rattle.plan.specs.Lists.{Next, Nexts, Listed};
-ghost use Rattle.plan.specs.Sweep.{Flagged, Swept, Swept-by, Heaped};
+ghost use Rattle.plan.specs.Sweep.{Flagged, Going, Swept-by};
 use crate::heap::EMPTY;
 use crate::heap::rise;
 use crate::heap::sink;
@@ -25,23 +25,22 @@ fn admit(
     count: usize,
 ) -> usize
     requires { ⌜ Ready (now table) round × (row < length (now flags)) × (ahead-in (now table) row ≡ ahead)
-        × Swept (now table) (now flags) ahead row count × Heaped (now table) (now heap) (now flags) count ⌝ }
-    ensures { λ r. ⌜ Swept (now (table .entry)) (now (flags .exit)) ahead (suc row) r × Heaped (now (table .entry)) (now (heap .exit)) (now (flags .exit)) r ⌝ }
+        × Going (now table) (now heap) (now flags) ahead row count ⌝ }
+    ensures { λ r. ⌜ Going (now (table .entry)) (now (heap .exit)) (now (flags .exit)) ahead (suc row) r ⌝ }
 {
     let key = key_at(table, round, row);
     let slots = ahead + 1;
     if count < slots {
         rise(heap, count, key);
-        flags[row] = 1;
         return count + 1;
     }
     let top = heap[1];
     if key < top {
-        let lightest = row_of(top);
         sink(heap, count, key);
-        flags[lightest] = 0;
-        flags[row] = 1;
+        flags[row_of(top)] = 0;
+        return count;
     }
+    flags[row] = 0;
     count
 }
 
@@ -58,8 +57,8 @@ fn admit_list(
 ) -> usize
     requires { ⌜ Ready (now table) round × Nexts (ahead-in (now table)) (length (now flags)) 0 (now next)
         × Next (ahead-in (now table)) (length (now flags)) ahead 0 start
-        × Swept (now table) (now flags) ahead 0 kept × Heaped (now table) (now heap) (now flags) kept ⌝ }
-    ensures { λ r. ⌜ Swept (now (table .entry)) (now (flags .exit)) (suc ahead) 0 r × Heaped (now (table .entry)) (now (heap .exit)) (now (flags .exit)) r ⌝ }
+        × Going (now table) (now heap) (now flags) ahead 0 kept ⌝ }
+    ensures { λ r. ⌜ Going (now (table .entry)) (now (heap .exit)) (now (flags .exit)) (suc ahead) 0 r ⌝ }
 {
     let mut row = start;
     let mut count = kept;
@@ -80,7 +79,7 @@ pub fn sweep(
     edge: usize,
 )
     requires { ⌜ Ready (now table) round × Flagged (now table) (now flags) × Listed (ahead-in (now table)) (length (now flags)) (now first) (now next)
-        × (now flags ≡ replicate (length (now flags)) 0) × (edge ≤ length (now flags)) ⌝ }
+        × (now flags ≡ replicate (length (now flags)) 1) × (edge ≤ length (now flags)) ⌝ }
     ensures { λ _. ⌜ Swept-by (now (table .entry)) (now (flags .exit)) edge ⌝ }
 {
     let mut heap = [EMPTY; 1026];

@@ -6,7 +6,7 @@ use lib.ListN.{length, length-replicate}
 use borrow.Author.Needs.{needs}
 use Rattle.tally.proofs.RowLaws.{known}
 use Rattle.plan.proofs.PlanLaws.{chosen-kept}
-use Rattle.plan.proofs.CrowdLaws.{level-is, flat, free-crowds, crowd}
+use Rattle.plan.proofs.CrowdLaws.{free-by, flat, free-crowds, crowd}
 use Rattle.plan.proofs.LentLaws.{all-flagged}
 use Rattle.plan.proofs.choose.choose_rows.Statement.{statement}
 use Rattle.plan.proofs.choose.choose_rows.Tie as tie
@@ -20,7 +20,7 @@ crowd-of-requires : tie.Need-crowd-of-requires
 crowd-of-requires c κs =
     let s = c .before .before .before .before .before .before .before in
     let k = known _ _ (s .pre .0) in
-    (omega (arith, level-is _ _ _ (s .pre .0) (s .pre .1) .by, k .small), free-crowds _ _ _ (s .pre .0) (s .pre .1) _ (s .pre .2) (c .before .if2 .taken))
+    (omega (arith, free-by _ _ _ (s .pre .0) (s .pre .1), k .small), free-crowds _ _ _ (s .pre .0) (s .pre .1) _ (s .pre .2) (c .before .if2 .taken))
 
 leave-one-requires : tie.Need-leave-one-requires
 leave-one-requires c κs =
@@ -45,8 +45,8 @@ leave-some-requires c κs =
     let s = c .before .before .before .before .before .before .before in
     let k = known _ _ (s .pre .0) in (
       s .pre .0,
-      ap length (s .pre .3) ∙ length-replicate {A = ℕ} (s .args .round .used) 1,
-      rw (k .used) (level-is _ _ _ (s .pre .0) (s .pre .1)),
+      s .pre .3,
+      omega (arith, free-by _ _ _ (s .pre .0) (s .pre .1), k .used),
       rw (k .used) (flat _ _ _ (s .pre .0) (s .pre .1)),
     )
 

@@ -6,7 +6,7 @@ use mathlib.Core.List.{List}
 use Prim.Native.Nat.{ℕ, suc, _+_, _%_, _≤_, _<_}
 use native.Mathlib.Omega.{arith}
 use lib.Dec.{eqb}
-use lib.ListN.{length, getD, set, replicate, length-set, getD-replicate}
+use lib.ListN.{length, set, replicate, length-set, getD-replicate}
 use Rattle.theory.specs.Tests.{ltb?}
 use Rattle.rules.specs.Conditions.{due-in, weight-in}
 use Rattle.plan.specs.Keys.{key-in, ahead-in}

@@ -1,5 +1,5 @@
 -- `closing::close::copy8` meets its contract. Assumes nothing.
-use mathlib.Core.Path.{_≡_, refl}
+use mathlib.Core.Path.{refl}
 use Prim.Native.Nat.{_+_, _≤_, _<_}
 use lib.ListN.{length}
 use Rattle.closing.proofs.CopyLaws.{first-of-8, within-8, word-8, earlier-8, stored, stored-long, within-stored, copied8}

@@ -2,7 +2,7 @@
 use native.Mathlib.Omega.{arith}
 use borrow.Author.Needs.{needs}
 use Rattle.plan.proofs.KeyLaws.{ahead-by}
-use Rattle.plan.proofs.GoingLaws.{going-few, count-in, room, top-within, going-joined, going-exchanged, going-out}
+use Rattle.plan.proofs.GoingLaws.{count-in, room, top-within, going-joined, going-exchanged, going-out}
 use Rattle.plan.proofs.sweep.admit.Statement.{statement}
 use Rattle.plan.proofs.sweep.admit.Tie as tie
 

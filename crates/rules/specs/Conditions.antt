@@ -1,7 +1,7 @@
 -- Demand 1 as conditions: what a sound table is, and when each number is given. Assumes nothing: these are definitions.
 use mathlib.Core.Path.{_≡_}
 use mathlib.Core.Logic.{_⊎_}
-use mathlib.Core.Bool.{false}
+use mathlib.Core.Bool.{true, false}
 use mathlib.Core.List.{List}
 use Prim.Native.Nat.{ℕ, suc, _+_, _*_, _≤_, _<_}
 use lib.ListN.{length, getD}
@@ -10,6 +10,7 @@ use Rattle.rules.specs.Rows.{Row, In}
 use Rattle.rules.specs.Plan.{plan, in-plan, listed}
 use Rattle.rules.specs.Table.{field, rows-of, round-in}
 use Rattle.rules.specs.Calls.{Call, opening, taking, sending, marking, totalling}
+use Rattle.rules.specs.Lines.{Command, text, stands}
 
 infix 10 _⟺_
 abbrev pub _⟺_ : Type 0 → Type 0 → Type 0
@@ -87,6 +88,10 @@ No-row k t = (i : ℕ) → i < used-in t → ticket-in t i ≡ k → ⊥
 abbrev pub Not-planned : (ticket : ℕ) → List ℕ → Type 0
 Not-planned k t = (x : Row) → In x (round-in t .rows) → x .ticket ≡ k → in-plan x (plan (round-in t)) ≡ false
 
+-- a line is the text of no command with a payload that could stand in one
+abbrev pub No-command : (line : List ℕ) → Type 0
+No-command line = (c : Command) (ps : List ℕ) → stands c ps ≡ true → line ≡ text c ps → ⊥
+
 -- the first number whose condition holds, 0 where none does
 abbrev pub when : (number : ℕ) (holds : Type 0) (later : ℕ → Type 0) → ℕ → Type 0
 when k H later n = (H × (n ≡ k)) ⊎ ((H → ⊥) × later n)
@@ -110,3 +115,6 @@ substitute-given k t = if-sound t (when 10 (No-row k t) (when 11 (Not-planned k 
 
 unfoldable pub list-given : (room : ℕ) → List ℕ → ℕ → Type 0
 list-given n t = if-sound t (when 12 (n < length (listed (round-in t))) accepted)
+
+unfoldable pub read-given : (line : List ℕ) → ℕ → Type 0
+read-given line = when 1 (No-command line) accepted

@@ -1,19 +1,21 @@
 -- The owed statements: each is a type, proved in theory. Assumes nothing: these are definitions.
 use mathlib.Core.Path.{_≡_}
 use mathlib.Core.Bool.{Bool, true, false, _&&_, _||_, not, cond}
-use mathlib.Core.List.{List, [], _∷_, _++_}
+use mathlib.Core.List.{List, [], _∷_, _++_, map}
 use Prim.Native.Nat.{ℕ, suc, _+_, _*_, _-_, _≤_, _<_}
 use lib.Dec.{leb, eqb}
 use lib.ListN.{length, take, drop}
 use Rattle.rules.specs.Limits.{head-size, row-size, most-rows, most-last, most-weight}
 use Rattle.rules.specs.Rows.{Row, Round, chosen, slots-left, sorted, heavier, canonical, Heavier, Canonical}
 use Rattle.rules.specs.Plan.{plan, total, total-weight, mark, feasible, planned, listed, beats-golden, golden-more}
-use Rattle.rules.specs.Steps.{opened}
+use Rattle.rules.specs.Steps.{opened, sent}
 use Rattle.rules.specs.Table.{table, round-in, round-good, table-refusal}
-use Rattle.rules.specs.Calls.{Call, opening, taking, sending, marking, totalling, Reply, refused, done, ticket, step, amount, number-of, ordinary, silence, refusal, round-refusal, says, answer, left, run, replies, at, substitute-answer, list-answer}
-use Rattle.rules.specs.Lines.{Command, command, text, stands, read, payload, write-answer, write-left}
-use Rattle.rules.specs.Conditions.{_⟺_, Bytes, Length-bad, Sound, when, accepted, refusal-given, substitute-given, list-given}
+use Rattle.rules.specs.Calls.{Call, opening, taking, sending, marking, totalling, Reply, refused, done, ticket, step, amount, number-of, ordinary, silence, refusal, round-refusal, says, answer, left, run, replies, at, substitute-answer, list-refusal, list-answer, list-left}
+use Rattle.rules.specs.Lines.{Command, command, text, stands, read, read-refusal, payload-at, Place, payload-place, payload, write-refusal, write-answer, write-left, fresh-table, printed}
+use Rattle.rules.specs.Reads.{complete-from, begun-from, calls-of, Between, written-for, between-after, Some-bytes, joined}
+use Rattle.rules.specs.Conditions.{_⟺_, Bytes, Length-bad, Sound, when, accepted, No-command, refusal-given, substitute-given, list-given, read-given}
 use Rattle.rules.specs.PlanM.{PlanM, Above-golden, Golden-more, score}
+use Rattle.rules.specs.StepsOf.{Makes, Steps-of, Answers-of}
 
 -- GOING OUT IN TIME: slots, no two the same, each from the current one to the row's due slot
 unfoldable pub member : ℕ → List ℕ → Bool
@@ -93,6 +95,20 @@ Opening-alone =
     (l : ℕ) (t u : List ℕ) → length t ≡ length u →
     (answer (opening l) t ≡ answer (opening l) u) × (answer (opening l) t ≡ done → left (opening l) t ≡ left (opening l) u)
 
+-- a refusal returns its number alone and changes no lent byte; the same of the writer's buffer, and of the listing's entries, whatever these are
+abbrev pub Refused : (number : ℕ) → (answered : Reply) → {A : Type 0} → (before after : A) → Type 0
+Refused n a x y = (n ≡ 0 → ⊥) → (a ≡ refused n) × (y ≡ x)
+
+unfoldable pub Refused-unchanged : Type 0
+Refused-unchanged =
+    ((c : Call) (t : List ℕ) → Refused (refusal c t) (answer c t) t (left c t))
+    × ((c : Command) (ps z : List ℕ) → Refused (write-refusal c ps (length z)) (write-answer c ps (length z)) z (write-left c ps z))
+
+unfoldable pub List-refused-unchanged : Type 1
+List-refused-unchanged =
+    (E : Type 0) (entry : Row → E) (t : List ℕ) (es : List E) →
+    Refused (list-refusal t (length es)) (list-answer t (length es)) es (list-left entry t es)
+
 -- DEMAND 2: tables read back; every sound round's plan, reachable or not, is PlanM's; the orders, and the golden comparison, are what their names say
 abbrev pub Sound-round : Round → Type 0
 Sound-round r = (round-good r ≡ true) × (1 ≤ r .room) × (r .room ≤ most-rows)
@@ -105,6 +121,13 @@ Tables-back =
 unfoldable pub Plans : Type 0
 Plans = (r : Round) → round-good r ≡ true → PlanM r
 
+-- what a sending makes of each row, and answers; and the statement of it leaves nothing open
+unfoldable pub Steps : Type 0
+Steps = (r : Round) → round-good r ≡ true → r .slot ≤ r .last → Steps-of r × Answers-of r
+
+unfoldable pub Steps-only : Type 0
+Steps-only = (r n : Round) → round-good r ≡ true → r .slot ≤ r .last → Makes r n → n ≡ sent r
+
 unfoldable pub Orders : Type 0
 Orders = (a b : Row) → ((heavier a b ≡ true) ⟺ Heavier a b) × ((canonical a b ≡ true) ⟺ Canonical a b)
 
@@ -113,6 +136,17 @@ Golden =
     ((x y : ℕ) → (beats-golden x y ≡ true) ⟺ Above-golden x y)
     × ((a b c d : ℕ) → (golden-more a b c d ≡ true) ⟺ Golden-more a b c d)
     × ((a b c d : ℕ) → b ≤ most-weight → d ≤ most-weight → (golden-more a b c d ≡ true) ⟺ (score c d < score a b))
+
+-- a listing accepted: as many as the plan has rows, first the entries of these in canonical order, then the old ones
+unfoldable pub Listings : Type 1
+Listings =
+    (E : Type 0) (entry : Row → E) (t : List ℕ) (es : List E) → list-refusal t (length es) ≡ 0 →
+    let ps = planned (round-in t) in
+    let n = length ps in
+    (list-answer t (length es) ≡ amount n)
+    × (n ≤ length es)
+    × (take n (list-left entry t es) ≡ map entry (sorted canonical ps))
+    × (drop n (list-left entry t es) ≡ drop n es)
 
 -- the i-th row listed is due in slot current + i or later; P10: a round just opened sends silence
 unfoldable pub Listed-fits : Type 0
@@ -141,3 +175,27 @@ unfoldable pub Write-refusals : Type 0
 Write-refusals =
     (c : Command) (ps : List ℕ) (n : ℕ) →
     when 1 (stands c ps ≡ false) (when 12 (n < length (text c ps)) accepted) (number-of (write-answer c ps n))
+
+-- the reader's refusal comes under its condition and no other; the payload's place, by the line's text
+unfoldable pub Read-refusals : Type 0
+Read-refusals = (line : List ℕ) → read-given line (read-refusal line)
+
+abbrev pub Placed : Place → (start end : ℕ) → Type 0
+Placed p a b = (p .start ≡ a) × (p .end ≡ b)
+
+unfoldable pub Payload-places : Type 0
+Payload-places =
+    ((line : List ℕ) → No-command line → Placed (payload-place line) 0 0)
+    × ((c : Command) → stands c [] ≡ true → Placed (payload-place (text c [])) 0 0)
+    × ((c : Command) (ps : List ℕ) → stands c ps ≡ true → 1 ≤ length ps → Placed (payload-place (text c ps)) payload-at (payload-at + length ps))
+
+-- THE PROGRAM: for every way in which an input is cut into reads, what is written for them, one after another, is what the whole prints;
+-- the table is that of the calls of its lines, and the line begun is held
+unfoldable pub Printed-by-reads : Type 0
+Printed-by-reads =
+    (reads : List (List ℕ)) → Some-bytes reads →
+    let input = joined reads in
+    let s = between-after fresh-table [] reads in
+    (written-for fresh-table [] (reads ++ ([] ∷ [])) ≡ printed input)
+    × (s .table ≡ run (calls-of (complete-from [] input)) fresh-table)
+    × (s .over ≡ false → s .held ≡ begun-from [] input)

@@ -5,6 +5,8 @@ pub mod Steps
 pub mod Table
 pub mod Calls
 pub mod Lines
+pub mod Reads
 pub mod Conditions
 pub mod PlanM
+pub mod StepsOf
 pub mod Demands

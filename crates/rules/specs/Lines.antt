@@ -61,6 +61,10 @@ pub data Reading : Type 0 where
   command : Command → Reading
   broken : Reading
 
+abbrev pub reading-refusal : Reading → ℕ
+reading-refusal (command c) = 0
+reading-refusal broken = 1
+
 unfoldable pub body : List ℕ → List ℕ
 body line = take (length line - 1) line
 
@@ -81,6 +85,9 @@ read-digits ds =
 unfoldable pub read : List ℕ → Reading
 read line =
     cond (leb 1 (length line) && (eqb (getD line (length line - 1) 0) line-end && all-digits (body line))) (read-digits (body line)) broken
+
+unfoldable pub read-refusal : List ℕ → ℕ
+read-refusal line = reading-refusal (read line)
 
 -- THE PAYLOAD: its place in the line, (0, 0) where it has no digits or the line is refused, and that part
 pub record Place : Type 0 where
@@ -135,12 +142,16 @@ lines-from xs (b ∷ bs) =
 
 -- one turn: the reply's line, and what the lines after it print on the table left; nothing follows refusal 1
 unfoldable pub turn : Reading → (table : List ℕ) → (rest : List ℕ → List ℕ) → List ℕ
-turn broken t rest = reply-text (refused 1)
+turn broken t rest = reply-text (refused (reading-refusal broken))
 turn (command c) t rest = reply-text (answer (call-of c) t) ++ rest (left (call-of c) t)
 
 unfoldable pub printed-from : List (List ℕ) → (table : List ℕ) → List ℕ
 printed-from [] t = []
 printed-from (x ∷ xs) t = turn (read x) t (printed-from xs)
 
+-- its table of 1,024 rows, all zero at first
+abbrev pub fresh-table : List ℕ
+fresh-table = replicate (head-size + row-size * most-rows) 0
+
 unfoldable pub printed : List ℕ → List ℕ
-printed input = printed-from (lines-from [] input) (replicate (head-size + row-size * most-rows) 0)
+printed input = printed-from (lines-from [] input) fresh-table

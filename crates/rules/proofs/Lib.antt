@@ -1,4 +1,5 @@
 pub mod Played
 pub mod Rounds
+pub mod FurtherRounds
 pub mod Bytes
 pub mod Text

@@ -6,7 +6,7 @@ use Rattle.rules.specs.Limits.{head-size, row-size}
 use Rattle.rules.specs.Rows.{Row, Round, row, slots-left}
 use Rattle.rules.specs.Plan.{mark, listed}
 use Rattle.rules.specs.Table.{round-in}
-use Rattle.rules.specs.Calls.{Call, Reply, answer, left, substitute-answer}
+use Rattle.rules.specs.Calls.{Call, Reply, answer, left, substitute-answer, list-answer, list-left}
 
 -- a waiting frame and a kept blank: ticket, due slot, weight
 abbrev pub waits : (ticket due weight : ℕ) → Row
@@ -15,11 +15,21 @@ waits k d w = row k d w 0
 abbrev pub keeps : (ticket due weight : ℕ) → Row
 keeps k d w = row k d w 1
 
+-- entries lent to a listing, no two alike
+abbrev pub old : ℕ → Row
+old n = row 0 n 0 9
+
+abbrev pub lent : (room : ℕ) → List Row
+lent zero = []
+lent (suc n) = old n ∷ lent n
+
 -- A TURN: a call with its reply, then the waiting rows and the marks from the current slot to the last;
--- or the tickets of the plan in canonical order with the substitute of each
+-- or the tickets of the plan in canonical order with the substitute of each;
+-- or the plan listed into so many entries, with the reply and all entries afterwards
 pub data Turn : Type 0 where
   turn : Call → Reply → (rows : List Row) → (marks : List ℕ) → Turn
   listing : (tickets : List ℕ) → (substitutes : List Reply) → Turn
+  lists : (room : ℕ) → Reply → (entries : List Row) → Turn
 
 -- A ROUND BY HAND: a table and turns on it
 pub record Hand : Type 0 where
@@ -47,6 +57,8 @@ replayed t (turn c a xs ms ∷ ts) =
     let z = left c t in turn c (answer c t) (round-in z .rows) (marks-of (round-in z)) ∷ replayed z ts
 replayed t (listing ks ss ∷ ts) =
     let is = tickets-of (listed (round-in t)) in listing is (map (λ (k : ℕ). substitute-answer k t) is) ∷ replayed t ts
+replayed t (lists n a es ∷ ts) =
+    lists n (list-answer t n) (list-left (λ (x : Row). x) t (lent n)) ∷ replayed t ts
 
 abbrev pub played : List Hand → List Hand
 played [] = []

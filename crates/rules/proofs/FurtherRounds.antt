@@ -1,12 +1,14 @@
 -- Further rounds by hand, in the form of Rounds.antt, for what P1 to P10 leave open: each keeps a wrong definition out. Assumes nothing.
 use mathlib.Core.Path.{_≡_, refl}
+use mathlib.Core.Bool.{true}
 use mathlib.Core.List.{List, [], _∷_}
+use lib.ListN.{replicate}
 use Rattle.rules.specs.Rows.{row, blank, round, slots-left, heavier, canonical, into, sorted, rows-only}
 use Rattle.rules.specs.Plan.{due-by, fits-from, feasible, kept, blanks-from, plan, total-weight, total, tight, tight-from, tight-after, segment-from, segment-start, first-end, least-weight, mark-in, mark, same-row, in-plan, lightest-by, heaviest-outside, substitute, beats-golden, golden-more, sends-before, best-from, best, listed}
 use Rattle.rules.specs.Steps.{opened, taken, changed, without, heaviest-between, shifted, replaced, leapt, still-due, is-ordinary, sent}
 use Rattle.rules.specs.Table.{low, value, field, row-bytes, rows-bytes, table, rows-in, rows-of, round-in, length-good, rows-good, round-good, same, table-refusal}
-use Rattle.rules.specs.Calls.{opening, taking, sending, marking, totalling, silence, frame, kept-blank, ordinary, leap, refused, done, ticket, step, amount, blank-due, first, open-refusal, take-refusal, send-refusal, mark-refusal, round-refusal, out-of, says, leaves, table-first, refusal, answer, left, with-ticket, stand-in, substitute-answer, list-refusal, list-answer, list-left}
-use Rattle.rules.proofs.Played.{waits, keeps, old, turn, listing, lists, Hand, found, played}
+use Rattle.rules.specs.Calls.{opening, taking, sending, marking, totalling, silence, frame, kept-blank, ordinary, leap, refused, done, ticket, step, amount, blank-due, number-of, first, open-refusal, take-refusal, send-refusal, mark-refusal, round-refusal, out-of, says, leaves, table-first, refusal, answer, left, with-ticket, stand-in, substitute-answer, list-refusal, list-answer, list-left}
+use Rattle.rules.proofs.Played.{waits, keeps, old, turn, listing, lists, refuses, Hand, found, played}
 
 -- THE TABLE
 abbrev pub further-rounds : List Hand
@@ -182,6 +184,26 @@ further-rounds =
           lists 1 (refused 3) (old 0 ∷ []) ∷
           [];
     } ∷
+    -- each number by its condition, in its order, and every byte as it was: 2, 3, 5, 6, 7, 8 and 9, and 4
+    record { start = replicate 41 7; turns = refuses (opening 4096) 2 true ∷ refuses (taking 9 0) 2 true ∷ refuses sending 2 true ∷ [] } ∷
+    record { start = replicate 41 7; turns = refuses (marking 9) 2 true ∷ refuses totalling 2 true ∷ [] } ∷
+    record { start = found; turns = refuses (opening 4096) 4 true ∷ refuses (taking 9 0) 3 true ∷ refuses sending 3 true ∷ [] } ∷
+    record { start = found; turns = refuses (marking 9) 3 true ∷ refuses totalling 3 true ∷ [] } ∷
+    record { start = table (round 3 2 9 8 []); turns = refuses (taking 9 0) 5 true ∷ refuses sending 5 true ∷ refuses (marking 9) 5 true ∷ refuses totalling 5 true ∷ [] } ∷
+    record {
+      start = table (round 1 2 16777216 1 (waits 1 2 5 ∷ []));
+      turns =
+          refuses (taking 0 0) 6 true ∷
+          refuses (taking 3 16777217) 6 true ∷
+          refuses (taking 0 1) 7 true ∷
+          refuses (taking 3 16777216) 7 true ∷
+          refuses (marking 0) 7 true ∷
+          refuses (marking 3) 7 true ∷
+          refuses (taking 1 1) 8 true ∷
+          refuses (opening 4096) 4 true ∷
+          [];
+    } ∷
+    record { start = table (round 1 2 16777215 1 (waits 1 2 5 ∷ [])); turns = refuses (taking 1 1) 9 true ∷ [] } ∷
     []
 
 -- THE FACT: played by the definitions, each is as written
@@ -190,5 +212,6 @@ unfolding row blank round slots-left heavier canonical into sorted rows-only due
     tight-from tight-after segment-from segment-start first-end least-weight mark-in mark same-row in-plan lightest-by heaviest-outside substitute
     beats-golden golden-more sends-before best-from best listed opened taken changed without heaviest-between shifted replaced leapt still-due
     is-ordinary sent low value field row-bytes rows-bytes table rows-in rows-of round-in length-good rows-good round-good same table-refusal first
-    open-refusal take-refusal send-refusal mark-refusal round-refusal out-of says leaves table-first refusal answer left with-ticket stand-in substitute-answer list-refusal list-answer list-left
+    open-refusal take-refusal send-refusal mark-refusal round-refusal out-of says leaves table-first refusal answer left with-ticket stand-in
+    substitute-answer list-refusal list-answer list-left number-of
 further-rounds-by-hand = refl

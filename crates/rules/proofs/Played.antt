@@ -1,12 +1,13 @@
 -- How a round by hand is written, and how the definitions play it on bytes. Assumes nothing.
+use mathlib.Core.Bool.{Bool}
 use mathlib.Core.List.{List, [], _∷_, map}
 use Prim.Native.Nat.{ℕ, zero, suc, _+_, _*_}
 use lib.ListN.{replicate}
 use Rattle.rules.specs.Limits.{head-size, row-size}
 use Rattle.rules.specs.Rows.{Row, Round, row, slots-left}
 use Rattle.rules.specs.Plan.{mark, listed}
-use Rattle.rules.specs.Table.{round-in}
-use Rattle.rules.specs.Calls.{Call, Reply, answer, left, substitute-answer, list-answer, list-left}
+use Rattle.rules.specs.Table.{round-in, same}
+use Rattle.rules.specs.Calls.{Call, Reply, number-of, answer, left, substitute-answer, list-answer, list-left}
 
 -- a waiting frame and a kept blank: ticket, due slot, weight
 abbrev pub waits : (ticket due weight : ℕ) → Row
@@ -25,11 +26,13 @@ lent (suc n) = old n ∷ lent n
 
 -- A TURN: a call with its reply, then the waiting rows and the marks from the current slot to the last;
 -- or the tickets of the plan in canonical order with the substitute of each;
--- or the plan listed into so many entries, with the reply and all entries afterwards
+-- or the plan listed into so many entries, with the reply and all entries afterwards;
+-- or a call that is refused by a number, and whether every byte is as it was
 pub data Turn : Type 0 where
   turn : Call → Reply → (rows : List Row) → (marks : List ℕ) → Turn
   listing : (tickets : List ℕ) → (substitutes : List Reply) → Turn
   lists : (room : ℕ) → Reply → (entries : List Row) → Turn
+  refuses : Call → (number : ℕ) → (unchanged : Bool) → Turn
 
 -- A ROUND BY HAND: a table and turns on it
 pub record Hand : Type 0 where
@@ -59,6 +62,7 @@ replayed t (listing ks ss ∷ ts) =
     let is = tickets-of (listed (round-in t)) in listing is (map (λ (k : ℕ). substitute-answer k t) is) ∷ replayed t ts
 replayed t (lists n a es ∷ ts) =
     lists n (list-answer t n) (list-left (λ (x : Row). x) t (lent n)) ∷ replayed t ts
+replayed t (refuses c n b ∷ ts) = refuses c (number-of (answer c t)) (same (left c t) t) ∷ replayed t ts
 
 abbrev pub played : List Hand → List Hand
 played [] = []

@@ -1,6 +1,6 @@
--- Document 01's text lines: its sample, and its lines that are refused, printed on a table of two rows that is zero at first. Assumes nothing.
+-- What stationround prints, by hand: document 01's sample, its lines that are refused, and further inputs, on a table of two rows that is zero at first. Assumes nothing.
 use mathlib.Core.Path.{_≡_, refl}
-use mathlib.Core.List.{List, [], _∷_}
+use mathlib.Core.List.{List, [], _∷_, map}
 use Prim.Native.Nat.{ℕ, _+_, _*_}
 use lib.ListN.{replicate}
 use Rattle.rules.specs.Limits.{head-size, row-size}
@@ -64,14 +64,70 @@ early-printed =
     70 ∷ 70 ∷ 48 ∷ 49 ∷ 10 ∷
     []
 
+-- P1: a frame goes out in an ordinary step
+abbrev pub first-goes : List ℕ
+first-goes =
+    48 ∷ 48 ∷ 48 ∷ 48 ∷ 48 ∷ 49 ∷ 10 ∷
+    48 ∷ 49 ∷ 48 ∷ 48 ∷ 48 ∷ 48 ∷ 48 ∷ 48 ∷ 48 ∷ 48 ∷ 48 ∷ 48 ∷ 48 ∷ 52 ∷ 10 ∷
+    48 ∷ 49 ∷ 48 ∷ 48 ∷ 48 ∷ 49 ∷ 48 ∷ 48 ∷ 48 ∷ 48 ∷ 48 ∷ 48 ∷ 48 ∷ 65 ∷ 10 ∷
+    48 ∷ 50 ∷ 10 ∷
+    []
+
+abbrev pub first-goes-printed : List ℕ
+first-goes-printed =
+    48 ∷ 48 ∷ 10 ∷
+    48 ∷ 49 ∷ 48 ∷ 48 ∷ 48 ∷ 48 ∷ 48 ∷ 48 ∷ 48 ∷ 49 ∷ 10 ∷
+    48 ∷ 49 ∷ 48 ∷ 48 ∷ 48 ∷ 48 ∷ 48 ∷ 48 ∷ 48 ∷ 50 ∷ 10 ∷
+    48 ∷ 50 ∷ 48 ∷ 49 ∷ 48 ∷ 48 ∷ 48 ∷ 48 ∷ 48 ∷ 48 ∷ 48 ∷ 48 ∷ 48 ∷ 49 ∷ 10 ∷
+    []
+
+-- nothing follows refusal 1, though a good line stands behind the broken one; an empty line; a 0D before the 0A; no input
+abbrev pub good-behind : List ℕ
+good-behind =
+    48 ∷ 50 ∷ 10 ∷
+    48 ∷ 71 ∷ 10 ∷
+    48 ∷ 48 ∷ 48 ∷ 48 ∷ 48 ∷ 49 ∷ 10 ∷
+    []
+
+abbrev pub good-behind-printed : List ℕ
+good-behind-printed =
+    70 ∷ 70 ∷ 48 ∷ 51 ∷ 10 ∷
+    70 ∷ 70 ∷ 48 ∷ 49 ∷ 10 ∷
+    []
+
+abbrev pub empty-line : List ℕ
+empty-line =
+    10 ∷
+    48 ∷ 50 ∷ 10 ∷
+    []
+
+abbrev pub return-line : List ℕ
+return-line =
+    48 ∷ 48 ∷ 48 ∷ 48 ∷ 48 ∷ 49 ∷ 13 ∷ 10 ∷
+    48 ∷ 50 ∷ 10 ∷
+    []
+
+abbrev pub one-refused : List ℕ
+one-refused =
+    70 ∷ 70 ∷ 48 ∷ 49 ∷ 10 ∷
+    []
+
 abbrev pub shown : List ℕ → List ℕ
 shown input = printed-from (lines-from [] input) zeroed
 
-pub lines-by-hand : (shown sample ≡ sample-printed) × (shown over ≡ over-printed) × (shown early ≡ early-printed)
+-- THE FACT: each prints as written
+abbrev pub inputs : List (List ℕ)
+inputs = sample ∷ over ∷ early ∷ first-goes ∷ good-behind ∷ empty-line ∷ return-line ∷ [] ∷ []
+
+abbrev pub outputs : List (List ℕ)
+outputs =
+    sample-printed ∷ over-printed ∷ early-printed ∷ first-goes-printed ∷ good-behind-printed ∷ one-refused ∷ one-refused ∷ [] ∷ []
+
+pub lines-by-hand : map shown inputs ≡ outputs
 unfolding row blank round slots-left heavier canonical into sorted due-by fits-from feasible kept blanks-from plan total-weight tight tight-from
     tight-after segment-from segment-start first-end least-weight mark-in same-row in-plan lightest-by heaviest-outside substitute beats-golden
     golden-more sends-before best-from best opened taken changed without heaviest-between shifted replaced leapt still-due is-ordinary sent low value
     field row-bytes rows-bytes table rows-in rows-of round-in length-good rows-good round-good same table-refusal first open-refusal take-refusal
     send-refusal round-refusal out-of says leaves table-first refusal answer left digit is-digit digit-value digits number-from all-digits call-of
     body number-at read-digits read out-digits reply-digits reply-text lines-from turn printed-from
-lines-by-hand = (refl, refl, refl)
+lines-by-hand = refl

@@ -1,0 +1,131 @@
+-- Lines by hand: what the reader reads, where the payload stands, and what the writer leaves in its buffer. Assumes nothing.
+use mathlib.Core.Path.{_≡_, refl}
+use mathlib.Core.List.{List, [], _∷_, _++_}
+use Prim.Native.Nat.{ℕ}
+use lib.ListN.{replicate}
+use Rattle.rules.specs.Calls.{Reply, refused, amount}
+use Rattle.rules.specs.Lines.{digit, is-digit, digit-value, digits, number-from, all-digits, Command, open-line, take-line, send-line, text, stands, Reading, command, broken, body, number-at, read-digits, read, read-refusal, Place, place-of, payload-place, payload, write-refusal, write-answer, write-left}
+
+-- A LINE BY HAND: what it is read as, the refusal's number, the payload's place, and the payload
+pub record Read : Type 0 where
+  pub line : List ℕ
+  pub reading : Reading
+  pub number : ℕ
+  pub start : ℕ
+  pub end : ℕ
+  pub digits : List ℕ
+
+abbrev pub reads : List ℕ → Reading → (number start end : ℕ) → List ℕ → Read
+reads l r n s e ds = record { line = l; reading = r; number = n; start = s; end = e; digits = ds }
+
+-- the same by the definitions
+abbrev pub read-by : List Read → List Read
+read-by [] = []
+read-by (x ∷ xs) =
+    let l = x .line in
+    reads l (read l) (read-refusal l) (payload-place l .start) (payload-place l .end) (payload l) ∷ read-by xs
+
+-- the sixteen digits; a taking of due slot 0102 and weight 0A0B0C0D without its payload and its 0A (hexadecimal)
+abbrev pub sixteen : List ℕ
+sixteen =
+    48 ∷ 49 ∷ 50 ∷ 51 ∷ 52 ∷ 53 ∷ 54 ∷ 55 ∷ 56 ∷ 57 ∷ 65 ∷ 66 ∷ 67 ∷ 68 ∷ 69 ∷ 70 ∷
+    []
+
+abbrev pub taking-front : List ℕ
+taking-front =
+    48 ∷ 49 ∷ 48 ∷ 49 ∷ 48 ∷ 50 ∷ 48 ∷ 65 ∷ 48 ∷ 66 ∷ 48 ∷ 67 ∷ 48 ∷ 68 ∷
+    []
+
+abbrev pub the-taking : Reading
+the-taking = command (take-line 258 168496141)
+
+abbrev pub lines-read : List Read
+lines-read =
+    -- no payload
+    reads (taking-front ++ (10 ∷ [])) the-taking 0 0 0 [] ∷
+    -- one byte of it
+    reads (taking-front ++ (70 ∷ 48 ∷ 10 ∷ [])) the-taking 0 14 16 (70 ∷ 48 ∷ []) ∷
+    -- 24 bytes: 48 digits, the most
+    reads (taking-front ++ sixteen ++ sixteen ++ sixteen ++ (10 ∷ [])) the-taking 0 14 62 (sixteen ++ sixteen ++ sixteen) ∷
+    -- 47, 50 and 1 are none
+    reads (taking-front ++ sixteen ++ sixteen ++ (48 ∷ 49 ∷ 50 ∷ 51 ∷ 52 ∷ 53 ∷ 54 ∷ 55 ∷ 56 ∷ 57 ∷ 65 ∷ 66 ∷ 67 ∷ 68 ∷ 69 ∷ 10 ∷ [])) broken 1 0 0 [] ∷
+    reads (taking-front ++ sixteen ++ sixteen ++ sixteen ++ (48 ∷ 49 ∷ 10 ∷ [])) broken 1 0 0 [] ∷
+    reads (taking-front ++ (48 ∷ 10 ∷ [])) broken 1 0 0 [] ∷
+    -- a lower-case digit in the weight, and one in the payload
+    reads (48 ∷ 49 ∷ 48 ∷ 49 ∷ 48 ∷ 50 ∷ 48 ∷ 97 ∷ 48 ∷ 66 ∷ 48 ∷ 67 ∷ 48 ∷ 68 ∷ 10 ∷ []) broken 1 0 0 [] ∷
+    reads (taking-front ++ (48 ∷ 102 ∷ 10 ∷ [])) broken 1 0 0 [] ∷
+    -- bytes just outside the digits: / : @ G
+    reads (48 ∷ 47 ∷ 10 ∷ []) broken 1 0 0 [] ∷
+    reads (48 ∷ 48 ∷ 48 ∷ 48 ∷ 48 ∷ 58 ∷ 10 ∷ []) broken 1 0 0 [] ∷
+    reads (48 ∷ 48 ∷ 48 ∷ 48 ∷ 48 ∷ 64 ∷ 10 ∷ []) broken 1 0 0 [] ∷
+    reads (48 ∷ 48 ∷ 48 ∷ 48 ∷ 48 ∷ 71 ∷ 10 ∷ []) broken 1 0 0 [] ∷
+    -- opening 0FFF, and with payload digits; a sending, and with them
+    reads (48 ∷ 48 ∷ 48 ∷ 70 ∷ 70 ∷ 70 ∷ 10 ∷ []) (command (open-line 4095)) 0 0 0 [] ∷
+    reads (48 ∷ 48 ∷ 48 ∷ 70 ∷ 70 ∷ 70 ∷ 48 ∷ 48 ∷ 10 ∷ []) broken 1 0 0 [] ∷
+    reads (48 ∷ 50 ∷ 10 ∷ []) (command send-line) 0 0 0 [] ∷
+    reads (48 ∷ 50 ∷ 48 ∷ 48 ∷ 10 ∷ []) broken 1 0 0 [] ∷
+    -- no line of number 03 or 20; no 0A, none at the end, a 0D before it; empty
+    reads (48 ∷ 51 ∷ 10 ∷ []) broken 1 0 0 [] ∷
+    reads (50 ∷ 48 ∷ 10 ∷ []) broken 1 0 0 [] ∷
+    reads (48 ∷ 50 ∷ []) broken 1 0 0 [] ∷
+    reads (48 ∷ 50 ∷ 10 ∷ 48 ∷ []) broken 1 0 0 [] ∷
+    reads (48 ∷ 50 ∷ 13 ∷ 10 ∷ []) broken 1 0 0 [] ∷
+    reads (10 ∷ []) broken 1 0 0 [] ∷
+    reads [] broken 1 0 0 [] ∷
+    []
+
+pub lines-read-by-hand : read-by lines-read ≡ lines-read
+unfolding is-digit digit-value number-from all-digits body number-at read-digits read read-refusal place-of payload-place payload
+lines-read-by-hand = refl
+
+-- A WRITING BY HAND, into a buffer of so many sevens: the reply, and the buffer afterwards
+pub record Write : Type 0 where
+  pub asked : Command
+  pub payload : List ℕ
+  pub room : ℕ
+  pub reply : Reply
+  pub buffer : List ℕ
+
+abbrev pub writes : Command → List ℕ → ℕ → Reply → List ℕ → Write
+writes c ps n a z = record { asked = c; payload = ps; room = n; reply = a; buffer = z }
+
+abbrev pub sevens : ℕ → List ℕ
+sevens n = replicate n 7
+
+abbrev pub written-by : List Write → List Write
+written-by [] = []
+written-by (x ∷ xs) =
+    let c = x .asked in
+    let ps = x .payload in
+    let n = x .room in
+    writes c ps n (write-answer c ps n) (write-left c ps (sevens n)) ∷ written-by xs
+
+abbrev pub lines-written : List Write
+lines-written =
+    -- room to spare, just enough, and one byte too few
+    writes (take-line 258 168496141) (70 ∷ 48 ∷ []) 20 (amount 17) (taking-front ++ (70 ∷ 48 ∷ 10 ∷ 7 ∷ 7 ∷ 7 ∷ [])) ∷
+    writes (take-line 258 168496141) (70 ∷ 48 ∷ []) 17 (amount 17) (taking-front ++ (70 ∷ 48 ∷ 10 ∷ [])) ∷
+    writes (take-line 258 168496141) (70 ∷ 48 ∷ []) 16 (refused 12) (sevens 16) ∷
+    -- 48 digits; 50, 1 and lower-case ones could not stand in a line, whatever the room
+    writes (take-line 258 168496141) (sixteen ++ sixteen ++ sixteen) 64 (amount 63) (taking-front ++ sixteen ++ sixteen ++ sixteen ++ (10 ∷ 7 ∷ [])) ∷
+    writes (take-line 258 168496141) (sixteen ++ sixteen ++ sixteen ++ (48 ∷ 48 ∷ [])) 70 (refused 1) (sevens 70) ∷
+    writes (take-line 258 168496141) (48 ∷ []) 20 (refused 1) (sevens 20) ∷
+    writes (take-line 258 168496141) (102 ∷ 48 ∷ []) 20 (refused 1) (sevens 20) ∷
+    -- 1 comes before 12
+    writes (take-line 258 168496141) (48 ∷ []) 3 (refused 1) (sevens 3) ∷
+    -- a slot of more than four digits; the most of four and of eight
+    writes (take-line 65536 1) [] 20 (refused 1) (sevens 20) ∷
+    writes (take-line 65535 4294967295) [] 15 (amount 15) (48 ∷ 49 ∷ 70 ∷ 70 ∷ 70 ∷ 70 ∷ 70 ∷ 70 ∷ 70 ∷ 70 ∷ 70 ∷ 70 ∷ 70 ∷ 70 ∷ 10 ∷ []) ∷
+    writes (take-line 1 4294967296) [] 20 (refused 1) (sevens 20) ∷
+    -- an opening and a sending have no payload
+    writes (open-line 4095) [] 8 (amount 7) (48 ∷ 48 ∷ 48 ∷ 70 ∷ 70 ∷ 70 ∷ 10 ∷ 7 ∷ []) ∷
+    writes (open-line 4095) (48 ∷ 48 ∷ []) 9 (refused 1) (sevens 9) ∷
+    writes (open-line 65536) [] 9 (refused 1) (sevens 9) ∷
+    writes send-line [] 3 (amount 3) (48 ∷ 50 ∷ 10 ∷ []) ∷
+    writes send-line [] 2 (refused 12) (sevens 2) ∷
+    writes send-line (48 ∷ 48 ∷ []) 9 (refused 1) (sevens 9) ∷
+    []
+
+pub lines-written-by-hand : written-by lines-written ≡ lines-written
+unfolding digit is-digit digits all-digits text stands write-refusal write-answer write-left
+lines-written-by-hand = refl

@@ -36,6 +36,58 @@ pub const ROUNDS: &[(&str, &str)] = &[
     ("blank substitute", "3; 1:11 3:20 1:2 S S S S"),
     ("idle slot", "3; 3:9 3:5 S S S S"),
     ("fresh marks", "3; 0:8 1:40 2:5 3:4 3:3 S S S S"),
+    ("own segment", "4; 3:1 2:3 3:3 S S S S S"),
+    ("kept blank outweighed", "1; 0:4 1:11 S 1:3 1:6 S"),
+    ("equal substitutes", "3; 0:9 3:4 3:4 3:9 2:9 1:9 S S S S"),
+];
+
+/// A row by hand: ticket, due slot, weight and whether kept.
+pub type HandRow = (u32, u32, u32, bool);
+
+/// Sound tables that no list of calls reaches, kept blanks anywhere: the last
+/// slot, and the rows.
+pub const TABLES: &[(u32, &[HandRow])] = &[
+    (2, SHIFTED),
+    (1, LEAPING),
+    (1, BLANK_GOES),
+    (4, THREE_SHIFTS),
+    (1, FRAME_FIRST),
+    (1, BLANK_FIRST),
+    (3, BLANK_LIGHTEST),
+];
+
+pub const SHIFTED: &[HandRow] = &[
+    (1, 0, 4, false),
+    (2, 1, 20, false),
+    (3, 2, 9, true),
+    (4, 2, 2, false),
+];
+
+pub const LEAPING: &[HandRow] = &[(1, 0, 4, false), (2, 1, 11, true)];
+
+/// A kept blank goes out before its due slot, a frame waiting.
+pub const BLANK_GOES: &[HandRow] = &[(1, 1, 5, true), (2, 1, 5, false)];
+
+pub const THREE_SHIFTS: &[HandRow] = &[
+    (1, 0, 5, false),
+    (2, 1, 20, false),
+    (3, 2, 4, false),
+    (4, 3, 3, true),
+    (5, 4, 2, false),
+    (6, 4, 1, false),
+];
+
+/// A frame and a kept blank of equal weight: the smaller ticket first.
+pub const FRAME_FIRST: &[HandRow] = &[(1, 1, 5, false), (2, 1, 5, true), (3, 1, 5, false)];
+
+pub const BLANK_FIRST: &[HandRow] = &[(1, 1, 5, true), (2, 1, 5, false), (3, 1, 5, true)];
+
+/// A kept blank is the lightest of the first segment.
+pub const BLANK_LIGHTEST: &[HandRow] = &[
+    (1, 1, 9, false),
+    (2, 1, 3, true),
+    (3, 3, 8, false),
+    (4, 3, 7, false),
 ];
 
 /// The calls of a round by hand, its opening first.
@@ -58,9 +110,9 @@ fn number(text: &str) -> u32 {
     text.trim().parse().expect("a number")
 }
 
-/// A table of so many rows: ticket, due slot, weight and whether kept.
-pub fn table(rows: usize, last: u32, used: &[(u32, u32, u32, bool)]) -> Vec<u8> {
-    let row = |&(ticket, due, weight, kept): &(u32, u32, u32, bool)| Row {
+/// A table of so many rows.
+pub fn table(rows: usize, last: u32, used: &[HandRow]) -> Vec<u8> {
+    let row = |&(ticket, due, weight, kept): &HandRow| Row {
         ticket: Ticket(ticket),
         due: Slot(due),
         weight: Weight(weight),

@@ -4,7 +4,10 @@
 use second::call::Call;
 use second::calls::Second;
 use second::counts::Ticket;
-use second::hand::{calls, shown, table};
+use second::hand::{
+    calls, shown, table, HandRow, BLANK_FIRST, BLANK_GOES, BLANK_LIGHTEST, FRAME_FIRST, LEAPING,
+    SHIFTED, THREE_SHIFTS,
+};
 use second::listing::Entry;
 use second::mutation::Mutation;
 use second::questions::Substitute;
@@ -121,18 +124,41 @@ fn equals_and_idle_slots() {
 /// Sound tables that no list of calls reaches: kept blanks anywhere.
 #[test]
 fn kept_blanks_anywhere() {
-    let rows = [
-        (1, 0, 4, false),
-        (2, 1, 20, false),
-        (3, 2, 9, true),
-        (4, 2, 2, false),
-    ];
-    let mut lent = table(4, 2, &rows);
-    assert_eq!(Second::PLAIN.send(&mut lent), Ok(leap(2)));
-    let left = shown(&decode(&lent, Mutation::None));
-    assert_eq!(left, "kept 1:9 (t3) 2:4 (t4)");
-    let mut lent = table(2, 1, &[(1, 0, 4, false), (2, 1, 11, true)]);
-    let blank = Step::Leap(Out::KeptBlank(Ticket(2)));
-    assert_eq!(Second::PLAIN.send(&mut lent), Ok(blank));
-    assert_eq!(shown(&decode(&lent, Mutation::None)), "kept 1:4 (t2)");
+    leaves(2, SHIFTED, leap(2), "kept 1:9 (t3) 2:4 (t4)");
+    leaves(1, LEAPING, Step::Leap(kept(2)), "kept 1:4 (t2)");
+    leaves(1, BLANK_GOES, Step::Ordinary(kept(1)), "1:5 (t2)");
+    let shifted = "1:5 (t3) kept 2:4 (t4) 3:3 (t5) 4:2 (t6)";
+    leaves(4, THREE_SHIFTS, leap(2), shifted);
+    leaves(1, FRAME_FIRST, ordinary(1), "kept 1:5 (t2) 1:5 (t3)");
+    let frame = "1:5 (t2) kept 1:5 (t3)";
+    leaves(1, BLANK_FIRST, Step::Ordinary(kept(1)), frame);
+    let rest = "kept 1:3 (t2) 3:8 (t3) 3:7 (t4)";
+    leaves(3, BLANK_LIGHTEST, ordinary(1), rest);
+}
+
+/// What a table's sending gives, and the rows that it leaves.
+fn leaves(last: u32, rows: &[HandRow], step: Step, left: &str) {
+    let mut lent = table(rows.len(), last, rows);
+    assert_eq!(Second::PLAIN.send(&mut lent), Ok(step));
+    assert_eq!(shown(&decode(&lent, Mutation::None)), left);
+}
+
+fn kept(ticket: u32) -> Out {
+    Out::KeptBlank(Ticket(ticket))
+}
+
+/// No shift within p's own segment; a kept blank counts in the total; of
+/// substitutes that tie the smaller ticket.
+#[test]
+fn segments_totals_and_ties() {
+    one("4; 3:1 2:3 3:3", leap(2), "3:1 (t1) 3:3 (t3)");
+    for (text, total) in [("", 4), (" 1:3", 4), (" 1:3 1:6", 6)] {
+        let (lent, _) = play(&format!("1; 0:4 1:11 S{text}"));
+        assert_eq!(Second::PLAIN.total(&lent), Ok(total), "{text}");
+    }
+    let (lent, _) = play("3; 0:9 3:4 3:4 3:9 2:9 1:9");
+    for ticket in [4, 5, 6] {
+        let found = Second::PLAIN.substitute(Ticket(ticket), &lent);
+        assert_eq!(found, Ok(Substitute::Ticket(Ticket(2))), "ticket {ticket}");
+    }
 }

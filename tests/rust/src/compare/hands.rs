@@ -35,14 +35,7 @@ pub fn run(bench: &mut Bench, _: &mut Draw, case: u64) -> Agreed<()> {
 
 /// Kept blanks where no list of calls brings them.
 fn tables(bench: &mut Bench) -> Agreed<()> {
-    let shifted = [
-        (1, 0, 4, false),
-        (2, 1, 20, false),
-        (3, 2, 9, true),
-        (4, 2, 2, false),
-    ];
-    let leaping = [(1, 0, 4, false), (2, 1, 11, true)];
-    for (last, rows) in [(2, shifted.as_slice()), (1, leaping.as_slice())] {
+    for &(last, rows) in hand::TABLES {
         let mut table = hand::table(rows.len(), last, rows);
         for _ in 0..3 {
             questions(bench, &table)?;

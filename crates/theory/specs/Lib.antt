@@ -35,6 +35,12 @@ pub mod PlanM
 pub mod Chain
 pub mod Leaping
 pub mod Close
+pub mod SlotOver
+pub mod Links
+pub mod LeapRows
+pub mod Steps
+pub mod StepsOnly
+pub mod RowByRow
 pub mod Near
 pub mod Count
 pub mod Segments

@@ -61,5 +61,6 @@ pub mod Stays
 pub mod Outcomes
 pub mod Digits
 pub mod Lines
+pub mod Unchanged
 pub mod Flags
 pub mod PlayedOut

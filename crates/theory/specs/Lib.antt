@@ -62,5 +62,6 @@ pub mod Outcomes
 pub mod Digits
 pub mod Lines
 pub mod Unchanged
+pub mod Listings
 pub mod Flags
 pub mod PlayedOut

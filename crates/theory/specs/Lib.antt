@@ -61,6 +61,7 @@ pub mod Stays
 pub mod Outcomes
 pub mod Digits
 pub mod Lines
+pub mod Reader
 pub mod Unchanged
 pub mod Listings
 pub mod Flags

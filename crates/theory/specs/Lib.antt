@@ -62,6 +62,10 @@ pub mod Outcomes
 pub mod Digits
 pub mod Lines
 pub mod Reader
+pub mod Broken
+pub mod Complete
+pub mod Printing
+pub mod Reads
 pub mod Unchanged
 pub mod Listings
 pub mod Flags

@@ -59,14 +59,15 @@ pub mod Checks
 pub mod Refusals
 pub mod Stays
 pub mod Outcomes
+pub mod Unchanged
+pub mod Listings
 pub mod Digits
 pub mod Lines
 pub mod Reader
 pub mod Broken
 pub mod Complete
 pub mod Printing
+pub mod Served
 pub mod Reads
-pub mod Unchanged
-pub mod Listings
 pub mod Flags
 pub mod PlayedOut

@@ -1,19 +1,20 @@
 -- STATIONROUND READ BY READ: however an input is cut, what is written for the reads is what the whole prints: printed-by-reads. Assumes nothing.
 use mathlib.Core.Path.{_≡_, refl, sym, ap, _∙_}
 use mathlib.Core.Logic.{inl, inr}
-use mathlib.Core.Bool.{Bool, true, false, _&&_, _||_, not, cond, true≢false}
+use mathlib.Core.Bool.{false, _&&_, _||_, not, cond, true≢false}
 use mathlib.Core.List.{List, [], _∷_, _++_, append-nil}
 use Prim.Native.Nat.{ℕ, _≤_}
 use native.Mathlib.Omega.{arith}
 use lib.Dec.{ltb}
 use lib.ListN.{length}
-use borrow.Author.Tests.{ltb-true, ltb-false}
+use borrow.Author.Tests.{ltb-true}
 use Rattle.rules.specs.Calls.{refused, run}
 use Rattle.rules.specs.Lines.{reply-text, lines-from, printed-from, printed, fresh-table}
 use Rattle.rules.specs.Reads.{complete-from, begun-from, calls-of, stops, longest-line, overlong, served, written, written-for, between-after, Some-bytes, joined}
 use Rattle.rules.specs.Demands.{Printed-by-reads}
-use Rattle.theory.specs.Tests.{either, both-ways}
-use Rattle.theory.specs.Complete.{Unended, begun-unended, complete-append, begun-append, lines-append, held-complete, held-begun}
+use Rattle.theory.specs.Tests.{either}
+use Rattle.theory.specs.Complete.{Unended, complete-append, begun-append, lines-append, held-complete, held-begun}
+use Rattle.theory.specs.Served.{served-unended}
 use Rattle.theory.specs.Printing.{prints-on, calls-on, overlong-prints, overlong-calls, end-prints}
 
 -- ONE READ of some bytes, from its complete lines and the line begun behind them
@@ -41,29 +42,6 @@ rest-calls ls rest more t = calls-on ls (complete-from rest more) t ∙ elim (ei
     | inr l ↦ rw (e, l)
   ]
 ]
-
--- WHAT IS HELD: an unended line begun, no longer than a command's line
-pub served-unended : (t h x : List ℕ) → Unended (served t h x .held)
-unfolding served
-served-unended t h [] = tt
-served-unended t h (b ∷ bs) =
-    let input = h ++ (b ∷ bs) in
-    both-ways Unended (stops (complete-from [] input) || overlong (begun-from [] input)) [] (begun-from [] input)
-    (λ _. tt) (λ _. begun-unended [] input tt)
-
-pub served-short : (t h x : List ℕ) → length (served t h x .held) ≤ longest-line
-unfolding served overlong
-served-short t h [] = omega arith
-served-short t h (b ∷ bs) =
-    let input = h ++ (b ∷ bs) in
-    let rest = begun-from [] input in
-    let stop = stops (complete-from [] input) in
-    both-ways (λ (z : List ℕ). length z ≤ longest-line) (stop || ltb longest-line (length rest)) [] rest
-    (λ _. omega arith) (λ e. ltb-false longest-line (length rest) (second stop (ltb longest-line (length rest)) e))
-  where
-    second : (a b : Bool) → (a || b) ≡ false → b ≡ false
-    second true b e = absurd (true≢false e)
-    second false b e = e
 
 -- ONE READ: what is written for it, and then what the rest prints, is what the whole prints; the same of the table and of the line begun
 cut-lines : (h x more : List ℕ) → Unended h → lines-from h (x ++ more) ≡ complete-from [] (h ++ x) ++ lines-from (begun-from [] (h ++ x)) more

@@ -6,6 +6,7 @@ use Prim.Native.Nat.{ℕ, _≤_}
 use native.Mathlib.Omega.{arith}
 use Rattle.rules.specs.Rows.{Row, Round, All, In}
 use Rattle.rules.specs.Plan.{plan}
+use Rattle.rules.specs.StepsOf.{Shift, Next-h, Chain, Every, Distinct, Shifted, shifted-to, end-of}
 use Rattle.theory.specs.Tests.{eqb?}
 use Rattle.theory.specs.All.{blank-weight}
 use Rattle.theory.specs.Order.{over-absurd, heavier-no}
@@ -16,7 +17,6 @@ use Rattle.theory.specs.Send.{next-by}
 use Rattle.theory.specs.Members.{Rows, of-rows-fine, found-member, member?}
 use Rattle.theory.specs.Chain.{Heaviest-in, moved-to, chain-other, Chain as Linked, end-of as end-found}
 use Rattle.theory.specs.Leaping.{final-row}
-use Rattle.rules.specs.StepsOf.{Shift, Next-h, Chain, Every, Distinct, Shifted, shifted-to, end-of}
 
 -- each link with the end before it
 unfoldable pub links : Round → (e : ℕ) → List Row → List Shift

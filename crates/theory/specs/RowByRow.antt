@@ -5,9 +5,9 @@ use mathlib.Core.List.{List, [], _∷_}
 use Prim.Native.Nat.{ℕ, suc, _≤_, _<_}
 use native.Mathlib.Omega.{arith}
 use Rattle.rules.specs.Rows.{Row, Round, row, In}
+use Rattle.rules.specs.StepsOf.{Is, Slot-over, Shift, Unchanged, Becomes}
 use Rattle.theory.specs.Full.{Rising}
 use Rattle.theory.specs.Change.{rising-less}
-use Rattle.rules.specs.StepsOf.{Is, Slot-over, Shift, Unchanged, Becomes}
 
 module _ (t : ℕ) (L : Row → Type 0) (B : Row → Row → Type 0) where
   -- EACH ROW leaves, or becomes a row that is there after where it is still due

@@ -6,11 +6,11 @@ use Prim.Native.Nat.{ℕ}
 use native.Mathlib.Omega.{arith}
 use Rattle.rules.specs.Rows.{Row, In}
 use Rattle.rules.specs.Steps.{changed}
+use Rattle.rules.specs.StepsOf.{Slot-over}
 use Rattle.theory.specs.Tests.{leb?, eqb?}
 use Rattle.theory.specs.Full.{Rising}
 use Rattle.theory.specs.Close.{stays, closed}
 use Rattle.theory.specs.Leaping.{each, or-changed, changed-each}
-use Rattle.rules.specs.StepsOf.{Slot-over}
 
 -- a row changed by its ticket, by cases
 pub or-changed? : (k : ℕ) (y : Row) (m : Row → Row) (x : Row) →

@@ -7,13 +7,13 @@ use native.Mathlib.Omega.{arith}
 use Rattle.rules.specs.Rows.{Row, Round, Heavier, In}
 use Rattle.rules.specs.Plan.{plan, first-end}
 use Rattle.rules.specs.Steps.{sent}
+use Rattle.rules.specs.StepsOf.{goes, stands-in, end-of, Is, Other, Slot-over, Goes-out, Unchanged, Shift, Chain, Every, Distinct, Shifted, Leaves, Becomes, Leap, Makes, shifted-to}
 use Rattle.rules.specs.Demands.{Steps-only}
 use Rattle.theory.specs.Tests.{leb?}
 use Rattle.theory.specs.Order.{Not-over, heavier?, not-over-both}
 use Rattle.theory.specs.Full.{Fine}
 use Rattle.theory.specs.Change.{rising-same}
 use Rattle.theory.specs.Sane.{good-fine}
-use Rattle.rules.specs.StepsOf.{goes, stands-in, end-of, Is, Other, Slot-over, Goes-out, Unchanged, Shift, Chain, Every, Distinct, Shifted, Leaves, Becomes, Leap, Makes, shifted-to}
 use Rattle.theory.specs.Steps.{makes}
 
 -- ROW BY ROW: where what becomes of a row is one thing, the rows after are one list

@@ -112,7 +112,7 @@ to-command (take-line d w) ds h =
     rw (n, le-leb payload-at (length ds) (h .0), le-leb (length ds) (payload-at + most-payload) (h .1), h .2, h .3, h .4, h .5)
 to-command send-line ds h = rw (h .0, h .1)
 
-not-broken : (c : Command) → broken ≡ command c → ⊥
+pub not-broken : (c : Command) → broken ≡ command c → ⊥
 not-broken c e = let z : _≡_ {A = ℕ} 0 1 = cc in omega arith
 
 pub from-command : (c : Command) (ds : List ℕ) → read-digits ds ≡ command c → Reads c ds

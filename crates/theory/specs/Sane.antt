@@ -57,8 +57,8 @@ rows-good-true r a (x ∷ xs) h e =
       (leb-true a (x .ticket) (d .0), q .2),
     )
 
--- a round within bounds is fine, and sized where its room is
-pub good-true : (r : Round) → round-good r ≡ true → Fine r × (r .room ≤ 1024 → Sized r)
+-- a round within bounds is fine, and sized where its room is; its kinds are two
+pub good-true : (r : Round) → round-good r ≡ true → Fine r × (r .room ≤ 1024 → Sized r) × All (λ x. x .kind < 2) (r .rows)
 unfolding round-good
 good-true r e =
     let a = and-true ((leb (r .last) 4095 && leb (r .slot) (suc (r .last))) && (leb 1 (r .next) && leb (r .next) 16777216)) _ e in
@@ -75,10 +75,14 @@ good-true r e =
         long = leb-true (length (r .rows)) (r .room) (g .0);
         kinds = q .1;
       },
+      q .1,
     )
 
 pub good-fine : (r : Round) → round-good r ≡ true → Fine r
 good-fine r e = good-true r e .0
+
+pub good-kinds : (r : Round) → round-good r ≡ true → All (λ x. x .kind < 2) (r .rows)
+good-kinds r e = good-true r e .2
 
 pub good-sane : (r : Round) → round-good r ≡ true → 1 ≤ r .room → r .room ≤ 1024 → Sane r
 good-sane r e h k = record { fine = good-fine r e; size = good-true r e .1 k; some = h }

@@ -1,0 +1,57 @@
+-- THE READER: refusal 1 just where a line is no command's text, and the payload's place: read-refusals, payload-places. Assumes nothing.
+use mathlib.Core.Path.{_≡_, refl, sym, ap, _∙_}
+use mathlib.Core.Logic.{_⊎_, inl, inr}
+use mathlib.Core.List.{List, []}
+use Prim.Native.Nat.{ℕ, suc, _+_, _≤_}
+use native.Mathlib.Omega.{arith}
+use borrow.Author.Tests.{lt-ltb, le-ltb}
+use lib.ListN.{length}
+use Rattle.rules.specs.Lines.{Command, open-line, take-line, send-line, text, Reading, command, broken, reading-refusal, read, read-refusal}
+use Rattle.rules.specs.Lines.{payload-at, place-of, payload-place, payload}
+use Rattle.rules.specs.Conditions.{No-command, read-given}
+use Rattle.rules.specs.Demands.{Placed, Read-refusals, Payload-places}
+use Rattle.theory.specs.Lines.{front-size, length-text, Stands, from-stands, not-broken, read-text, text-read}
+
+-- a line is read as a command, or is none's text
+abbrev pub Read-or-not : (line : List ℕ) → Reading → Type 0
+Read-or-not line r = ((c : Command) × (r ≡ command c) × (No-command line → ⊥)) ⊎ ((r ≡ broken) × No-command line)
+
+pub read? : (line : List ℕ) → Read-or-not line (read line)
+read? line = told (read line) refl
+  where
+    told : (r : Reading) → read line ≡ r → Read-or-not line r
+    told (command c) e = let g = read-text c line e in inl (c, refl, λ f. f c (payload line) (g .0) (g .1))
+    told broken e = inr (refl, λ c ps s t. not-broken c (sym e ∙ ap read t ∙ text-read c ps s .0))
+
+pub read-refusals : Read-refusals
+unfolding Read-refusals read-given read-refusal
+read-refusals line = elim (read? line) [
+  | inl a ↦ inr (a .2, ap reading-refusal (a .1))
+  | inr a ↦ inl (a .1, ap reading-refusal (a .0))
+]
+
+-- THE PLACE, by the reading and the line's length
+pub place-broken : (line : List ℕ) → read line ≡ broken → Placed (payload-place line) 0 0
+unfolding payload-place place-of
+place-broken line e = rw e (refl, refl)
+
+pub place-none : (c : Command) (n : ℕ) → n ≡ front-size c + 1 → Placed (place-of (command c) n) 0 0
+unfolding place-of front-size
+place-none (open-line l) n e = (refl, refl)
+place-none (take-line d w) n e = rw (le-ltb (suc payload-at) n (omega arith)) (refl, refl)
+place-none send-line n e = (refl, refl)
+
+pub place-some : (c : Command) (ps : List ℕ) (n : ℕ) → Stands c ps → 1 ≤ length ps → n ≡ front-size c + length ps + 1 →
+    Placed (place-of (command c) n) payload-at (payload-at + length ps)
+unfolding place-of front-size Stands
+place-some (open-line l) ps n s h e = absurd (omega (arith, s .1))
+place-some (take-line d w) ps n s h e = rw (lt-ltb (suc payload-at) n (omega arith)) (refl, omega arith)
+place-some send-line ps n s h e = absurd (omega (arith, s))
+
+pub payload-places : Payload-places
+unfolding Payload-places payload-place
+payload-places = (
+  λ line f. elim (read? line) [ inl a ↦ absurd (a .2 f) | inr a ↦ place-broken line (a .0) ],
+  λ c s. rw (text-read c [] s .0) (place-none c (length (text c [])) (omega (arith, length-text c []))),
+  λ c ps s h. rw (text-read c ps s .0) (place-some c ps (length (text c ps)) (from-stands c ps s) h (length-text c ps)),
+)

@@ -1,10 +1,11 @@
--- The limits by hand: a table's rows, 1 to 1,024, by the refusal of an opening. Assumes nothing.
+-- Lengths by hand: a table's rows, 1 to 1,024, by the refusal of an opening; and stationround's table. Assumes nothing.
 use mathlib.Core.Path.{_≡_, refl}
 use mathlib.Core.List.{List, [], _∷_, map}
 use Prim.Native.Nat.{ℕ}
 use lib.ListN.{replicate}
 use Rattle.rules.specs.Table.{length-good}
 use Rattle.rules.specs.Calls.{opening, first, open-refusal, round-refusal, table-first, refusal}
+use Rattle.rules.specs.Lines.{fresh-table}
 
 -- a table of so many bytes, opened
 abbrev pub opened-at : (bytes : ℕ) → ℕ
@@ -14,3 +15,7 @@ opened-at n = refusal (opening 0) (replicate n 0)
 pub lengths-by-hand : map opened-at (16 ∷ 40 ∷ 24592 ∷ 24616 ∷ 39 ∷ 41 ∷ 0 ∷ []) ≡ 2 ∷ 0 ∷ 0 ∷ 2 ∷ 2 ∷ 2 ∷ 2 ∷ []
 unfolding length-good first open-refusal round-refusal table-first refusal
 lengths-by-hand = refl
+
+-- 24,592 zeros
+pub fresh-by-hand : fresh-table ≡ replicate 24592 0
+fresh-by-hand = refl

@@ -54,6 +54,8 @@ lines-read =
     -- a lower-case digit in the weight, and one in the payload
     reads (48 ∷ 49 ∷ 48 ∷ 49 ∷ 48 ∷ 50 ∷ 48 ∷ 97 ∷ 48 ∷ 66 ∷ 48 ∷ 67 ∷ 48 ∷ 68 ∷ 10 ∷ []) broken 1 0 0 [] ∷
     reads (taking-front ++ (48 ∷ 102 ∷ 10 ∷ [])) broken 1 0 0 [] ∷
+    -- every digit by its value
+    reads (48 ∷ 49 ∷ 51 ∷ 52 ∷ 53 ∷ 54 ∷ 55 ∷ 56 ∷ 57 ∷ 65 ∷ 66 ∷ 67 ∷ 68 ∷ 69 ∷ 10 ∷ []) (command (take-line 13398 2023406814)) 0 0 0 [] ∷
     -- bytes just outside the digits: / : @ G
     reads (48 ∷ 47 ∷ 10 ∷ []) broken 1 0 0 [] ∷
     reads (48 ∷ 48 ∷ 48 ∷ 48 ∷ 48 ∷ 58 ∷ 10 ∷ []) broken 1 0 0 [] ∷
@@ -117,6 +119,8 @@ lines-written =
     writes (take-line 65536 1) [] 20 (refused 1) (sevens 20) ∷
     writes (take-line 65535 4294967295) [] 15 (amount 15) (48 ∷ 49 ∷ 70 ∷ 70 ∷ 70 ∷ 70 ∷ 70 ∷ 70 ∷ 70 ∷ 70 ∷ 70 ∷ 70 ∷ 70 ∷ 70 ∷ 10 ∷ []) ∷
     writes (take-line 1 4294967296) [] 20 (refused 1) (sevens 20) ∷
+    -- every digit by its value
+    writes (take-line 13398 2023406814) [] 15 (amount 15) (48 ∷ 49 ∷ 51 ∷ 52 ∷ 53 ∷ 54 ∷ 55 ∷ 56 ∷ 57 ∷ 65 ∷ 66 ∷ 67 ∷ 68 ∷ 69 ∷ 10 ∷ []) ∷
     -- an opening and a sending have no payload
     writes (open-line 4095) [] 8 (amount 7) (48 ∷ 48 ∷ 48 ∷ 70 ∷ 70 ∷ 70 ∷ 10 ∷ 7 ∷ []) ∷
     writes (open-line 4095) (48 ∷ 48 ∷ []) 9 (refused 1) (sevens 9) ∷

@@ -104,6 +104,10 @@ Refused-unchanged =
     ((c : Call) (t : List ℕ) → Refused (refusal c t) (answer c t) t (left c t))
     × ((c : Command) (ps z : List ℕ) → Refused (write-refusal c ps (length z)) (write-answer c ps (length z)) z (write-left c ps z))
 
+-- and by the reply's number alone, 0 where the call is accepted
+unfoldable pub Numbers : Type 0
+Numbers = (c : Call) (t : List ℕ) → number-of (answer c t) ≡ refusal c t
+
 unfoldable pub List-refused-unchanged : Type 1
 List-refused-unchanged =
     (E : Type 0) (entry : Row → E) (t : List ℕ) (es : List E) →

@@ -1,12 +1,16 @@
--- WHAT IS REFUSED changes nothing: refused-unchanged, list-refused-unchanged. Assumes nothing.
-use mathlib.Core.Path.{refl, sym}
+-- WHAT IS REFUSED changes nothing, and says its number: refused-unchanged, numbers, list-refused-unchanged. Assumes nothing.
+use mathlib.Core.Path.{_≡_, refl, sym, _∙_}
+use mathlib.Core.Logic.{inl, inr}
 use mathlib.Core.List.{List}
 use Prim.Native.Nat.{ℕ}
 use borrow.Author.Tests.{ne-eqb}
 use lib.ListN.{length}
-use Rattle.rules.specs.Calls.{refusal, list-refusal, list-answer, list-left}
+use Rattle.rules.specs.Rows.{Round}
+use Rattle.rules.specs.Table.{round-in}
+use Rattle.rules.specs.Calls.{Call, opening, taking, sending, marking, totalling, number-of, says, refusal, answer, list-refusal, list-answer, list-left}
 use Rattle.rules.specs.Lines.{Command, write-refusal, write-answer, write-left}
-use Rattle.rules.specs.Demands.{Refused, Refused-unchanged, List-refused-unchanged}
+use Rattle.rules.specs.Demands.{Refused, Refused-unchanged, Numbers, List-refused-unchanged}
+use Rattle.theory.specs.Tests.{eqb?}
 use Rattle.theory.specs.Outcomes.{says-refused}
 
 -- the writer
@@ -21,6 +25,22 @@ refused-unchanged = (
   λ c t h. let s = says-refused c t (refusal c t) refl h in (sym (s .0), sym (s .1)),
   write-unchanged,
 )
+
+-- a reply's number
+pub says-number : (c : Call) (r : Round) → number-of (says c r) ≡ 0
+unfolding says number-of
+says-number (opening l) r = refl
+says-number (taking d w) r = refl
+says-number sending r = refl
+says-number (marking s) r = refl
+says-number totalling r = refl
+
+pub numbers : Numbers
+unfolding Numbers answer number-of
+numbers c t = elim (eqb? (refusal c t) 0) [
+  | inl e ↦ rw (e .0) (says-number c (round-in t) ∙ sym (e .1))
+  | inr e ↦ rw (e .0)
+]
 
 pub list-refused-unchanged : List-refused-unchanged
 unfolding List-refused-unchanged list-answer list-left

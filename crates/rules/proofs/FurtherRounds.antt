@@ -77,6 +77,7 @@ further-rounds =
           turn (marking 2) (amount 4) (waits 3 1 5 ∷ waits 4 2 4 ∷ []) (5 ∷ 4 ∷ []) ∷
           turn (marking 3) (refused 7) (waits 3 1 5 ∷ waits 4 2 4 ∷ []) (5 ∷ 4 ∷ []) ∷
           turn sending (step (ordinary (frame 3))) (waits 4 2 4 ∷ []) (4 ∷ []) ∷
+          turn (marking 2) (amount 4) (waits 4 2 4 ∷ []) (4 ∷ []) ∷
           turn sending (step (ordinary (frame 4))) [] [] ∷
           turn (marking 2) (refused 5) [] [] ∷
           turn (marking 3) (refused 5) [] [] ∷

@@ -21,7 +21,11 @@ returns : tie.Need-returns
 returns c =
     let s = c .before .before .before in
     says-refused (taking (s .args .due .0) (s .args .weight .0)) (s .args .table .now) _
-    (omega (arith, taking-refused (s .args .table .now) (s .args .round) (s .pre .0) (s .pre .1) (s .args .due .0) (s .args .weight .0), c .before .taking-refusal .ensures))
+    (omega (
+      arith,
+      taking-refused (s .args .table .now) (s .args .round) (s .pre .0) (s .pre .1) (s .args .due .0) (s .args .weight .0),
+      c .before .taking-refusal .ensures,
+    ))
     (λ z. omega (arith, z))
 
 row-at-requires : tie.Need-row-at-requires
@@ -32,13 +36,15 @@ row-at-requires c κs =
 write-row-requires : tie.Need-write-row-requires
 write-row-requires c κs =
     let s = c .before .before .before .before .before .before in
-    let f = row-free (s .args .table .now) (s .args .round) (s .pre .0) (s .pre .1) (s .args .due .0) (s .args .weight .0) (free (c .before .before .before)) in
+    let f = row-free (s .args .table .now) (s .args .round) (s .pre .0) (s .pre .1) (s .args .due .0) (s .args .weight .0)
+    (free (c .before .before .before)) in
     omega (arith, f .0, c .before .row-at .ensures)
 
 add-later : tie.Need-add-later
 add-later c =
     let s = c .before .before .before .before .before .before .before .before .before .before .before .before in
-    let f = row-free (s .args .table .now) (s .args .round) (s .pre .0) (s .pre .1) (s .args .due .0) (s .args .weight .0) (free (c .before .before .before .before .before .before .before .before .before)) in
+    let f = row-free (s .args .table .now) (s .args .round) (s .pre .0) (s .pre .1) (s .args .due .0) (s .args .weight .0)
+    (free (c .before .before .before .before .before .before .before .before .before)) in
     omega (arith, f .2)
 
 add-used : tie.Need-add-used
@@ -47,7 +53,8 @@ add-used c = search needs
 write-head-requires : tie.Need-write-head-requires
 write-head-requires c κs =
     let s = c .before .before .before .before .before .before .before .before .before .before .before .before .before .before in
-    let f = row-free (s .args .table .now) (s .args .round) (s .pre .0) (s .pre .1) (s .args .due .0) (s .args .weight .0) (free (c .before .before .before .before .before .before .before .before .before .before .before)) in
+    let f = row-free (s .args .table .now) (s .args .round) (s .pre .0) (s .pre .1) (s .args .due .0) (s .args .weight .0)
+    (free (c .before .before .before .before .before .before .before .before .before .before .before)) in
     let l : length (c .before .before .before .before .before .before .before .write-row .last .0) ≡ length (s .args .table .now) = ap length
     (c .before .before .before .before .before .before .before .write-row .ensures) ∙ simp length-sets in
     (omega (arith, l, f .0), omega (arith, f .1))
@@ -58,10 +65,13 @@ same-length c = search needs
 returns-2 : tie.Need-returns-2
 returns-2 c =
     let s = c .before .before .before .before .before .before .before .before .before .before .before .before .before .before .before .before .before in
-    taken-says (s .args .table .now) (s .args .round) (s .pre .0) (s .pre .1) (s .args .due .0) (s .args .weight .0) (free (c .before .before .before .before .before .before .before .before .before .before .before .before .before .before))
+    taken-says (s .args .table .now) (s .args .round) (s .pre .0) (s .pre .1) (s .args .due .0) (s .args .weight .0)
+    (free (c .before .before .before .before .before .before .before .before .before .before .before .before .before .before))
     _ _ _ _ (c .before .before .before .before .before .before .before .before .before .before .write-row .last .0) (c .before .before .write-head .last .0)
-    (c .before .before .before .before .before .before .before .before .before .before .before .before .row-at .result) _ _ _ _ (omega arith, omega arith, omega arith, omega arith)
-    (omega (arith, c .before .before .before .before .before .before .before .before .before .before .before .before .row-at .ensures)) (omega arith, omega arith, omega arith, omega arith)
+    (c .before .before .before .before .before .before .before .before .before .before .before .before .row-at .result) _ _ _ _
+    (omega arith, omega arith, omega arith, omega arith)
+    (omega (arith, c .before .before .before .before .before .before .before .before .before .before .before .before .row-at .ensures))
+    (omega arith, omega arith, omega arith, omega arith)
     (c .before .before .before .before .before .before .before .before .before .before .write-row .ensures) (c .before .before .write-head .ensures)
 
 pub take-into-spec : {M : Type 1} → statement M

@@ -1,56 +1,181 @@
 #!/usr/bin/env python3
-"""Checks docs/AUDIT.md: every file that it names exists, and every name stands in the file named with it.
+"""Checks the names in docs/AUDIT.md and docs/PROOFS.md: each file named is there, and each name is defined in the file named with it.
 
-A line's references are written "`name`, `name` in path"; "and in path" asks the same names of a further file; "Words" in path asks for that
-heading. Each line of a table must have a reference. Last line: 'N passed, M failed'.
+A reference is written "`name`, `name` in path"; "and in path" asks the same names of a further file. That a file uses a name is not enough:
+the name has to stand where FORMS says that a thing is defined. "Words" in path asks only that these words stand there. PROOFS.md also writes
+"`name`, path" and "`name` (path)", and its path may be a folder, for some file in it; where it names no file, a statement (`Name`) and a field
+are of Demands.antt. Each line of AUDIT.md's tables must have a reference, and each name there a file.
+
+  audit.py              one line for each thing that is wrong, then 'N passed, M failed'
+  audit.py --self-test  tries the rules on samples
 """
 import re
 import sys
 from pathlib import Path
 
 TOP = Path(__file__).resolve().parent.parent
+DEMANDS = "crates/rules/specs/Demands.antt"
 PATH = r"(?:crates|tests|docs|include|examples|bench)/[\w./-]*\w"
 NAMED = re.compile(rf"((?:(?:`[^`]+`|\"[^\"]+\")(?:, )?)+) in ({PATH})((?:[^;`|]*?,? and in {PATH})*)")
+NAMED_LOOSELY = re.compile(rf"((?:`[^`]+`(?:, and |, | and )?)+)(?:,? in |, | \()({PATH})()")
+
+# How a line begins that defines NAME.
+RUST = r'^\s*(?:pub(?:\(\w+\))? )?(?:(?:const|unsafe|extern "C") )*(?:fn|struct|enum|trait|type|mod|const|static) NAME\b'
+C = r"^#define NAME\b|^(?:\w+[ *]+)+NAME\([^;{]*\)\s*\{|^(?:typedef )?(?:struct|enum|union) NAME \{|^(?:static |const )[\w *]*\bNAME\b[^;({]*[=;]"
+FORMS = {
+    ".antt": r"^\s*(?:(?:abbrev|unfoldable|pub) )*(?:NAME :|(?:record|data) NAME(?![\w′-]))",
+    ".rt": RUST,
+    ".rs": RUST,
+    ".c": C,
+    ".h": C + r"|^(?:\w+[ *]+)+NAME\([^;{]*\);",
+    ".py": r"^\s*(?:def|class) NAME\b|^NAME = ",
+    ".sh": r"^\s*(?:function )?NAME ?\(\)|^\s*(?:(?:local|export|readonly) )?NAME=",
+}
+# Blocks whose members are defined in them: fields and variants (in Rust also those that a macro makes), and C's enumerators.
+RUST_BLOCK = r"^( *)(?:(?:pub(?:\(\w+\))? )?(?:enum|struct) \w+[^;({]*|\w+! )\{\n(.*?)^\1\}"
+BLOCKS = {".rt": RUST_BLOCK, ".rs": RUST_BLOCK, ".c": r"\b(enum)\b[^;({]*\{(.*?)\}", ".h": r"\b(enum)\b[^;({]*\{(.*?)\}"}
+MEMBER = r"(?:^|[{,])\s*(?:pub(?:\(\w+\))? )?NAME(?=[\s,({:]|$)"
 
 
-def stands(name, text):
-    """Whether a name stands in a text as a whole word; - and ′ belong to words."""
-    return re.search(rf"(?<![\w-]){re.escape(name)}(?![\w′-])", text) is not None
+def found(form, name, text):
+    return re.search(form.replace("NAME", re.escape(name)), text, re.M) is not None
 
 
-def wrong_in(line):
+def defined(name, text, suffix):
+    """Whether a text, of a file with this suffix, defines a name."""
+    if suffix not in FORMS:
+        return False
+    text = re.sub(r"/\*.*?\*/", "", text, flags=re.S) if suffix in (".c", ".h") else text
+    blocks = re.findall(BLOCKS[suffix], text, re.M | re.S) if suffix in BLOCKS else []
+    return found(FORMS[suffix], name, text) or any(found(MEMBER, name, body) for _, body in blocks)
+
+
+def stands(words, text):
+    """Whether words stand in a text as whole words; - and ′ belong to words."""
+    return re.search(rf"(?<![\w-]){re.escape(words)}(?![\w′-])", text) is not None
+
+
+def files(path):
+    """A file, or those of a folder whose definitions can be read."""
+    at = TOP / path
+    return [f for f in sorted(at.rglob("*")) if f.suffix in FORMS] if at.is_dir() else [at] if at.is_file() else []
+
+
+def is_there(name, path):
+    """Whether a name, in backticks, is defined under a path, or words, in quotes, stand there."""
+    texts = [(f.read_text(encoding="utf-8"), f.suffix) for f in files(path)]
+    if name[0] == '"':
+        return any(stands(name[1:-1], text) for text, _ in texts)
+    return any(defined(name[1:-1], text, suffix) for text, suffix in texts)
+
+
+def wrong_names(line, form):
     """What a line names that is not there."""
     for path in re.findall(PATH, line):
-        if not (TOP / path).is_file():
+        if not (TOP / path).exists():
             yield f"no file {path}"
-    for names, path, more in NAMED.findall(line):
+    for names, path, more in form.findall(line):
         for file in [path, *re.findall(PATH, more)]:
-            text = (TOP / file).read_text(encoding="utf-8") if (TOP / file).is_file() else ""
-            for name in re.findall(r"[`\"]([^`\"]+)[`\"]", names):
-                if not stands(name, text):
-                    yield f"no {name} in {file}"
+            for name in re.findall(r'`[^`]+`|"[^"]+"', names):
+                if not is_there(name, file):
+                    yield f"{name} is not {'said' if name[0] == chr(34) else 'defined'} in {file}"
+
+
+def wrong_in_audit(line):
+    """The same of a line of AUDIT.md, where a path is a file and every name has one."""
+    yield from wrong_names(line, NAMED)
+    for path in re.findall(PATH, line):
+        if (TOP / path).is_dir():
+            yield f"{path} is a folder"
     for name in re.findall(r"`[^`]+`", NAMED.sub("", line)):
         yield f"{name} stands without a file"
     if not re.search(PATH, line):
         yield "nothing is named"
 
 
-def table_lines(page):
-    """The lines of a page's tables, without their heads."""
-    return [line for line in page.splitlines() if re.match(r"\|(?! requirement \||---)", line)]
+def wrong_in_proofs(line, head):
+    """The same of a line of PROOFS.md, in a table with this head; a statement or field without a file is of Demands.antt."""
+    yield from wrong_names(line, NAMED_LOOSELY)
+    for column, cell in zip(head.split("|"), line.split("|")):
+        form = {"statement": r"`[A-Z][^`]*`", "field": r"`[^`]+`"}.get(column.strip(), r"(?!)")
+        for name in re.findall(form, NAMED_LOOSELY.sub("", cell)):
+            if not is_there(name, DEMANDS):
+                yield f"{name} is not defined in {DEMANDS}"
 
 
-def main():
+def lines(page):
+    """The lines of a page's tables and its paragraphs, each as one line, with the head of the table."""
+    head = ""
+    for line in re.sub(r"(?<!\n)\n(?![\n|#-])", " ", page).splitlines():
+        row = line.startswith("|")
+        if not row or not head:
+            head = line if row else ""
+            if row:
+                continue
+        if line and not line.startswith("|---"):
+            yield line, head
+
+
+def report():
     passed = failed = 0
-    for line in table_lines((TOP / "docs" / "AUDIT.md").read_text(encoding="utf-8")):
-        wrong = list(wrong_in(line))
-        for what in wrong:
-            print(f"audit: {line.split('|')[1].strip()}: {what}")
-        failed += bool(wrong)
-        passed += not wrong
+    for page in ("AUDIT.md", "PROOFS.md"):
+        for line, head in lines((TOP / "docs" / page).read_text(encoding="utf-8")):
+            if page == "AUDIT.md" and not head:
+                continue
+            wrong = list(wrong_in_audit(line) if page == "AUDIT.md" else wrong_in_proofs(line, head))
+            for what in wrong:
+                print(f"audit: {page}, {line.strip('| ')[:60]}: {what}")
+            failed += bool(wrong)
+            passed += not wrong
     print(f"{passed} passed, {failed} failed")
-    sys.exit(failed != 0)
+    return failed == 0
+
+
+# Whether a text defines the name `it`, by the suffix of its file.
+SAMPLES = [
+    (True, ".antt", "abbrev pub it : ℕ → ℕ\nit n = n\n"),
+    (True, ".antt", "module _ (n : ℕ) where\n  unfoldable pub it : ℕ\n"),
+    (True, ".antt", "pub record it (t : ℕ) : Type 0 where\n"),
+    (True, ".antt", "pub data Call : Type 0 where\n  it : (last : ℕ) → Call\n"),
+    (False, ".antt", "use Rattle.rules.specs.Calls.{it}\n-- it : told\npub other : it ≡ it\nother = it\n"),
+    (False, ".antt", "pub it-more : ℕ\nit-more = let it : ℕ = 0 in it\npub record Other (it : ℕ) : Type 0 where\n"),
+    (True, ".rt", "#[no_mangle]\npub extern \"C\" fn it(last: u32) -> u64\n"),
+    (True, ".rt", "impl Round {\n    pub const it: u32 = 4095;\n}\n"),
+    (True, ".rt", "pub enum Out {\n    Silence,\n    it(Ticket),\n}\n"),
+    (True, ".rt", "pub struct Round {\n    pub slot: Slot,\n    pub it: usize,\n}\n"),
+    (False, ".rt", "use calls::it;\n// fn it\nfn other(it: u32) -> Round {\n    it(1);\n    Round {\n        it: 1,\n    }\n}\n"),
+    (False, ".rt", "fn other() {\n    match a {\n        it(n) => 1,\n    }\n}\n"),
+    (True, ".rs", "mutations! {\n    // Opening.\n    it Open \"said\";\n}\n"),
+    (True, ".rs", "    pub(crate) trait it {\n"),
+    (False, ".rs", "#[test]\nfn other() {\n    let it = it();\n    const OTHER: u32 = it;\n}\n"),
+    (True, ".c", "static int it(const struct seen *s,\n              unsigned set)\n{\n"),
+    (True, ".c", "enum { FIRST = 8, it = 9 };\n"),
+    (False, ".c", "int it(int a);\nint main(void)\n{\n    it(1);\n    return it(2);\n}\n/* it */\nenum { OTHER /* it, */ };\n"),
+    (True, ".h", "#define it 16u\n"),
+    (True, ".h", "uint64_t it(uint32_t last, uint8_t *table, size_t length);\n"),
+    (False, ".h", "/* it */\n#define OTHER it\nstatic inline int other(int a)\n{\n    return it(a);\n}\n"),
+    (True, ".py", "it = 1\n"),
+    (False, ".py", "import it\nother = it\nif it == 1:\n    it()\n"),
+    (True, ".sh", "it() { # NAME\n"),
+    (False, ".sh", "it a b\necho \"$it\" # it=1\n"),
+    (False, ".md", "# it\n"),
+]
+# What a line names, and where.
+REFERENCES = [
+    (NAMED, "| a | `b`, `c` in docs/D.md, and in docs/E.md |", [("`b`, `c`", "docs/D.md", ", and in docs/E.md")]),
+    (NAMED, '| a | "b c" in docs/D.md; docs/E.md |', [('"b c"', "docs/D.md", "")]),
+    (NAMED_LOOSELY, "| a | `B` (docs/D.md) | `b` and `c`, docs/E.md |", [("`B`", "docs/D.md", ""), ("`b` and `c`", "docs/E.md", "")]),
+]
+
+
+def self_test():
+    wrong = [f"{suffix} {text!r}" for is_so, suffix, text in SAMPLES if defined("it", text, suffix) != is_so]
+    wrong += [line for form, line, told in REFERENCES if form.findall(line) != told]
+    for sample in wrong:
+        print(f"audit: sample {sample}")
+    print(f"{len(SAMPLES) + len(REFERENCES) - len(wrong)} passed, {len(wrong)} failed")
+    return not wrong
 
 
 if __name__ == "__main__":
-    main()
+    sys.exit(0 if (self_test() if sys.argv[1:] == ["--self-test"] else report()) else 1)

@@ -24,19 +24,20 @@ This page is written by tests/edits.py from the first lines of the edits.
 # The nearest is another program, not an edit of this one: it is proved that it sends otherwise.
 PLAYED_OUT = "`played-out-misses`, `canonical-first-differs`, `no-order-serves` in crates/theory/specs/PlayedOut.antt; "
 OVER = " ".join(f"{call}over_in_the_last_slot" for call in ("calls/", "calls/send_", "asking/mark_", "asking/total_")) + " rules/last_slot_over"
+TURNED_DOWN = " ".join(f"calls/every_{call}_turned_down" for call in ("opening", "taking", "sending"))
 
 BREAKAGES = [
     ("a sender that plans the first slot and plays that plan out afterwards (demand 2)",
      "pick/canonical_first_instead_of_the_pick rules/canonical_first"),
     ("a listing whose count is not the plan's rows (2)", "listing/list_count_of_all_rows order/rows_left_out_are_listed"),
     ("a table reported full with a row free, or a round reported over in its last slot (1)", "calls/full_with_a_row_free " + OVER),
-    ("a sender always silent (2)", "calls/always_silent sender/silence_with_a_row_waiting"),
+    ("a sender always silent (2)", "sender/always_silent sender/silence_with_a_row_waiting"),
     ("a taker that gives a ticket but stores nothing (2 and 3)", "calls/ticket_but_nothing_stored"),
-    ("a station that turns every call down (1 and 2)", "calls/every_call_turned_down"),
+    ("a station that turns every call down (1 and 2)", TURNED_DOWN),
 ]
 
 KINDS = [
-    ("a sender always silent", "calls/always_silent"),
+    ("a sender always silent", "sender/always_silent"),
     ("the canonical first instead of the pick", "pick/canonical_first_instead_of_the_pick rules/canonical_first"),
     ("the heaviest instead of the pick", "pick/the_heaviest_goes rules/the_heaviest_goes"),
     ("φ by a smaller Fibonacci pair", "pick/smaller_fibonacci_pair rules/golden_ratio_near"),

@@ -16,7 +16,7 @@ use Rattle.round.specs.Head.{Head-of}
 use Rattle.round.specs.Numbers.{head-numbers, row-numbers}
 use Rattle.round.proofs.HeadLaws.{sound-head}
 use Rattle.round.proofs.TableLaws.{taken-table}
-use Rattle.calls.specs.Taking.{taking-number, One-more}
+use Rattle.calls.specs.Taking.{taking-number}
 use Rattle.calls.proofs.TakingNumber.{number-none}
 
 abbrev pub number-of : Round → (due weight : ℕ) → ℕ
@@ -40,13 +40,14 @@ module _ (t : List ℕ) (h : Round) (sound : table-refusal t ≡ 0) (head : Head
         let m = n .0 in
         (omega (arith, s .long, n .1), omega (arith, s .few, n .1), omega (arith, s .most))
 
-    -- ALL WRITTEN: the numbers that the writers were given are those of the frame and of the head
-    pub taken-says : (g : Round) (v z : List ℕ) (a k e m : ℕ) → One-more h g → a ≡ row-at (h .used) → k ≡ h .next .0 → e ≡ d → m ≡ w →
-        v ≡ sets t a (row-numbers k e m 0) → z ≡ head-numbers (g .slot .0) (g .last .0) (g .next .0) (g .used) ++ drop 10 v →
-        Says (taking d w) (ticket k) t z
+    -- ALL WRITTEN: the numbers that the writers were given are those of the head, once a frame is taken, and of the frame
+    pub taken-says : (s l n u : ℕ) (v z : List ℕ) (a j k e m : ℕ) →
+        (s ≡ h .slot .0) × (l ≡ h .last .0) × (n ≡ h .next .0 + 1) × (u ≡ h .used + 1) → a ≡ row-at (h .used) →
+        (j ≡ h .next .0) × (k ≡ h .next .0) × (e ≡ d) × (m ≡ w) → v ≡ sets t a (row-numbers k e m 0) → z ≡ head-numbers s l n u ++ drop 10 v →
+        Says (taking d w) (ticket j) t z
     unfolding says leaves round-in round
-    taken-says g v z a k e m o i x y u j q =
-        let n = number-none (h .slot .0) (h .last .0) (h .next .0) (h .used) (h .room) d w free in
-        let b = taken-table t h d w v z sound head (n .1) (j ∙ rw (i, x, y, u)) (q ∙ rw (o .slot, o .last, o .next, o .used)) in
+    taken-says s l n u v z a j k e m o i x y q =
+        let room = number-none (h .slot .0) (h .last .0) (h .next .0) (h .used) (h .room) d w free in
+        let b = taken-table t h d w v z sound head (room .1) (y ∙ rw (i, x .1, x .2, x .3)) (q ∙ rw (o .0, o .1, o .2, o .3)) in
         let f = says-accepted (taking d w) t z (taking-refused ∙ free) b in
-        (ap ticket (x ∙ head .next) ∙ f .0, f .1)
+        (ap ticket (x .0 ∙ head .next) ∙ f .0, f .1)

@@ -1,11 +1,10 @@
 // Taking a frame: refusals 2, 3 and 5 to 9.
 ghost use mathlib.Core.Path.{_≡_};
-ghost use Prim.Native.Nat.{_<_};
 ghost use Rattle.rules.specs.Table.{table-refusal};
 ghost use Rattle.rules.specs.Calls.{taking, Says};
 ghost use Rattle.round.specs.Head.{Head-of};
 ghost use Rattle.calls.specs.Replies.{of-taken};
-ghost use Rattle.calls.specs.Taking.{taking-number, One-more};
+ghost use Rattle.calls.specs.Taking.{taking-number};
 use round::Round;
 use round::Slot;
 use round::Ticket;
@@ -42,24 +41,20 @@ fn take_into(table: &mut [u8], round: Round, due: Slot, weight: Weight) -> Taken
     let next = round.next;
     let at = row_at(round.used);
     write_row(table, at, next, due, weight, 0);
-    write_head(table, one_more(round));
-    Taken::As(next)
-}
-
-// The head once a frame is taken.
-fn one_more(round: Round) -> Round
-    requires { ⌜ (round .next .0 < 16777216) × (round .used < 1024) ⌝ }
-    ensures { λ r. ⌜ One-more round r ⌝ }
-{
+    // The head once the frame is taken.
     let slot = round.slot;
     let last = round.last;
-    Round {
+    let later = next.0 + 1;
+    let used = round.used + 1;
+    let head = Round {
         slot,
         last,
-        next: Ticket(round.next.0 + 1),
-        used: round.used + 1,
+        next: Ticket(later),
+        used,
         room: round.room,
-    }
+    };
+    write_head(table, head);
+    Taken::As(next)
 }
 
 // 5 to 9, or 0: the first that applies.

@@ -31,7 +31,7 @@ use Rattle.theory.specs.Close.{closed, after-slot}
 use Rattle.round.specs.declared.Round.{Round as Head}
 use Rattle.closing.specs.Close.{closed-up}
 use Rattle.shifting.specs.Chain.{row-named}
-use Rattle.leap.specs.Send.{Went-of, Leaves-alone, Goes-by, Noted, Sent-says}
+use Rattle.leap.specs.Send.{Went-of, Silent, Leaves-alone, Goes-by, Noted, Sent-says}
 use Rattle.leap.specs.declared.send.Went.{Went}
 use Rattle.shifting.proofs.MoveLaws.{table-kept}
 use Rattle.leap.proofs.StandLaws.{Stood, stood, stood-closed, alone-closed, self-table, sent-says, fit-self, fit-changed}
@@ -81,15 +81,15 @@ no-rows : (xs : List Row) → length xs ≡ 0 → xs ≡ []
 no-rows [] e = refl
 no-rows (x ∷ xs) e = absurd (omega arith)
 
-pub silence-says : (t : List ℕ) (h : Head) → Ready t h → h .used ≡ 0 → (v : List ℕ) → v ≡ closed-up 0 t →
-    Sent-says t v (record { leap = false; ticket = record { 0 = 0 }; kind = 0 })
+pub silence-says : (t : List ℕ) (h : Head) → Ready t h → h .used ≡ 0 → (u : List ℕ) (w : Went) → Silent t u w → Sent-says t u w
 unfolding blank
-silence-says t h k e v q =
+silence-says t h k e u w s =
     let r = round-in t in
     let n = known t h k in
     let d : r .rows ≡ [] = no-rows (r .rows) (omega (arith, e, n .used)) in
-    sent-says t h k (blank (r .slot)) false 0 [] v _ (sends-silence r (n .fine) (n .time) (planned r) (planned-rows r (n .fine)) d)
-    (alone-closed t v 0 q ∙ ap (λ (xs : List Row). table (after-slot r (closed (suc (r .slot)) 0 xs))) d) (record { leap = refl; ticket = refl; kind = refl })
+    sent-says t h k (blank (r .slot)) false 0 [] u w (sends-silence r (n .fine) (n .time) (planned r) (planned-rows r (n .fine)) d)
+    (alone-closed t u 0 (s .leaves) ∙ ap (λ (xs : List Row). table (after-slot r (closed (suc (r .slot)) 0 xs))) d)
+    (record { leap = s .leap; ticket = s .ticket; kind = s .kind })
 
 -- ALONE
 module _ {t : List ℕ} {h : Head} {leaps : Bool} {k : ℕ} (a : Leaves-alone t h leaps k) {j : ℕ} (e : j ≡ row-named k) where

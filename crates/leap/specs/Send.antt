@@ -1,6 +1,6 @@
 -- What a sending writes and says. Assumes nothing: these are definitions.
 use mathlib.Core.Path.{_≡_}
-use mathlib.Core.Bool.{Bool, not, cond}
+use mathlib.Core.Bool.{Bool, false, not, cond}
 use mathlib.Core.List.{List}
 use Prim.Native.Nat.{ℕ, _<_}
 use lib.ListN.{length}
@@ -13,6 +13,7 @@ use Rattle.round.specs.declared.Round.{Round as Head}
 use Rattle.tally.specs.Rows.{Ready, at, key-at, place}
 use Rattle.tally.specs.Near.{Counted, Reaches}
 use Rattle.tally.specs.Tally.{kept-key, Tops}
+use Rattle.closing.specs.Close.{closed-up}
 use Rattle.pick.specs.Choice.{Picked}
 use Rattle.tally.specs.declared.near.Reach.{Reach}
 use Rattle.pick.specs.declared.choice.Pick.{Pick}
@@ -23,6 +24,13 @@ pub record Went-of (p : Row) (leaps : Bool) (w : Went) : Type 0 where
   pub leap : w .leap ≡ leaps
   pub ticket : w .ticket .0 ≡ p .ticket
   pub kind : w .kind ≡ p .kind
+
+-- SILENCE: no ticket goes, and none is told
+pub record Silent (t u : List ℕ) (w : Went) : Type 0 where
+  pub leaves : u ≡ closed-up 0 t
+  pub leap : w .leap ≡ false
+  pub ticket : w .ticket .0 ≡ 0
+  pub kind : w .kind ≡ 0
 
 -- A ROW THAT LEAVES ALONE, by its key
 pub record Leaves-alone (t : List ℕ) (h : Head) (leaps : Bool) (k : ℕ) : Type 0 where

@@ -5,7 +5,7 @@ ghost use Rattle.rules.specs.Table.{round-in};
 ghost use Rattle.tally.specs.Rows.{Ready, at};
 ghost use Rattle.pick.specs.Whole.{every};
 ghost use Rattle.shifting.specs.Chain.{due-named};
-ghost use Rattle.leap.specs.Send.{Went-of, Leaves-alone, Goes-by, Noted, Sent-says};
+ghost use Rattle.leap.specs.Send.{Went-of, Silent, Leaves-alone, Goes-by, Noted, Sent-says};
 use closing::close::close_up;
 use closing::write::write_kept;
 use closing::write::write_weight;
@@ -44,10 +44,10 @@ fn went_of(table: &[u8], round: Round, row: usize, leap: bool) -> Went
     }
 }
 
-// No row waits: the slot alone moves on.
+// The slot alone moves on; right where no row waits.
 pub fn send_silence(table: &mut [u8], round: Round) -> Went
-    requires { ⌜ Ready (now table) round × (round .used ≡ 0) ⌝ }
-    ensures { λ r. ⌜ Sent-says (now (table .entry)) (now (table .exit)) r ⌝ }
+    requires { ⌜ Ready (now table) round ⌝ }
+    ensures { λ r. ⌜ Silent (now (table .entry)) (now (table .exit)) r ⌝ }
 {
     close_up(table, round, Ticket(0));
     Went {

@@ -1,19 +1,18 @@
 -- `calls::taking::take_into` meets its contract. Assumes nothing.
 use borrow.Author.Needs.{needs}
-use mathlib.Core.Path.{_≡_, sym, ap, _∙_}
-use Prim.Native.Nat.{ℕ, _≤_}
+use mathlib.Core.Path.{_≡_, ap, _∙_}
 use native.Mathlib.Omega.{arith}
 use lib.ListN.{length}
 use lib.Seq.{length-sets}
 use Rattle.rules.specs.Calls.{taking}
 use Rattle.theory.specs.Outcomes.{says-refused}
-use Rattle.calls.proofs.Taken.{taking-refused, used-room, row-free, taken-says}
+use Rattle.calls.proofs.Taken.{number-of, taking-refused, used-room, row-free, taken-says}
 use Rattle.calls.proofs.taking.take_into.Statement.{statement}
 use Rattle.calls.proofs.taking.take_into.Tie as tie
 
 -- no refusal where the number is not above 0
-none : (n m : ℕ) → n ≡ m → n ≤ 0 → m ≡ 0
-none n m e h = omega arith
+free : (c : tie.Else1) → let s = c .before .before .before in number-of (s .args .round) (s .args .due .0) (s .args .weight .0) ≡ 0
+free c = omega (arith, c .before .taking-refusal .ensures)
 
 taking-refusal-requires : tie.Need-taking-refusal-requires
 taking-refusal-requires c κs = search needs
@@ -21,9 +20,12 @@ taking-refusal-requires c κs = search needs
 returns : tie.Need-returns
 returns c =
     let s = c .before .before .before in
-    says-refused (taking (s .args .due .0) (s .args .weight .0)) (s .args .table .now) (c .before .taking-refusal .result)
-    (taking-refused (s .args .table .now) (s .args .round) (s .pre .0) (s .pre .1) (s .args .due .0) (s .args .weight .0)
-    ∙ sym (c .before .taking-refusal .ensures))
+    says-refused (taking (s .args .due .0) (s .args .weight .0)) (s .args .table .now) _
+    (omega (
+      arith,
+      taking-refused (s .args .table .now) (s .args .round) (s .pre .0) (s .pre .1) (s .args .due .0) (s .args .weight .0),
+      c .before .taking-refusal .ensures,
+    ))
     (λ z. omega (arith, z))
 
 row-at-requires : tie.Need-row-at-requires
@@ -35,57 +37,44 @@ write-row-requires : tie.Need-write-row-requires
 write-row-requires c κs =
     let s = c .before .before .before .before .before .before in
     let f = row-free (s .args .table .now) (s .args .round) (s .pre .0) (s .pre .1) (s .args .due .0) (s .args .weight .0)
-    (none (c .before .before .before .before .taking-refusal .result) _ (c .before .before .before .before .taking-refusal .ensures)
-    (c .before .before .before .if1 .left)) in
+    (free (c .before .before .before)) in
     omega (arith, f .0, c .before .row-at .ensures)
 
-one-more-requires : tie.Need-one-more-requires
-one-more-requires c κs =
-    let s = c .before .before .before .before .before .before .before .before .before .before in
+add-later : tie.Need-add-later
+add-later c =
+    let s = c .before .before .before .before .before .before .before .before .before .before .before .before in
     let f = row-free (s .args .table .now) (s .args .round) (s .pre .0) (s .pre .1) (s .args .due .0) (s .args .weight .0)
-    (none (c .before .before .before .before .before .before .before .before .taking-refusal .result) _
-    (c .before .before .before .before .before .before .before .before .taking-refusal .ensures)
-    (c .before .before .before .before .before .before .before .if1 .left)) in
-    (f .2, f .1)
+    (free (c .before .before .before .before .before .before .before .before .before)) in
+    omega (arith, f .2)
+
+add-used : tie.Need-add-used
+add-used c = search needs
 
 write-head-requires : tie.Need-write-head-requires
 write-head-requires c κs =
-    let s = c .before .before .before .before .before .before .before .before .before .before .before in
-    let d = (s .args .table .now) in
+    let s = c .before .before .before .before .before .before .before .before .before .before .before .before .before .before in
     let f = row-free (s .args .table .now) (s .args .round) (s .pre .0) (s .pre .1) (s .args .due .0) (s .args .weight .0)
-    (none (c .before .before .before .before .before .before .before .before .before .taking-refusal .result) _
-    (c .before .before .before .before .before .before .before .before .before .taking-refusal .ensures)
-    (c .before .before .before .before .before .before .before .before .if1 .left)) in
-    let l : length (c .before .before .before .before .write-row .last .0) ≡ length (s .args .table .now) = ap length
-    (c .before .before .before .before .write-row .ensures) ∙ simp length-sets in
-    (omega (arith, l, f .0), omega (arith, c .one-more .ensures .used, f .1))
+    (free (c .before .before .before .before .before .before .before .before .before .before .before)) in
+    let l : length (c .before .before .before .before .before .before .before .write-row .last .0) ≡ length (s .args .table .now) = ap length
+    (c .before .before .before .before .before .before .before .write-row .ensures) ∙ simp length-sets in
+    (omega (arith, l, f .0), omega (arith, f .1))
 
 same-length : tie.Need-same-length
 same-length c = search needs
 
 returns-2 : tie.Need-returns-2
 returns-2 c =
-    let s = c .before .before .before .before .before .before .before .before .before .before .before .before .before .before in
+    let s = c .before .before .before .before .before .before .before .before .before .before .before .before .before .before .before .before .before in
     taken-says (s .args .table .now) (s .args .round) (s .pre .0) (s .pre .1) (s .args .due .0) (s .args .weight .0)
-    (none (c .before .before .before .before .before .before .before .before .before .before .before .before .taking-refusal .result) _
-    (c .before .before .before .before .before .before .before .before .before .before .before .before .taking-refusal .ensures)
-    (c .before .before .before .before .before .before .before .before .before .before .before .if1 .left))
-    (c .before .before .before .one-more .result) (c .before .before .before .before .before .before .before .write-row .last .0)
-    (c .before .before .write-head .last .0) (c .before .before .before .before .before .before .before .before .before .row-at .result) _ _ _
-    (c .before .before .before .one-more .ensures)
-    (omega (arith, c .before .before .before .before .before .before .before .before .before .row-at .ensures)) (omega arith) (omega arith)
-    (omega arith)
-    (c .before .before .before .before .before .before .before .write-row .ensures) (c .before .before .write-head .ensures)
+    (free (c .before .before .before .before .before .before .before .before .before .before .before .before .before .before))
+    _ _ _ _ (c .before .before .before .before .before .before .before .before .before .before .write-row .last .0) (c .before .before .write-head .last .0)
+    (c .before .before .before .before .before .before .before .before .before .before .before .before .row-at .result) _ _ _ _
+    (omega arith, omega arith, omega arith, omega arith)
+    (omega (arith, c .before .before .before .before .before .before .before .before .before .before .before .before .row-at .ensures))
+    (omega arith, omega arith, omega arith, omega arith)
+    (c .before .before .before .before .before .before .before .before .before .before .write-row .ensures) (c .before .before .write-head .ensures)
 
 pub take-into-spec : {M : Type 1} → statement M
 take-into-spec =
     tie.close
-    (tie.spec
-    taking-refusal-requires
-    returns
-    row-at-requires
-    write-row-requires
-    one-more-requires
-    write-head-requires
-    same-length
-    returns-2)
+    (tie.spec taking-refusal-requires returns row-at-requires write-row-requires add-later add-used write-head-requires same-length returns-2)

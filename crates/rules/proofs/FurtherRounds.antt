@@ -58,6 +58,17 @@ further-rounds =
           turn sending (step (ordinary (frame 4))) [] [] ∷
           [];
     } ∷
+    -- a mark of 1 keeps the blank
+    record {
+      start = found;
+      turns =
+          turn (opening 1) done [] (0 ∷ 0 ∷ []) ∷
+          turn (taking 0 1) (ticket 1) (waits 1 0 1 ∷ []) (1 ∷ 0 ∷ []) ∷
+          turn (taking 1 11) (ticket 2) (waits 1 0 1 ∷ waits 2 1 11 ∷ []) (1 ∷ 1 ∷ []) ∷
+          turn sending (step (leap (frame 2))) (keeps 2 1 1 ∷ []) (1 ∷ []) ∷
+          turn sending (step (ordinary (kept-blank 2))) [] [] ∷
+          [];
+    } ∷
     -- marks asked, each slot its own, with 7 before the current slot and after the last, and 5 past it
     record {
       start = found;

@@ -58,15 +58,17 @@ further-rounds =
           turn sending (step (ordinary (frame 4))) [] [] ∷
           [];
     } ∷
-    -- a mark of 1 keeps the blank
+    -- r is due in a tight slot: shifts end there, so there are none; a mark of 1 keeps the blank
     record {
       start = found;
       turns =
-          turn (opening 1) done [] (0 ∷ 0 ∷ []) ∷
-          turn (taking 0 1) (ticket 1) (waits 1 0 1 ∷ []) (1 ∷ 0 ∷ []) ∷
-          turn (taking 1 11) (ticket 2) (waits 1 0 1 ∷ waits 2 1 11 ∷ []) (1 ∷ 1 ∷ []) ∷
-          turn sending (step (leap (frame 2))) (keeps 2 1 1 ∷ []) (1 ∷ []) ∷
-          turn sending (step (ordinary (kept-blank 2))) [] [] ∷
+          turn (opening 2) done [] (0 ∷ 0 ∷ 0 ∷ []) ∷
+          turn (taking 0 1) (ticket 1) (waits 1 0 1 ∷ []) (1 ∷ 0 ∷ 0 ∷ []) ∷
+          turn (taking 2 2) (ticket 2) (waits 1 0 1 ∷ waits 2 2 2 ∷ []) (1 ∷ 0 ∷ 0 ∷ []) ∷
+          turn (taking 1 5) (ticket 3) (waits 1 0 1 ∷ waits 2 2 2 ∷ waits 3 1 5 ∷ []) (1 ∷ 1 ∷ 1 ∷ []) ∷
+          listing (1 ∷ 3 ∷ 2 ∷ []) (ticket 1 ∷ blank-due 1 ∷ blank-due 2 ∷ []) ∷
+          turn sending (step (leap (frame 3))) (waits 2 2 2 ∷ keeps 3 1 1 ∷ []) (1 ∷ 1 ∷ []) ∷
+          turn sending (step (ordinary (kept-blank 3))) (waits 2 2 2 ∷ []) (2 ∷ []) ∷
           [];
     } ∷
     -- marks asked, each slot its own, with 7 before the current slot and after the last, and 5 past it

@@ -3,13 +3,14 @@ use mathlib.Core.Path.{_≡_, refl}
 use mathlib.Core.Bool.{Bool, true, false, cond}
 use mathlib.Core.List.{List, [], _∷_, _++_}
 use Prim.Native.Nat.{ℕ}
+use native.Mathlib.Omega.{arith}
 use Rattle.rules.specs.Rows.{Row, row, blank, round, slots-left, heavier, canonical, into, sorted}
 use Rattle.rules.specs.Plan.{due-by, fits-from, feasible, kept, blanks-from, plan, total-weight, tight, tight-from, tight-after, segment-from, segment-start, first-end, least-weight, mark-in, same-row, in-plan, lightest-by, heaviest-outside, substitute, beats-golden, golden-more, sends-before, best-from, best}
 use Rattle.rules.specs.Steps.{opened, taken, changed, without, heaviest-between, shifted, replaced, leapt, still-due, is-ordinary, sent}
 use Rattle.rules.specs.Table.{low, value, field, row-bytes, rows-bytes, table, rows-in, rows-of, round-in, length-good, rows-good, round-good, same, table-refusal}
 use Rattle.rules.specs.Calls.{first, open-refusal, take-refusal, send-refusal, round-refusal, out-of, says, leaves, table-first, refusal, answer, left, run}
 use Rattle.rules.specs.Lines.{digit, is-digit, digit-value, digits, number-from, all-digits, call-of, body, number-at, read-digits, read, out-digits, reply-digits, reply-text, turn, printed-from}
-use Rattle.rules.specs.Reads.{complete-from, begun-from, asked, calls-of, stops, overlong, Between, served, written, between-after}
+use Rattle.rules.specs.Reads.{complete-from, begun-from, asked, calls-of, stops, overlong, Between, served, written, between-after, Some-bytes}
 use Rattle.rules.proofs.Text.{zeroed}
 
 -- READS BY HAND: the bytes written for each that is made, then the line held, whether it is over, and the waiting rows
@@ -192,3 +193,7 @@ unfolding row blank round slots-left heavier canonical into sorted due-by fits-f
     body number-at read-digits read out-digits reply-digits reply-text turn printed-from run complete-from begun-from asked calls-of stops overlong
     served written between-after
 reads-by-hand = refl
+
+-- a read may have one byte
+pub one-by-one : Some-bytes ((48 ∷ []) ∷ (10 ∷ []) ∷ [])
+one-by-one = (omega arith, (omega arith, tt))

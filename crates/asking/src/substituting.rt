@@ -2,7 +2,7 @@
 ghost use mathlib.Core.Path.{_≡_};
 ghost use Prim.Native.Nat.{_<_};
 ghost use Rattle.rules.specs.Table.{round-in, table-refusal};
-ghost use Rattle.rules.specs.Calls.{substitute-answer};
+ghost use Rattle.rules.specs.Calls.{substitute-answer, Looks};
 ghost use Rattle.theory.specs.Flags.{Chosen};
 ghost use Rattle.round.specs.Head.{Head-of};
 ghost use Rattle.tally.specs.Rows.{Ready, at};
@@ -29,7 +29,7 @@ pub enum Substituted {
 }
 
 pub fn substitute_of(ticket: Ticket, table: &[u8]) -> Substituted
-    ensures { λ r. ⌜ of-substituted r ≡ substitute-answer (ticket .0) (now (table .entry)) ⌝ }
+    ensures { λ r. ⌜ Looks (substitute-answer (ticket .0) (now (table .entry))) (of-substituted r) (now (table .entry)) (now (table .exit)) ⌝ }
 {
     match judge(table) {
         Judged::Refused(n) => Substituted::Refused(n),
@@ -40,7 +40,7 @@ pub fn substitute_of(ticket: Ticket, table: &[u8]) -> Substituted
 // The same on a sound table.
 fn substitute_in(table: &[u8], round: Round, ticket: Ticket) -> Substituted
     requires { ⌜ (table-refusal (now table) ≡ 0) × Head-of (now table) round ⌝ }
-    ensures { λ r. ⌜ of-substituted r ≡ substitute-answer (ticket .0) (now (table .entry)) ⌝ }
+    ensures { λ r. ⌜ Looks (substitute-answer (ticket .0) (now (table .entry))) (of-substituted r) (now (table .entry)) (now (table .exit)) ⌝ }
 {
     if round.last.0 < round.slot.0 {
         return Substituted::Refused(5);

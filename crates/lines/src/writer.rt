@@ -24,6 +24,7 @@ use crate::digits::put_number;
 // Refusal 1 comes before 12, and a refusal changes no byte.
 pub fn write_line(command: Command, payload: &[u8], buffer: &mut [u8]) -> Written
     ensures { λ r. ⌜ Writes (command-of command) (now (payload .entry)) (now (buffer .entry)) (now (buffer .exit)) r ⌝ }
+    ensures { λ _. ⌜ now (payload .exit) ≡ now (payload .entry) ⌝ }
 {
     if !can_stand(command, payload) {
         return Written::Refused(1);

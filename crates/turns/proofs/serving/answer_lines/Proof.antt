@@ -25,7 +25,7 @@ here : (c : tie.After-known-told Inv-loop μ-loop) →
     (c .before .before .before .before .before .loop .read) (c .before .end .given .0 .0)
 here c =
     let input = c .before .before .before .before .before .before .before .before .before .args .input .now in
-    subst (Ends input (c .before .before .before .before .before .loop .read)) (c .before .end .given .1) (c .before .before .before .line-end .ensures)
+    subst (Ends input (c .before .before .before .before .before .loop .read)) (c .before .end .given .1) (c .before .before .before .line-end .ensures .0)
 
 loop-holds : tie.Need-loop-holds Inv-loop μ-loop
 loop-holds c =
@@ -57,7 +57,7 @@ returns : tie.Need-returns Inv-loop μ-loop
 returns c =
     let loop = c .before .before .before .before .before .loop in
     let none = subst (Ends (c .before .before .before .before .before .before .before .before .before .args .input .now) (loop .read))
-    (c .before .enum-told .given .1) (c .before .before .before .line-end .ensures) in
+    (c .before .enum-told .given .1) (c .before .before .before .line-end .ensures .0) in
     served-so-far (loop .inv .0) (c .so-far .ensures) (λ h. none)
 
 add-next : tie.Need-add-next Inv-loop μ-loop
@@ -110,7 +110,7 @@ returns-2 c =
     let told = ap reading-of (c .before .before .before .before .enum-told2 .given .1) in
     let inv = line .before .before .before .before .before .before .before .loop .inv .0 in
     let wrote = c .before .before .write-refusal in
-    served-broken inv (here (line .before .before)) (cc (told, line .read-command .ensures)) (refl, refl, search needs)
+    served-broken inv (here (line .before .before)) (cc (told, line .read-command .ensures .0)) (refl, refl, search needs)
     (put-line (out-within inv) (said-by (wrote .ensures) refl) (wrote .kept .1 .0))
 
 sub-take-turn : tie.Need-sub-take-turn Inv-loop μ-loop
@@ -143,7 +143,7 @@ loop-again c =
     let told = ap reading-of (command .1) in
     let inv = line .before .before .before .before .before .before .before .loop .inv in
     let taken = c .before .before .before .before .take-turn in (
-      serving-more (inv .0) (here (line .before .before)) (command-of (command .0 .0)) (sym told ∙ line .read-command .ensures) (refl, refl)
+      serving-more (inv .0) (here (line .before .before)) (command-of (command .0 .0)) (sym told ∙ line .read-command .ensures .0) (refl, refl)
           (taken .ensures .moved) (put-line (out-within (inv .0)) (taken .ensures .said) (taken .kept .1 .1 .0)),
       taken .kept .1 .0 ∙ inv .1,
     )

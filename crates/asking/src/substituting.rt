@@ -64,7 +64,7 @@ fn find_row(table: &[u8], round: Round, ticket: Ticket) -> Found
     let used = round.used;
     let mut i: usize = 0;
     while i < used {
-        if ticket_at(table, round, i) == ticket.0 {
+        if ticket_at(table, round, i).0 == ticket.0 {
             return Found::At(i);
         }
         i += 1;
@@ -102,14 +102,14 @@ fn substitute_flagged(
         return Substituted::Refused(11);
     }
     match substitute_at(table, flags, counts, round, reach, row) {
-        Sub::Row(j) => Substituted::Row(Ticket(ticket_at(table, round, j))),
+        Sub::Row(j) => Substituted::Row(ticket_at(table, round, j)),
         Sub::Blank(slot) => Substituted::Blank(Slot(slot)),
     }
 }
 
-fn ticket_at(table: &[u8], round: Round, row: usize) -> u32
+fn ticket_at(table: &[u8], round: Round, row: usize) -> Ticket
     requires { ⌜ Ready (now table) round × (row < round .used) ⌝ }
-    ensures { λ r. ⌜ r ≡ at (round-in (now (table .entry))) row .ticket ⌝ }
+    ensures { λ r. ⌜ r .0 ≡ at (round-in (now (table .entry))) row .ticket ⌝ }
 {
-    read4(table, row_at(row) + Round::TICKET_AT)
+    Ticket(read4(table, row_at(row) + Round::TICKET_AT))
 }

@@ -20,6 +20,7 @@ use crate::Written;
 use crate::digits::digits_only;
 use crate::digits::put_bytes;
 use crate::digits::put_number;
+use round::Slot;
 
 // Refusal 1 comes before 12, and a refusal changes no byte.
 pub fn write_line(command: Command, payload: &[u8], buffer: &mut [u8]) -> Written
@@ -42,20 +43,20 @@ pub fn write_line(command: Command, payload: &[u8], buffer: &mut [u8]) -> Writte
 }
 
 // The most that four digits hold.
-const SLOT_MOST: u32 = 65535;
+const SLOT_MOST: Slot = Slot(65535);
 
 fn can_stand(command: Command, payload: &[u8]) -> bool
     ensures { λ r. ⌜ r ≡ stands (command-of command) (now (payload .entry)) ⌝ }
 {
     match command {
         Command::Open(last) => {
-            if SLOT_MOST < last.0 {
+            if SLOT_MOST.0 < last.0 {
                 return false;
             }
             payload.len() == 0
         }
         Command::Take(due, _) => {
-            if SLOT_MOST < due.0 {
+            if SLOT_MOST.0 < due.0 {
                 return false;
             }
             payload_can_stand(payload)

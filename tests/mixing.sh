@@ -1,13 +1,52 @@
 #!/usr/bin/env bash
-# Shows that a slot, a weight and a ticket cannot stand in one another's place. For each ordered pair of the three it writes a crate
-# that passes the one where the other is wanted, and expects the compiler's error 'mismatched-types'; a crate that mixes nothing
-# must be proved. The crates stand outside the tree, over the libraries of the last `rt ci`. Last line: 'N passed, M failed'.
+# Shows that a slot, a weight and a ticket cannot stand in one another's place. The table below has each public function and constructor
+# of the library that takes one. For each place of each, and each of the two wrong sorts, a number of that sort and the limit of that
+# sort are passed there, and the compiler has to say 'mismatched-types' with the sort expected and the sort found; the same calls with
+# nothing mixed must compile. What the sources have and the table has not fails too. The crates stand outside the tree, over the
+# libraries of the last `rt ci`. Last line: 'N passed, M failed'.
 set -u
 cd "$(dirname "$0")/.." || exit 2
 top=$PWD
 room=$(mktemp -d) || exit 2
 trap 'rm -rf "$room"' EXIT
 passed=0 failed=0
+
+# One line each, with its whole path; <Sort> is a place where that sort is wanted, in the order of the parameters or fields.
+# table, bytes and round are there to be passed on.
+signatures() {
+    cat <<'EOF'
+round::Round { slot: <Slot>, last: <Slot>, next: <Ticket>, used: 0, room: 1 }
+round::Round::new(<Slot>, 1)
+round::rows::row_is_sound(bytes, round, <Ticket>)
+round::rows::write_row(table, 16, <Ticket>, <Slot>, <Weight>, 0)
+closing::close::close_up(table, round, <Ticket>)
+closing::write::write_shift(table, 0, <Slot>, <Weight>)
+closing::write::write_weight(table, 0, <Weight>)
+closing::write::write_kept(table, 0, <Slot>, <Weight>)
+leap::send::Went { leap: false, ticket: <Ticket>, kind: 0 }
+calls::opening::open_round(<Slot>, table)
+calls::taking::take_frame(<Slot>, <Weight>, table)
+calls::taking::Taken::As(<Ticket>)
+calls::sending::Out::Frame(<Ticket>)
+calls::sending::Out::KeptBlank(<Ticket>)
+asking::marking::mark_of(<Slot>, bytes)
+asking::marking::Marked::At(<Weight>)
+asking::substituting::substitute_of(<Ticket>, bytes)
+asking::substituting::Substituted::Row(<Ticket>)
+asking::substituting::Substituted::Blank(<Slot>)
+listing::Entry { ticket: <Ticket>, due: <Slot>, weight: <Weight> }
+lines::Command::Open(<Slot>)
+lines::Command::Take(<Slot>, <Weight>)
+lines::write_ticket_in_room(<Ticket>, table)
+lines::write_step_in_room(0, 0, <Ticket>, table)
+EOF
+}
+
+# Inner crates, whose signatures are not tried.
+inner='tally marks pick shifting'
+
+ok() { passed=$((passed + 1)); echo "mixing: $1: ok"; }
+no() { failed=$((failed + 1)); echo "mixing: $1: FAILED"; }
 
 # A repository beside this one: its crates, and what was proved of them.
 borrow_crates() {
@@ -17,61 +56,126 @@ borrow_crates() {
         cp "$top/crates.txt" "$room/crates.txt"
 }
 
-begin_crate() { # NAME
-    mkdir -p "$room/crates/$1/src"
-    printf '%s: round\n' "$1" >>"$room/crates.txt"
-    echo 'use round::{Slot, Ticket, Weight};' >"$room/crates/$1/src/lib.rt"
+# The crates, a call to a line: mixing_nothing with all calls right, and for line K of the table mixing_K with its wrong ones, few enough
+# for the compiler to report each. Of each wrong one a case: crate, line, the call's name, the place, the sort wanted there, the one given.
+write_crates() {
+    signatures | awk -v crates="$room/crates" -v listed="$room/crates.txt" -v all="$(signatures | sed 's/::.*//' | sort -u | tr '\n' ' ')" '
+        function begin(crate, uses) {
+            system("mkdir -p " crates "/" crate "/src")
+            print crate ": " uses >>listed
+            write_in(crate, "use round::{Round, Slot, Ticket, Weight};")
+        }
+        function write_in(crate, text) {
+            lines[crate]++
+            print text >(crates "/" crate "/src/lib.rt")
+        }
+        function function_of(crate, call) {
+            write_in(crate, "pub fn call" lines[crate] "(table: &mut [u8], bytes: &[u8], round: Round) { " call "; }")
+        }
+        function value(sort, as_limit) { return as_limit ? limit[sort] : sort "(1)" }
+        function filled(place, given, as_limit,    i, text) {
+            for (i = 1; i <= n; i++) text = text (i % 2 ? part[i] : value(i == place ? given : part[i], as_limit))
+            return text
+        }
+        BEGIN {
+            split("Slot Weight Ticket", sorts, " ")
+            limit["Slot"] = "Round::LAST"; limit["Weight"] = "Round::WEIGHT"; limit["Ticket"] = "Round::TICKETS"
+            begin("mixing_nothing", all)
+        }
+        {
+            crate = "mixing_" NR
+            over = $0
+            sub(/::.*/, "", over)
+            begin(crate, over == "round" ? over : "round " over)
+            n = split($0, part, /[<>]/)
+            name = part[1]
+            sub(/[ (].*/, "", name)
+            for (as_limit = 0; as_limit <= 1; as_limit++) {
+                function_of("mixing_nothing", filled(0, "", as_limit))
+                for (place = 2; place < n; place += 2)
+                    for (s = 1; s <= 3; s++)
+                        if (sorts[s] != part[place]) {
+                            function_of(crate, filled(place, sorts[s], as_limit))
+                            print crate, lines[crate], name, place / 2, part[place], sorts[s], value(sorts[s], as_limit)
+                        }
+            }
+        }' >"$room/cases"
 }
 
-pass_to() { # NAME WANTED GIVEN: a function that wants the one and is given the other
-    cat >>"$room/crates/$1/src/lib.rt" <<EOF
-
-fn want_${2,,}(x: $2) -> u32 {
-    x.0
-}
-
-pub fn given_${3,,}() -> u32 {
-    want_${2,,}($3(1))
-}
-EOF
-}
-
-ok() { passed=$((passed + 1)); echo "mixing: $1: ok"; }
-no() { failed=$((failed + 1)); echo "mixing: $1: FAILED"; cat "$room/target/log/$2.say" 2>/dev/null; }
-
-sorts='Slot Weight Ticket'
-names=mixing_nothing
-borrow_crates || { echo 'mixing: no libraries under target/: run rt check first'; echo '0 passed, 1 failed'; exit 1; }
-begin_crate mixing_nothing
-for wanted in $sorts; do
-    pass_to mixing_nothing "$wanted" "$wanted"
-    for given in $sorts; do
-        [ "$wanted" != "$given" ] || continue
-        name=mixing_${wanted,,}_${given,,}
-        begin_crate "$name"
-        pass_to "$name" "$wanted" "$given"
-        names="$names $name"
+# 'CRATE NAME' and the sorts taken, in order, of each public function, struct and variant in the sources that takes one.
+takers() {
+    local crate file
+    for crate in $(cd crates && echo *); do
+        [ -f "crates/$crate/src/lib.rt" ] || continue
+        case " $inner " in *" $crate "*) continue ;; esac
+        for file in "crates/$crate"/src/*.rt; do
+            awk -v crate="$crate" '
+                function tell(name, text,    found) {
+                    while (match(text, /[^A-Za-z0-9_](Slot|Weight|Ticket)[^A-Za-z0-9_]/)) {
+                        found = found " " substr(text, RSTART + 1, RLENGTH - 2)
+                        text = substr(text, RSTART + RLENGTH - 1)
+                    }
+                    if (found) print crate, name found
+                }
+                function named(text) { sub(/^ *pub [a-z]+ /, "", text); sub(/[^A-Za-z0-9_].*/, "", text); return text }
+                /^ *pub (fn|struct) / { name = named($0); whole = ""; inside = 1; struct = /pub struct/ }
+                /^pub enum / { in_enum = 1; next }
+                in_enum && /^}/ { in_enum = 0 }
+                in_enum && /\(/ { variant = $1; sub(/[^A-Za-z0-9_].*/, "", variant); tell(variant, $0 " ") }
+                inside {
+                    text = $0
+                    sub(/\/\/.*/, "", text)
+                    if (!whole) sub(/^ *pub [a-z]+ [A-Za-z0-9_]+/, "", text)
+                    whole = whole text " "
+                    if (struct ? /^}|;$/ : /->|\)$|[{]$/) {
+                        sub(/->.*/, "", whole)
+                        tell(name, whole)
+                        inside = 0
+                    }
+                }' "$file"
+        done
     done
-done
+}
 
-# shellcheck disable=SC2086
-(cd "$room" && rt check $names) >"$room/said" 2>&1
-if [ "$(cat "$room/target/log/mixing_nothing.res" 2>/dev/null)" = proved ]; then
+# The same of the table.
+listed() {
+    signatures | awk '{
+        crate = $0; sub(/::.*/, "", crate)
+        name = $0; sub(/[ (].*/, "", name); sub(/.*::/, "", name)
+        n = split($0, part, /[<>]/)
+        text = crate " " name
+        for (i = 2; i < n; i += 2) text = text " " part[i]
+        print text
+    }'
+}
+
+takers | sort >"$room/takers"
+listed | sort >"$room/listed"
+if diff "$room/takers" "$room/listed" >"$room/missed"; then
+    ok 'the table has each public signature of the sources'
+else
+    no 'the table has each public signature of the sources (<), and no other (>)'
+    cat "$room/missed"
+fi
+
+borrow_crates || { echo 'mixing: no libraries under target/: run rt check first'; echo "$passed passed, $((failed + 1)) failed"; exit 1; }
+write_crates
+if (cd "$room" && rt mir mixing_nothing) >"$room/mir" 2>"$room/said" && [ -s "$room/mir" ]; then
     ok 'each of the three in its own place is taken'
 else
-    no 'each of the three in its own place is taken' mixing_nothing
+    no 'each of the three in its own place is taken'
+    tail -n 20 "$room/said"
 fi
-for wanted in $sorts; do
-    for given in $sorts; do
-        [ "$wanted" != "$given" ] || continue
-        name=mixing_${wanted,,}_${given,,}
-        if grep -qF "error[mismatched-types]: expected \`$wanted\`, found \`$given\`" "$room/target/log/$name.say" 2>/dev/null; then
-            ok "a $given where a $wanted is wanted does not compile"
-        else
-            no "a $given where a $wanted is wanted does not compile" "$name"
-        fi
-    done
-done
-[ "$failed" -eq 0 ] || tail -n 20 "$room/said"
+# shellcheck disable=SC2046
+(cd "$room" && rt check $(cut -d ' ' -f 1 cases | uniq)) >"$room/said" 2>&1
+while read -r crate line name place wanted given value; do
+    what="$name, place $place: $value where a $wanted is wanted does not compile"
+    if grep -q "/src/lib.rt:$line:[0-9]*: error\[mismatched-types\]: expected \`$wanted\`, found \`$given\`" "$room/target/log/$crate.say"; then
+        ok "$what"
+    else
+        no "$what"
+        grep "/src/lib.rt:$line:" "$room/target/log/$crate.say"
+    fi
+done <"$room/cases"
 echo "$passed passed, $failed failed"
 [ "$failed" -eq 0 ]

@@ -45,21 +45,21 @@ fn mark_in(table: &[u8], round: Round, slot: Slot) -> Marked
     if round.last.0 < slot.0 {
         return Marked::Refused(7);
     }
-    Marked::At(Weight(mark_ahead(table, round, slot)))
+    Marked::At(mark_ahead(table, round, slot))
 }
 
 // A slot still ahead; a far one needs no plan.
-fn mark_ahead(table: &[u8], round: Round, slot: Slot) -> u32
+fn mark_ahead(table: &[u8], round: Round, slot: Slot) -> Weight
     requires { ⌜ Ready (now table) round × (round .slot .0 ≤ slot .0) × (slot .0 ≤ round .last .0) ⌝ }
-    ensures { λ r. ⌜ r ≡ mark (round-in (now (table .entry))) (slot .0) ⌝ }
+    ensures { λ r. ⌜ r .0 ≡ mark (round-in (now (table .entry))) (slot .0) ⌝ }
 {
     let used = round.used;
     let mut counts = [0u16; 1025];
     let reach = reach_of(table, &mut counts, round);
     if is_far(round, reach, slot.0) {
-        return 0;
+        return Weight(0);
     }
     let mut flags = [1u8; 1024];
     choose_rows(table, &mut flags[..used], &counts, round, reach);
-    mark_at(table, &flags[..used], &mut counts, round, reach, slot.0)
+    Weight(mark_at(table, &flags[..used], &mut counts, round, reach, slot.0))
 }

@@ -2,7 +2,7 @@
 ghost use mathlib.Core.Path.{_≡_};
 ghost use Prim.Native.Nat.{_<_};
 ghost use Rattle.rules.specs.Table.{round-in, table-refusal};
-ghost use Rattle.rules.specs.Calls.{substitute-answer};
+ghost use Rattle.rules.specs.Calls.{substitute-answer, Looks};
 ghost use Rattle.theory.specs.Flags.{Chosen};
 ghost use Rattle.round.specs.Head.{Head-of};
 ghost use Rattle.tally.specs.Rows.{Ready, at};
@@ -29,7 +29,7 @@ pub enum Substituted {
 }
 
 pub fn substitute_of(ticket: Ticket, table: &[u8]) -> Substituted
-    ensures { λ r. ⌜ of-substituted r ≡ substitute-answer (ticket .0) (now (table .entry)) ⌝ }
+    ensures { λ r. ⌜ Looks (substitute-answer (ticket .0) (now (table .entry))) (of-substituted r) (now (table .entry)) (now (table .exit)) ⌝ }
 {
     match judge(table) {
         Judged::Refused(n) => Substituted::Refused(n),
@@ -40,7 +40,7 @@ pub fn substitute_of(ticket: Ticket, table: &[u8]) -> Substituted
 // The same on a sound table.
 fn substitute_in(table: &[u8], round: Round, ticket: Ticket) -> Substituted
     requires { ⌜ (table-refusal (now table) ≡ 0) × Head-of (now table) round ⌝ }
-    ensures { λ r. ⌜ of-substituted r ≡ substitute-answer (ticket .0) (now (table .entry)) ⌝ }
+    ensures { λ r. ⌜ Looks (substitute-answer (ticket .0) (now (table .entry))) (of-substituted r) (now (table .entry)) (now (table .exit)) ⌝ }
 {
     if round.last.0 < round.slot.0 {
         return Substituted::Refused(5);
@@ -64,7 +64,7 @@ fn find_row(table: &[u8], round: Round, ticket: Ticket) -> Found
     let used = round.used;
     let mut i: usize = 0;
     while i < used {
-        if ticket_at(table, round, i) == ticket.0 {
+        if ticket_at(table, round, i).0 == ticket.0 {
             return Found::At(i);
         }
         i += 1;
@@ -102,14 +102,14 @@ fn substitute_flagged(
         return Substituted::Refused(11);
     }
     match substitute_at(table, flags, counts, round, reach, row) {
-        Sub::Row(j) => Substituted::Row(Ticket(ticket_at(table, round, j))),
+        Sub::Row(j) => Substituted::Row(ticket_at(table, round, j)),
         Sub::Blank(slot) => Substituted::Blank(Slot(slot)),
     }
 }
 
-fn ticket_at(table: &[u8], round: Round, row: usize) -> u32
+fn ticket_at(table: &[u8], round: Round, row: usize) -> Ticket
     requires { ⌜ Ready (now table) round × (row < round .used) ⌝ }
-    ensures { λ r. ⌜ r ≡ at (round-in (now (table .entry))) row .ticket ⌝ }
+    ensures { λ r. ⌜ r .0 ≡ at (round-in (now (table .entry))) row .ticket ⌝ }
 {
-    read4(table, row_at(row) + Round::TICKET_AT)
+    Ticket(read4(table, row_at(row) + Round::TICKET_AT))
 }

@@ -20,7 +20,7 @@ pub fn open_round(last: Slot, table: &mut [u8]) -> Opened
     if !length_is_good(table.len()) {
         return Opened::Refused(2);
     }
-    if Round::LAST < last.0 {
+    if Round::LAST.0 < last.0 {
         return Opened::Refused(4);
     }
     let round = Round::new(last, rows_of(table));

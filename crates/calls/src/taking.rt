@@ -67,7 +67,7 @@ fn taking_refusal(round: Round, due: Slot, weight: Weight) -> u32
     if weight.0 == 0 {
         return 6;
     }
-    if Round::WEIGHT < weight.0 {
+    if Round::WEIGHT.0 < weight.0 {
         return 6;
     }
     if due.0 < round.slot.0 {
@@ -76,7 +76,7 @@ fn taking_refusal(round: Round, due: Slot, weight: Weight) -> u32
     if round.last.0 < due.0 {
         return 7;
     }
-    if round.next.0 == Round::TICKETS {
+    if round.next.0 == Round::TICKETS.0 {
         return 8;
     }
     if round.room <= round.used {

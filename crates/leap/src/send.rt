@@ -91,11 +91,11 @@ fn send_kept(
 }
 
 // How many slots ahead a key's row is due.
-fn ahead_of(key: u64, slot: u32) -> usize
-    requires { ⌜ slot ≤ due-named key ⌝ }
-    ensures { λ r. ⌜ r ≡ due-named key - slot ⌝ }
+fn ahead_of(key: u64, slot: Slot) -> usize
+    requires { ⌜ slot .0 ≤ due-named key ⌝ }
+    ensures { λ r. ⌜ r ≡ due-named key - slot .0 ⌝ }
 {
-    (4095 - (key / 1024 % 4096) as u32 - slot) as usize
+    (4095 - (key / 1024 % 4096) as u32 - slot.0) as usize
 }
 
 // A leap onto a row left out: the links between the two segments' ends move, and that row gets its segment's mark.
@@ -116,7 +116,7 @@ fn send_swapped(
 {
     let went = went_of(table, round, row_of(key), true);
     let sent = went.ticket;
-    let bucket = ahead_of(other, round.slot.0);
+    let bucket = ahead_of(other, round.slot);
     let to = stretch_of(counts, reach.free, bucket).last;
     let mut marks = [0u32; 1025];
     marks_by(table, flags, round, &mut marks, to);

@@ -13,10 +13,10 @@ pub use ends::line_end;
 pub use part::payload;
 pub use part::payload_place;
 pub use reader::read_command;
-pub use replies::write_done;
-pub use replies::write_refusal;
-pub use replies::write_step;
-pub use replies::write_ticket;
+pub use replies::write_done_in_room;
+pub use replies::write_refusal_in_room;
+pub use replies::write_step_in_room;
+pub use replies::write_ticket_in_room;
 pub use writer::write_line;
 
 // How many digits a line's number, a slot, and a weight or a ticket have.

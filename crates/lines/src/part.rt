@@ -1,4 +1,5 @@
 // A line's payload: its place, and that part of the caller's line.
+ghost use mathlib.Core.Path.{_≡_};
 ghost use Rattle.lines.specs.Part.{Part, Placed};
 use crate::Command;
 use crate::PAYLOAD_AT;
@@ -9,6 +10,7 @@ use crate::read_command;
 // From start up to end; 0 and 0 with no payload digits, and of a line that is refused.
 pub fn payload_place(line: &[u8]) -> Place
     ensures { λ r. ⌜ Placed (now (line .entry)) (r .start) (r .end) ⌝ }
+    ensures { λ _. ⌜ now (line .exit) ≡ now (line .entry) ⌝ }
 {
     let none = Place { start: 0, end: 0 };
     let Reading::Is(command) = read_command(line) else {
@@ -35,6 +37,7 @@ pub fn payload_place(line: &[u8]) -> Place
 // The payload digits, where they stand in the line.
 pub fn payload(line: &[u8]) -> &[u8]
     ensures { λ r. ⌜ Part (line .entry) r ⌝ }
+    ensures { λ _. ⌜ now (line .exit) ≡ now (line .entry) ⌝ }
 {
     let place = payload_place(line);
     let start = place.start;

@@ -19,6 +19,7 @@ use round::Weight;
 // A command, or refusal 1.
 pub fn read_command(line: &[u8]) -> Reading
     ensures { λ r. ⌜ reading-of r ≡ read (now (line .entry)) ⌝ }
+    ensures { λ _. ⌜ now (line .exit) ≡ now (line .entry) ⌝ }
 {
     let n = line.len();
     if n <= SLOT_AT {

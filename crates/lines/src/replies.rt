@@ -10,8 +10,8 @@ use crate::WIDE_DIGITS;
 use crate::digits::put_number;
 use round::Ticket;
 
-// An opening's.
-pub fn write_done(buffer: &mut [u8]) -> usize
+// An opening's, into REPLY_ROOM or more.
+pub fn write_done_in_room(buffer: &mut [u8]) -> usize
     requires { ⌜ 15 ≤ length (now buffer) ⌝ }
     ensures { λ r. ⌜ Replies (reply-text done) (now (buffer .entry)) (now (buffer .exit)) r ⌝ }
 {
@@ -20,8 +20,8 @@ pub fn write_done(buffer: &mut [u8]) -> usize
     3
 }
 
-// A taking's.
-pub fn write_ticket(given: Ticket, buffer: &mut [u8]) -> usize
+// A taking's, into REPLY_ROOM or more.
+pub fn write_ticket_in_room(given: Ticket, buffer: &mut [u8]) -> usize
     requires { ⌜ 15 ≤ length (now buffer) ⌝ }
     ensures { λ r. ⌜ Replies (reply-text (ticket (given .0))) (now (buffer .entry)) (now (buffer .exit)) r ⌝ }
 {
@@ -31,8 +31,9 @@ pub fn write_ticket(given: Ticket, buffer: &mut [u8]) -> usize
     11
 }
 
-// A sending's: what went out (0 silence, 1 a frame, 2 a kept blank), 1 in a leap and 0 in an ordinary step, and the ticket (0 for silence).
-pub fn write_step(out: u32, leap: u32, gone: Ticket, buffer: &mut [u8]) -> usize
+// A sending's, into REPLY_ROOM or more: what went out (0 silence, 1 a frame, 2 a kept blank), 1 in a leap and 0 in an ordinary step,
+// and the ticket (0 for silence).
+pub fn write_step_in_room(out: u32, leap: u32, gone: Ticket, buffer: &mut [u8]) -> usize
     requires { ⌜ 15 ≤ length (now buffer) ⌝ }
     ensures { λ r. ⌜ Replies (step-text out leap (gone .0)) (now (buffer .entry)) (now (buffer .exit)) r ⌝ }
 {
@@ -44,8 +45,8 @@ pub fn write_step(out: u32, leap: u32, gone: Ticket, buffer: &mut [u8]) -> usize
     15
 }
 
-// A refusal's.
-pub fn write_refusal(number: u32, buffer: &mut [u8]) -> usize
+// A refusal's, into REPLY_ROOM or more.
+pub fn write_refusal_in_room(number: u32, buffer: &mut [u8]) -> usize
     requires { ⌜ 15 ≤ length (now buffer) ⌝ }
     ensures { λ r. ⌜ Replies (reply-text (refused number)) (now (buffer .entry)) (now (buffer .exit)) r ⌝ }
 {

@@ -20,10 +20,12 @@ use crate::Written;
 use crate::digits::digits_only;
 use crate::digits::put_bytes;
 use crate::digits::put_number;
+use round::Slot;
 
 // Refusal 1 comes before 12, and a refusal changes no byte.
 pub fn write_line(command: Command, payload: &[u8], buffer: &mut [u8]) -> Written
     ensures { λ r. ⌜ Writes (command-of command) (now (payload .entry)) (now (buffer .entry)) (now (buffer .exit)) r ⌝ }
+    ensures { λ _. ⌜ now (payload .exit) ≡ now (payload .entry) ⌝ }
 {
     if !can_stand(command, payload) {
         return Written::Refused(1);
@@ -41,20 +43,20 @@ pub fn write_line(command: Command, payload: &[u8], buffer: &mut [u8]) -> Writte
 }
 
 // The most that four digits hold.
-const SLOT_MOST: u32 = 65535;
+const SLOT_MOST: Slot = Slot(65535);
 
 fn can_stand(command: Command, payload: &[u8]) -> bool
     ensures { λ r. ⌜ r ≡ stands (command-of command) (now (payload .entry)) ⌝ }
 {
     match command {
         Command::Open(last) => {
-            if SLOT_MOST < last.0 {
+            if SLOT_MOST.0 < last.0 {
                 return false;
             }
             payload.len() == 0
         }
         Command::Take(due, _) => {
-            if SLOT_MOST < due.0 {
+            if SLOT_MOST.0 < due.0 {
                 return false;
             }
             payload_can_stand(payload)

@@ -41,7 +41,7 @@ table-accepted t room e = elim (eqb? (table-refusal t) 0) [
 
 pub listed-entries-fit : Listed-entries-fit
 unfolding Listed-entries-fit Listed-fits Tables-back list-left
-listed-entries-fit a t es zs says n e i h z =
+listed-entries-fit a t u es zs says n e i h z =
     let k = accepted t (length es) n (sym e ∙ says .0) in
     let good = tables-back .1 t (table-accepted t (length es) (k .0)) .1 .0 in
     let left = entries-due (round-in t .slot) (listed (round-in t)) (listed-fits (round-in t) good) (drop (length (listed (round-in t))) es) z i

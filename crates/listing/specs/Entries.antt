@@ -18,12 +18,12 @@ abbrev pub of-listed : Listed → Reply
 of-listed (listed.Count n) = amount n
 of-listed (listed.Refused n) = refused n
 
--- the reply, and every entry of the lent list, are the rules'
-abbrev pub Lists : Reply → (table : List ℕ) → (before after : List Entry) → Type 0
-Lists a t es zs = (a ≡ list-answer t (length es)) × (zs ≡ list-left entry t es)
+-- the reply, and every entry of the lent list, are the rules', and every byte of the table is as it was
+abbrev pub Lists : Reply → (table-before table-after : List ℕ) → (before after : List Entry) → Type 0
+Lists a t z es zs = (a ≡ list-answer t (length es)) × (zs ≡ list-left entry t es) × (z ≡ t)
 
 -- OWED: entry i of those listed is due in slot current + i or later, so every frame listed still fits
 unfoldable pub Listed-entries-fit : Type 0
 Listed-entries-fit =
-    (a : Reply) (t : List ℕ) (es zs : List Entry) → Lists a t es zs → (n : ℕ) → a ≡ amount n →
+    (a : Reply) (t u : List ℕ) (es zs : List Entry) → Lists a t u es zs → (n : ℕ) → a ≡ amount n →
     (i : ℕ) → i < n → (z : Entry) → round-in t .slot + i ≤ getD zs i z .due .0

@@ -41,7 +41,7 @@ struct Listing {
 
 // Entries past the count do not change.
 pub fn list_plan(table: &[u8], list: &mut [Entry]) -> Listed
-    ensures { λ r. ⌜ Lists (of-listed r) (now (table .entry)) (now (list .entry)) (now (list .exit)) ⌝ }
+    ensures { λ r. ⌜ Lists (of-listed r) (now (table .entry)) (now (table .exit)) (now (list .entry)) (now (list .exit)) ⌝ }
 {
     let plan = listing_of(table, list.len());
     let at = plan.at;

@@ -73,7 +73,7 @@ pub fn least_by(table: &[u8], flags: &[u8], round: Round, by: u32) -> u32
     ensures { λ r. ⌜ Least-by (round-in (now (table .entry))) (now (flags .entry)) by r ⌝ }
 {
     let used = round.used;
-    let mut least: u32 = Round::WEIGHT;
+    let mut least: u32 = Round::WEIGHT.0;
     let mut i: usize = 0;
     while i < used {
         let row = i;

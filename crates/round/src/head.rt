@@ -54,9 +54,9 @@ pub fn head_is_sound(table: &[u8], round: Round) -> bool
     requires { ⌜ (head-size ≤ length (now table)) × Head-of (now table) round ⌝ }
     ensures { λ r. ⌜ r ≡ head-judged (now (table .entry)) ⌝ }
 {
-    let fits = (round.used <= round.room) & (round.last.0 <= Round::LAST);
+    let fits = (round.used <= round.room) & (round.last.0 <= Round::LAST.0);
     let in_time = round.slot.0 as u64 <= round.last.0 as u64 + 1;
-    let next = (1 <= round.next.0) & (round.next.0 <= Round::TICKETS);
+    let next = (1 <= round.next.0) & (round.next.0 <= Round::TICKETS.0);
     let zeros = (read2(table, Round::HEAD_ZEROS_AT) == 0)
         & (read4(table, Round::HEAD_ZEROS_AT + 2) == 0);
     fits & ((in_time & next) & zeros)

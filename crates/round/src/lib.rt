@@ -26,11 +26,11 @@ impl Round {
     // The limits; every ticket is below TICKETS.
     pub const ROWS: usize = 1024;
 
-    pub const LAST: u32 = 4095;
+    pub const LAST: Slot = Slot(4095);
 
-    pub const WEIGHT: u32 = 16777216;
+    pub const WEIGHT: Weight = Weight(16777216);
 
-    pub const TICKETS: u32 = 16777216;
+    pub const TICKETS: Ticket = Ticket(16777216);
 
     // The sizes of head and row.
     pub const HEAD_SIZE: usize = 16;

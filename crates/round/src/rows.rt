@@ -35,7 +35,7 @@ pub fn row_is_sound(row: &[u8], round: Round, previous: Ticket) -> bool
     let weight = read4(row, Round::WEIGHT_AT);
     let in_turn = (previous.0 < ticket) & (ticket < round.next.0);
     let in_time = (round.slot.0 <= due) & (due <= round.last.0);
-    let weighed = (1 <= weight) & (weight <= Round::WEIGHT);
+    let weighed = (1 <= weight) & (weight <= Round::WEIGHT.0);
     // A word is at most 1 when its first byte is and the others are zero; two that overlap hold kind and zeros.
     let plain = (read8(row, Round::KIND_AT) <= 1) & (read8(row, Round::ROW_SIZE - 8) <= 1);
     (in_turn & in_time) & (weighed & plain)

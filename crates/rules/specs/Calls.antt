@@ -114,6 +114,10 @@ left c t = cond (eqb (refusal c t) 0) (table (leaves c (round-in t))) t
 abbrev pub Says : Call → Reply → (entry exit : List ℕ) → Type 0
 Says c a t z = (a ≡ answer c t) × (z ≡ left c t)
 
+-- WHAT A CALL THAT ONLY LOOKS PROMISES: its reply is the one named, and every byte of the table is as it was
+abbrev pub Looks : (named reply : Reply) → (entry exit : List ℕ) → Type 0
+Looks b a t z = (a ≡ b) × (z ≡ t)
+
 -- LISTS OF CALLS on one table: the bytes after them, and their replies
 unfoldable pub run : List Call → List ℕ → List ℕ
 run [] t = t

@@ -18,7 +18,7 @@ fn start_marks(marks: &mut [u32; 1025], last: usize)
 {
     let mut s: usize = 0;
     while s <= last {
-        marks[s] = Round::WEIGHT;
+        marks[s] = Round::WEIGHT.0;
         s += 1;
     }
 }

@@ -3,8 +3,8 @@ use mathlib.Core.Path.{_≡_, ap, _∙_}
 use mathlib.Core.List.{List}
 use Prim.Native.Nat.{ℕ, _+_, _*_}
 use native.Mathlib.Omega.{arith}
-use Rattle.rules.specs.Calls.{Call, Reply, opening, taking, marking, frame, kept-blank, substitute-answer, Says}
-use Rattle.station.specs.Packing.{pack-out, pack, Exports}
+use Rattle.rules.specs.Calls.{Call, Reply, opening, taking, marking, frame, kept-blank, substitute-answer, Says, Looks}
+use Rattle.station.specs.Packing.{pack-out, pack, Exports, Exports-look}
 
 pub opening-exported : (l m n : ℕ) (a : Reply) (t z : List ℕ) → m ≡ l → n ≡ pack a → Says (opening m) a t z → Exports (opening l) n t z
 opening-exported l m n a t z e f s = let x : Exports (opening m) n t z = (f ∙ ap pack (s .0), s .1) in rw e at x
@@ -20,8 +20,9 @@ exported c n a t z f s = (f ∙ ap pack (s .0), s .1)
 pub marking-exported : (s u n : ℕ) (a : Reply) (t z : List ℕ) → u ≡ s → n ≡ pack a → Says (marking u) a t z → Exports (marking s) n t z
 marking-exported s u n a t z e f g = let x : Exports (marking u) n t z = (f ∙ ap pack (g .0), g .1) in rw e at x
 
-pub substitute-exported : (k u n : ℕ) (a : Reply) (t : List ℕ) → u ≡ k → n ≡ pack a → a ≡ substitute-answer u t → n ≡ pack (substitute-answer k t)
-substitute-exported k u n a t e f g = f ∙ ap pack (g ∙ ap (λ (v : ℕ). substitute-answer v t) e)
+pub substitute-exported : (k u n : ℕ) (a : Reply) (t z : List ℕ) → u ≡ k → n ≡ pack a → Looks (substitute-answer u t) a t z →
+    Exports-look (substitute-answer k t) n t z
+substitute-exported k u n a t z e f g = (f ∙ ap pack (g .0 ∙ ap (λ (v : ℕ). substitute-answer v t) e), g .1)
 
 -- a ticket with what went out
 pub frame-packed : (k n : ℕ) → n ≡ 256 * k + 1 * 4294967296 → n ≡ pack-out (frame k)

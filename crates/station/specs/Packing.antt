@@ -43,6 +43,10 @@ Small (blank-due s) = Unit {0}
 abbrev pub Exports : Call → (packed : ℕ) → (entry exit : List ℕ) → Type 0
 Exports c n t z = (n ≡ pack (answer c t)) × (z ≡ left c t)
 
+-- the same of an exported call that only looks: the reply named, packed, and every byte of the table as it was
+abbrev pub Exports-look : (named : Reply) → (packed : ℕ) → (entry exit : List ℕ) → Type 0
+Exports-look a n t z = (n ≡ pack a) × (z ≡ t)
+
 -- READ BACK, by call
 unfoldable pub out-in : (what ticket : ℕ) → Out
 out-in zero k = silence

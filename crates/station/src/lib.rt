@@ -1,7 +1,6 @@
 // The C boundary: each call over numbers and the lent table, its reply packed into one number by docs/REPLIES.md.
-ghost use mathlib.Core.Path.{_≡_};
 ghost use Rattle.rules.specs.Calls.{opening, taking, sending, marking, totalling, substitute-answer};
-ghost use Rattle.station.specs.Packing.{pack, Exports};
+ghost use Rattle.station.specs.Packing.{Exports, Exports-look};
 use crate::packing::pack_marked;
 use crate::packing::pack_opened;
 use crate::packing::pack_sent;
@@ -58,7 +57,7 @@ pub extern "C" fn lirvedd_total(table: &[u8]) -> u64
 
 #[no_mangle]
 pub extern "C" fn lirvedd_substitute(ticket: u32, table: &[u8]) -> u64
-    ensures { λ r. ⌜ r ≡ pack (substitute-answer ticket (now (table .entry))) ⌝ }
+    ensures { λ r. ⌜ Exports-look (substitute-answer ticket (now (table .entry))) r (now (table .entry)) (now (table .exit)) ⌝ }
 {
     pack_substituted(substitute_of(Ticket(ticket), table))
 }

@@ -14,6 +14,7 @@ use calls::sending::Out;
 use calls::sending::Sent;
 use calls::sending::Step;
 use calls::taking::Taken;
+use round::Ticket;
 
 // A ticket or an amount stands above the refusal's eight bits.
 const VALUE_PLACE: u64 = 256;
@@ -41,11 +42,11 @@ pub fn pack_taken(reply: Taken) -> u64
     }
 }
 
-fn pack_ticket(ticket: u32, what: u64) -> u64
+fn pack_ticket(ticket: Ticket, what: u64) -> u64
     requires { ⌜ what ≤ 2 ⌝ }
-    ensures { λ r. ⌜ (r ≡ 256 * ticket + what * 4294967296) × (r ≤ 1108101562368) ⌝ }
+    ensures { λ r. ⌜ (r ≡ 256 * ticket .0 + what * 4294967296) × (r ≤ 1108101562368) ⌝ }
 {
-    VALUE_PLACE * (ticket as u64) + what * OUT_PLACE
+    VALUE_PLACE * (ticket.0 as u64) + what * OUT_PLACE
 }
 
 fn pack_what(out: Out) -> u64
@@ -53,8 +54,8 @@ fn pack_what(out: Out) -> u64
 {
     match out {
         Out::Silence => 0,
-        Out::Frame(ticket) => pack_ticket(ticket.0, 1),
-        Out::KeptBlank(ticket) => pack_ticket(ticket.0, 2),
+        Out::Frame(ticket) => pack_ticket(ticket, 1),
+        Out::KeptBlank(ticket) => pack_ticket(ticket, 2),
     }
 }
 

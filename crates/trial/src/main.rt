@@ -8,6 +8,8 @@ use crate::writing::try_write;
 use libc::STDIN_FILENO;
 use libc::STDOUT_FILENO;
 use numbers::read4;
+use round::Slot;
+use round::Weight;
 
 mod entries; // entries.rt: the listing
 mod writing; // writing.rt: the line writer
@@ -19,8 +21,8 @@ pub struct Request {
     pub size: usize,
     pub room: usize,
     pub command: u32,
-    pub slot: u32,
-    pub weight: u32,
+    pub slot: Slot,
+    pub weight: Weight,
 }
 
 const LIST: u32 = 0;
@@ -83,8 +85,8 @@ fn request_of(head: &[u8]) -> Request
         size: read4(head, 4) as usize,
         room: read4(head, 8) as usize,
         command: read4(head, 12),
-        slot: read4(head, 16),
-        weight: read4(head, 20),
+        slot: Slot(read4(head, 16)),
+        weight: Weight(read4(head, 20)),
     }
 }
 

@@ -9,6 +9,8 @@ use lines::payload;
 use lines::payload_place;
 use lines::read_command;
 use numbers::write4;
+use round::Slot;
+use round::Weight;
 
 // Refusal, command, slot and weight, the payload's place, and the payload with its length.
 const PAYLOAD_AT: usize = 28;
@@ -31,7 +33,7 @@ fn put_reading(reading: Reading, out: &mut [u8])
 {
     match reading {
         Reading::Is(command) => put_command(command, out),
-        Reading::Broken => put_numbers(1, 0, 0, 0, out),
+        Reading::Broken => put_numbers(1, 0, Slot(0), Weight(0), out),
     }
 }
 
@@ -39,19 +41,19 @@ fn put_command(command: Command, out: &mut [u8])
     requires { ⌜ length (now out) ≡ 65536 ⌝ }
 {
     match command {
-        Command::Open(last) => put_numbers(0, 0, last.0, 0, out),
-        Command::Take(due, weight) => put_numbers(0, 1, due.0, weight.0, out),
-        Command::Send => put_numbers(0, 2, 0, 0, out),
+        Command::Open(last) => put_numbers(0, 0, last, Weight(0), out),
+        Command::Take(due, weight) => put_numbers(0, 1, due, weight, out),
+        Command::Send => put_numbers(0, 2, Slot(0), Weight(0), out),
     }
 }
 
-fn put_numbers(refusal: u32, command: u32, slot: u32, weight: u32, out: &mut [u8])
+fn put_numbers(refusal: u32, command: u32, slot: Slot, weight: Weight, out: &mut [u8])
     requires { ⌜ length (now out) ≡ 65536 ⌝ }
 {
     write4(out, 0, refusal);
     write4(out, 4, command);
-    write4(out, 8, slot);
-    write4(out, 12, weight);
+    write4(out, 8, slot.0);
+    write4(out, 12, weight.0);
 }
 
 // No payload has more digits.

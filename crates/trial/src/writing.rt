@@ -8,8 +8,6 @@ use lines::Command;
 use lines::Written;
 use lines::write_line;
 use numbers::write4;
-use round::Slot;
-use round::Weight;
 
 // What each byte of the buffer is before the call.
 const BEFORE: u8 = 42;
@@ -18,17 +16,13 @@ pub fn try_write(request: Request, payload: &[u8], out: &mut [u8]) -> usize
     requires { ⌜ (request .room ≤ 1024) × (length (now out) ≡ 65536) ⌝ }
     ensures { λ r. ⌜ r ≤ 65536 ⌝ }
 {
-    let slot = Slot(request.slot);
+    let slot = request.slot;
+    let weight = request.weight;
     let room = request.room;
     let command = request.command;
     match command {
         0 => put_line(Command::Open(slot), payload, room, out),
-        1 => put_line(
-            Command::Take(slot, Weight(request.weight)),
-            payload,
-            room,
-            out,
-        ),
+        1 => put_line(Command::Take(slot, weight), payload, room, out),
         2 => put_line(Command::Send, payload, room, out),
         _ => 0,
     }

@@ -12,10 +12,10 @@ use calls::sending::Out;
 use calls::sending::Sent;
 use calls::sending::Step;
 use calls::taking::Taken;
-use lines::write_done;
-use lines::write_refusal;
-use lines::write_step;
-use lines::write_ticket;
+use lines::write_done_in_room;
+use lines::write_refusal_in_room;
+use lines::write_step_in_room;
+use lines::write_ticket_in_room;
 use round::Ticket;
 
 pub fn say_opened(opened: Opened, reply: &mut [u8]) -> usize
@@ -23,8 +23,8 @@ pub fn say_opened(opened: Opened, reply: &mut [u8]) -> usize
     ensures { λ r. ⌜ Replies (reply-text (of-opened opened)) (now (reply .entry)) (now (reply .exit)) r ⌝ }
 {
     match opened {
-        Opened::Done => write_done(reply),
-        Opened::Refused(n) => write_refusal(n, reply),
+        Opened::Done => write_done_in_room(reply),
+        Opened::Refused(n) => write_refusal_in_room(n, reply),
     }
 }
 
@@ -33,8 +33,8 @@ pub fn say_taken(taken: Taken, reply: &mut [u8]) -> usize
     ensures { λ r. ⌜ Replies (reply-text (of-taken taken)) (now (reply .entry)) (now (reply .exit)) r ⌝ }
 {
     match taken {
-        Taken::As(ticket) => write_ticket(ticket, reply),
-        Taken::Refused(n) => write_refusal(n, reply),
+        Taken::As(ticket) => write_ticket_in_room(ticket, reply),
+        Taken::Refused(n) => write_refusal_in_room(n, reply),
     }
 }
 
@@ -44,7 +44,7 @@ pub fn say_sent(sent: Sent, reply: &mut [u8]) -> usize
 {
     match sent {
         Sent::Went(step) => say_step(step, reply),
-        Sent::Refused(n) => write_refusal(n, reply),
+        Sent::Refused(n) => write_refusal_in_room(n, reply),
     }
 }
 
@@ -69,8 +69,8 @@ fn say_out(out: Out, leap: u32, reply: &mut [u8]) -> usize
     ensures { λ r. ⌜ Replies (step-text (out-number (of-out out)) leap (out-ticket (of-out out))) (now (reply .entry)) (now (reply .exit)) r ⌝ }
 {
     match out {
-        Out::Silence => write_step(0, leap, Ticket(0), reply),
-        Out::Frame(ticket) => write_step(1, leap, ticket, reply),
-        Out::KeptBlank(ticket) => write_step(2, leap, ticket, reply),
+        Out::Silence => write_step_in_room(0, leap, Ticket(0), reply),
+        Out::Frame(ticket) => write_step_in_room(1, leap, ticket, reply),
+        Out::KeptBlank(ticket) => write_step_in_room(2, leap, ticket, reply),
     }
 }

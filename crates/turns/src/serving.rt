@@ -11,7 +11,7 @@ use lines::REPLY_ROOM;
 use lines::Reading;
 use lines::line_end;
 use lines::read_command;
-use lines::write_refusal;
+use lines::write_refusal_in_room;
 
 // As long as a complete line is there and the output has room for a reply; nothing follows refusal 1.
 pub fn answer_lines(input: &[u8], table: &mut [u8], out: &mut [u8]) -> Progress
@@ -25,7 +25,7 @@ pub fn answer_lines(input: &[u8], table: &mut [u8], out: &mut [u8]) -> Progress
         };
         let next = end + 1;
         let Reading::Is(command) = read_command(&input[read..next]) else {
-            wrote += write_refusal(1, &mut out[wrote..]);
+            wrote += write_refusal_in_room(1, &mut out[wrote..]);
             return Progress {
                 read: next,
                 wrote,

@@ -12,7 +12,7 @@ pack-substituted-requires : tie.Need-pack-substituted-requires
 pack-substituted-requires c κs = search needs
 
 returns : tie.Need-returns
-returns c = substitute-exported _ _ _ _ _ (omega arith) (c .pack-substituted .ensures) (c .before .substitute-of .ensures)
+returns c = substitute-exported _ _ _ _ _ _ (omega arith) (c .pack-substituted .ensures) (c .before .substitute-of .ensures)
 
 pub lirvedd-substitute-spec : {M : Type 1} → statement M
 lirvedd-substitute-spec =

@@ -31,7 +31,7 @@ mark-ahead-requires c κs = search needs
 returns-4 : tie.Need-returns-4
 returns-4 c =
     let s = c .before .before .before .before .before .before .before .before .before .before in
-    mark-said (s .args .slot .0) (s .args .table .now) (c .mark-ahead .result) (s .pre .0)
+    mark-said (s .args .slot .0) (s .args .table .now) (c .mark-ahead .result .0) (s .pre .0)
     (mark-asked (s .args .table .now) (s .args .round) (s .pre .0) (s .pre .1) (s .args .slot .0) (omega arith) (omega arith) (omega arith))
     (cc (c .mark-ahead .ensures))
 

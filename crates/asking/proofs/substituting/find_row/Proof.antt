@@ -25,8 +25,8 @@ ticket-at-requires c κs = (c .before .before .before .pre, omega arith)
 
 returns : tie.Need-returns Inv-loop μ-loop
 returns c =
-    let s = c .before .before .before .before .before .before in
-    (omega (arith, known (s .args .table .now) (s .args .round) (s .pre) .used), sym (c .before .before .ticket-at .ensures) ∙ c .if1 .taken)
+    let s = c .before .before .before .before .before .before .before in
+    (omega (arith, known (s .args .table .now) (s .args .round) (s .pre) .used), sym (c .before .before .before .ticket-at .ensures) ∙ c .if1 .taken)
 
 add-i : tie.Need-add-i Inv-loop μ-loop
 add-i c = search needs
@@ -38,8 +38,8 @@ loop-again : tie.Need-loop-again Inv-loop μ-loop
 loop-again c = (
   search needs,
   search needs,
-  below-more _ _ (c .before .before .before .before .loop .inv .2)
-      (λ e. c .if1 .left (c .before .before .ticket-at .ensures ∙ e)),
+  below-more _ _ (c .before .before .before .before .before .loop .inv .2)
+      (λ e. c .if1 .left (c .before .before .before .ticket-at .ensures ∙ e)),
 )
 
 returns-2 : tie.Need-returns-2 Inv-loop μ-loop

@@ -5,7 +5,7 @@ use Rattle.round.proofs.Asked.{over, ahead}
 use Rattle.asking.specs.Finding.{Finds}
 use Rattle.tally.proofs.RowLaws.{known}
 use Rattle.rules.specs.Table.{round-in}
-use mathlib.Core.Path.{subst, _∙_}
+use mathlib.Core.Path.{refl, subst, _∙_}
 use native.Mathlib.Omega.{arith}
 use borrow.Author.Needs.{needs}
 use Rattle.asking.proofs.substituting.substitute_in.Statement.{statement}
@@ -13,9 +13,11 @@ use Rattle.asking.proofs.substituting.substitute_in.Tie as tie
 
 returns : tie.Need-returns
 returns c =
-    let s = c .before .before .before in
-    substitute-over (s .args .ticket .0) (s .args .table .now) (s .pre .0) (over (s .args .table .now) (s .args .round) (s .pre .0) (s .pre .1)
-    (omega arith) .2)
+    let s = c .before .before .before in (
+      substitute-over (s .args .ticket .0) (s .args .table .now) (s .pre .0) (over (s .args .table .now) (s .args .round) (s .pre .0) (s .pre .1)
+          (omega arith) .2),
+      refl,
+    )
 
 find-row-requires : tie.Need-find-row-requires
 find-row-requires c κs = search needs
@@ -36,20 +38,24 @@ substitute-row-requires c κs =
 returns-2 : tie.Need-returns-2
 returns-2 c =
     let s = c .before .before .before .before .before .before in
-    let h = subst (Finds (round-in (s .args .table .now)) (s .args .ticket .0)) (c .enum-told .given .1) (c .before .before .find-row .ensures) in
-    substitute-nowhere (s .args .ticket .0) (s .args .table .now) (s .pre .0) (ahead (s .args .table .now) (s .args .round) (s .pre .0) (s .pre .1)
-    (omega arith) .2) h
+    let h = subst (Finds (round-in (s .args .table .now)) (s .args .ticket .0)) (c .enum-told .given .1) (c .before .before .find-row .ensures) in (
+      substitute-nowhere (s .args .ticket .0) (s .args .table .now) (s .pre .0) (ahead (s .args .table .now) (s .args .round) (s .pre .0) (s .pre .1)
+          (omega arith) .2) h,
+      refl,
+    )
 
 returns-3 : tie.Need-returns-3
 returns-3 c =
     let s = c .before .before .before .before .before .before .before .before in
     let h = subst (Finds (round-in (s .args .table .now)) (s .args .ticket .0)) (c .before .before .row .given .1)
     (c .before .before .before .before .find-row .ensures) in
-    let r = ready (s .args .table .now) (s .args .round) (s .pre .0) (s .pre .1) (omega arith) in
-    c .substitute-row .ensures
-    ∙ substitute-found (s .args .ticket .0) (s .args .table .now) (s .pre .0) (ahead (s .args .table .now) (s .args .round) (s .pre .0) (s .pre .1)
-    (omega arith) .2)
-    (known (s .args .table .now) (s .args .round) r .fine) _ h
+    let r = ready (s .args .table .now) (s .args .round) (s .pre .0) (s .pre .1) (omega arith) in (
+      c .substitute-row .ensures
+          ∙ substitute-found (s .args .ticket .0) (s .args .table .now) (s .pre .0) (ahead (s .args .table .now) (s .args .round) (s .pre .0) (s .pre .1)
+          (omega arith) .2)
+          (known (s .args .table .now) (s .args .round) r .fine) _ h,
+      refl,
+    )
 
 pub substitute-in-spec : {M : Type 1} → statement M
 substitute-in-spec =

@@ -1,7 +1,7 @@
 -- `asking::substituting::substitute_of` meets its contract. Assumes nothing.
 use Rattle.asking.proofs.Standing.{substitute-table}
 use Rattle.round.specs.Judge.{Judge-says}
-use mathlib.Core.Path.{subst}
+use mathlib.Core.Path.{refl, subst}
 use borrow.Author.Needs.{needs}
 use Rattle.asking.proofs.substituting.substitute_of.Statement.{statement}
 use Rattle.asking.proofs.substituting.substitute_of.Tie as tie
@@ -23,7 +23,7 @@ returns : tie.Need-returns
 returns c =
     let s = c .before .before .before .before .before in
     let h = subst (Judge-says (s .args .table .now)) (c .before .n .given .1) (c .before .before .before .judge .ensures) in
-    substitute-table (s .args .ticket .0) (s .args .table .now) _ (h .0) (h .1)
+    (substitute-table (s .args .ticket .0) (s .args .table .now) _ (h .0) (h .1), refl)
 
 returns-2 : tie.Need-returns-2
 returns-2 c = search needs

@@ -26,27 +26,27 @@ returns c =
 
 returns-2 : tie.Need-returns-2
 returns-2 c =
-    let s = c .before .before .before .before .before in
+    let s = c .before .before .before .before .before .before in
     says-refused (opening (s .args .last .0)) (s .args .table .now) 4
-    (last-refused (s .args .last .0) (s .args .table .now) (good (c .before .before)) (omega arith)) (λ z. omega (arith, z))
+    (last-refused (s .args .last .0) (s .args .table .now) (good (c .before .before .before)) (omega arith)) (λ z. omega (arith, z))
 
 rows-of-requires : tie.Need-rows-of-requires
 rows-of-requires c κs =
-    let s = c .before .before .before .before .before .before in
-    head-fits (s .args .last .0) (s .args .table .now) (good (c .before .before .before))
+    let s = c .before .before .before .before .before .before .before in
+    head-fits (s .args .last .0) (s .args .table .now) (good (c .before .before .before .before))
 
 new-requires : tie.Need-new-requires
 new-requires c κs = search needs
 
 clear-requires : tie.Need-clear-requires
 clear-requires c κs =
-    let s = c .before .before .before .before .before .before .before .before .before in
-    omega (arith, head-fits (s .args .last .0) (s .args .table .now) (good (c .before .before .before .before .before .before)))
+    let s = c .before .before .before .before .before .before .before .before .before .before in
+    omega (arith, head-fits (s .args .last .0) (s .args .table .now) (good (c .before .before .before .before .before .before .before)))
 
 write-head-requires : tie.Need-write-head-requires
 write-head-requires c κs =
-    let s = c .before .before .before .before .before .before .before .before .before .before .before .before .before in (
-      cleared-fits (s .args .last .0) (s .args .table .now) (good (c .before .before .before .before .before .before .before .before .before .before))
+    let s = c .before .before .before .before .before .before .before .before .before .before .before .before .before .before in (
+      cleared-fits (s .args .last .0) (s .args .table .now) (good (c .before .before .before .before .before .before .before .before .before .before .before))
           (c .before .before .before .clear .last .0) (c .before .before .before .clear .ensures),
       omega (arith, c .before .before .before .before .before .new .ensures .3),
     )
@@ -56,10 +56,10 @@ same-length c = search needs
 
 returns-3 : tie.Need-returns-3
 returns-3 c =
-    let s = c .before .before .before .before .before .before .before .before .before .before .before .before .before .before .before .before in
+    let s = c .before .before .before .before .before .before .before .before .before .before .before .before .before .before .before .before .before in
     let n = c .before .before .before .before .before .before .before .before .new .ensures in
     opened-says (s .args .last .0) (s .args .table .now)
-    (good (c .before .before .before .before .before .before .before .before .before .before .before .before .before)) (omega arith) _ _ _ _
+    (good (c .before .before .before .before .before .before .before .before .before .before .before .before .before .before)) (omega arith) _ _ _ _
     (c .before .before .before .before .before .before .clear .last .0) (c .before .before .write-head .last .0)
     (omega (arith, n .0), omega (arith, n .1), omega (arith, n .2), omega (arith, n .3))
     (cc (c .before .before .before .before .before .before .clear .ensures)) (c .before .before .write-head .ensures)

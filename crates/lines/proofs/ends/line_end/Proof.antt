@@ -1,4 +1,5 @@
 -- `lines::line_end` meets its contract: no 0A from the start up to i; what is left of the length falls. Assumes nothing.
+use mathlib.Core.Path.{refl}
 use Prim.Native.Nat.{_≤_, _-_}
 use native.Mathlib.Omega.{arith}
 use lib.ListN.{length}
@@ -21,7 +22,7 @@ shared-slice-read-if1 : tie.Need-shared-slice-read-if1 Inv-loop μ-loop
 shared-slice-read-if1 c = search needs
 
 returns : tie.Need-returns Inv-loop μ-loop
-returns c = record { after = search needs; within = search needs; ends = search needs; first = c .before .before .before .loop .inv .1 }
+returns c = (record { after = search needs; within = search needs; ends = search needs; first = c .before .before .before .loop .inv .1 }, refl)
 
 add-i : tie.Need-add-i Inv-loop μ-loop
 add-i c = search needs
@@ -36,7 +37,7 @@ loop-again c =
     (search needs, none-more (s .input .now) (s .from) (l .i) (l .inv .1) (λ e. omega (arith, c .if1 .left)))
 
 returns-2 : tie.Need-returns-2 Inv-loop μ-loop
-returns-2 c = λ k h g e. c .before .loop .inv .1 k h (omega arith) e
+returns-2 c = (λ k h g e. c .before .loop .inv .1 k h (omega arith) e, refl)
 
 pub line-end-spec : {M : Type 1} → statement M
 line-end-spec =

@@ -12,7 +12,7 @@ within : (c : tie.After-payload-place) →
     (c .payload-place .result .start ≤ c .payload-place .result .end) × (c .payload-place .result .end ≤ length (c .before .before .args .line .now))
 within c =
     let h = place-within (c .before .before .args .line .now) in
-    let p = c .payload-place .ensures in
+    let p = c .payload-place .ensures .0 in
     (omega (arith, h .0, p .starts, p .ends), omega (arith, h .1, p .ends))
 
 payload-place-requires : tie.Need-payload-place-requires
@@ -29,8 +29,8 @@ part-result-end c = omega (arith, within c .1)
 
 returns : tie.Need-returns
 returns c =
-    let place = c .before .payload-place .ensures in
-    placed-part refl (search needs) (rw (place .starts, place .ends))
+    let place = c .before .payload-place .ensures .0 in
+    (placed-part refl (search needs) (rw (place .starts, place .ends)), refl)
 
 pub payload-spec : {M : Type 1} → statement M
 payload-spec =

@@ -1,4 +1,5 @@
 -- `lines::payload_place` meets its contract: the place, by what the line is read as. Assumes nothing.
+use mathlib.Core.Path.{refl}
 use borrow.Author.Needs.{needs}
 use Rattle.lines.proofs.Places.{placed-broken, placed-open, placed-send, placed-take, placed-bare}
 use Rattle.lines.proofs.part.payload_place.Statement.{statement}
@@ -14,8 +15,11 @@ enum-told : tie.Need-enum-told
 enum-told c = search needs
 
 returns : tie.Need-returns
-returns c = placed-broken (c .before .before .before .before .args .line .now) (c .before .before .read-command .ensures) (c .enum-told .given .1)
-    (search needs) (search needs)
+returns c = (
+  placed-broken (c .before .before .before .before .args .line .now) (c .before .before .read-command .ensures .0) (c .enum-told .given .1)
+      (search needs) (search needs),
+  refl,
+)
 
 enum-told-2 : tie.Need-enum-told-2
 enum-told-2 c = search needs
@@ -36,38 +40,44 @@ returns-2 : tie.Need-returns-2
 returns-2 c =
     let line = c .before .before .before .before .before .before .before .before .args .line .now in
     let told = c .before in
-    let is = told .before .before .before .command .given .1 in
-    placed-take line (c .before .before .before .before .before .before .read-command .ensures) is (told .enum-told2 .given .0 .0)
-    (told .enum-told2 .given .0 .1 .0)
-    (told .enum-told2 .given .1)
-    (search needs)
-    (search needs)
-    (search needs)
+    let is = told .before .before .before .command .given .1 in (
+      placed-take line (c .before .before .before .before .before .before .read-command .ensures .0) is (told .enum-told2 .given .0 .0)
+          (told .enum-told2 .given .0 .1 .0)
+          (told .enum-told2 .given .1)
+          (search needs)
+          (search needs)
+          (search needs),
+      refl,
+    )
 
 returns-3 : tie.Need-returns-3
 returns-3 c =
     let line = c .before .before .before .before .before .before .before .before .args .line .now in
     let told = c .before in
-    let is = told .before .before .before .command .given .1 in
-    placed-bare line (c .before .before .before .before .before .before .read-command .ensures) is (told .enum-told2 .given .0 .0)
-    (told .enum-told2 .given .0 .1 .0)
-    (told .enum-told2 .given .1)
-    (search needs)
-    (search needs)
-    (search needs)
+    let is = told .before .before .before .command .given .1 in (
+      placed-bare line (c .before .before .before .before .before .before .read-command .ensures .0) is (told .enum-told2 .given .0 .0)
+          (told .enum-told2 .given .0 .1 .0)
+          (told .enum-told2 .given .1)
+          (search needs)
+          (search needs)
+          (search needs),
+      refl,
+    )
 
 returns-4 : tie.Need-returns-4
 returns-4 c =
     let line = c .before .before .before .before .before .before .before .args .line .now in
-    let is = c .before .before .before .command .given .1 in
-    placed-open line (c .before .before .before .before .before .read-command .ensures) is (c .enum-told3 .given .0 .0) (c .enum-told3 .given .1)
-    (search needs) (search needs)
+    let is = c .before .before .before .command .given .1 in (
+      placed-open line (c .before .before .before .before .before .read-command .ensures .0) is (c .enum-told3 .given .0 .0) (c .enum-told3 .given .1)
+          (search needs) (search needs),
+      refl,
+    )
 
 returns-5 : tie.Need-returns-5
 returns-5 c =
     let line = c .before .before .before .before .before .before .before .args .line .now in
     let is = c .before .before .before .command .given .1 in
-    placed-send line (c .before .before .before .before .before .read-command .ensures) is (c .enum-told4 .given .1) (search needs) (search needs)
+    (placed-send line (c .before .before .before .before .before .read-command .ensures .0) is (c .enum-told4 .given .1) (search needs) (search needs), refl)
 
 pub payload-place-spec : {M : Type 1} → statement M
 payload-place-spec =

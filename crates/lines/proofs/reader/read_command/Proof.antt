@@ -1,4 +1,5 @@
 -- `lines::read_command` meets its contract: each way out is a way in which a line is broken, or a line begun. Assumes nothing.
+use mathlib.Core.Path.{refl}
 use native.Mathlib.Omega.{arith}
 use lib.ListN.{take}
 use borrow.Author.Needs.{needs}
@@ -8,7 +9,7 @@ use Rattle.lines.proofs.reader.read_command.Statement.{statement}
 use Rattle.lines.proofs.reader.read_command.Tie as tie
 
 returns : tie.Need-returns
-returns c = short (c .before .before .args .line .now) (c .if1 .taken)
+returns c = (short (c .before .before .args .line .now) (c .if1 .taken), refl)
 
 sub-last : tie.Need-sub-last
 sub-last c = search needs
@@ -17,7 +18,7 @@ shared-slice-read-if2 : tie.Need-shared-slice-read-if2
 shared-slice-read-if2 c = search needs
 
 returns-2 : tie.Need-returns-2
-returns-2 c = unended (c .before .before .before .before .args .line .now) (λ e. omega (arith, c .if2 .taken))
+returns-2 c = (unended (c .before .before .before .before .args .line .now) (λ e. omega (arith, c .if2 .taken)), refl)
 
 sub-number : tie.Need-sub-number
 sub-number c = search needs
@@ -40,7 +41,7 @@ enum-told c = search needs
 returns-3 : tie.Need-returns-3
 returns-3 c =
     let line = c .before .before .before .before .before .before .before .before .args .line .now in
-    foul 0 2 line (search needs) (spelt-nothing (take 2 line) (c .enum-told .given .1) (c .before .before .number .ensures))
+    (foul 0 2 line (search needs) (spelt-nothing (take 2 line) (c .enum-told .given .1) (c .before .before .number .ensures)), refl)
 
 begun-here : (c : tie.After-known-told) →
     Begun (c .before .kind .given .0 .0) (c .before .before .before .before .before .before .before .before .before .args .line .now)
@@ -59,20 +60,22 @@ read-send-requires : tie.Need-read-send-requires
 read-send-requires c κs = rw (c .match2 .keys3) at (begun-here (c .before))
 
 returns-4 : tie.Need-returns-4
-returns-4 c = search needs
+returns-4 c = (search needs, refl)
 
 returns-5 : tie.Need-returns-5
-returns-5 c = search needs
+returns-5 c = (search needs, refl)
 
 returns-6 : tie.Need-returns-6
-returns-6 c = search needs
+returns-6 c = (search needs, refl)
 
 returns-7 : tie.Need-returns-7
 returns-7 c =
     let known = c .before in
-    let not = c .match2 .rest in
-    unknown (known .before .kind .given .0 .0) (c .before .before .before .before .before .before .before .before .before .before .args .line .now)
-    (begun-here known) (not .0 .0 .1) (not .0 .1) (not .1)
+    let not = c .match2 .rest in (
+      unknown (known .before .kind .given .0 .0) (c .before .before .before .before .before .before .before .before .before .before .args .line .now)
+          (begun-here known) (not .0 .0 .1) (not .0 .1) (not .1),
+      refl,
+    )
 
 pub read-command-spec : {M : Type 1} → statement M
 read-command-spec =

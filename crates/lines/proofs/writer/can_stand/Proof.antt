@@ -10,8 +10,8 @@ enum-known-command c = search needs
 
 returns : tie.Need-returns
 returns c =
-    let s = c .before .before .before .before .before .before .args in
-    let last = c .before .before .before .command .given in
+    let s = c .before .before .before .before .before .before .before .args in
+    let last = c .before .before .before .before .command .given in
     open-high (s .command) (s .payload .now) (last .0 .0) (last .1) (search needs)
 
 enum-known-command-2 : tie.Need-enum-known-command-2
@@ -19,8 +19,8 @@ enum-known-command-2 c = search needs
 
 returns-2 : tie.Need-returns-2
 returns-2 c =
-    let s = c .before .before .before .before .before .before .args in
-    let both = c .before .before .before .command2 .given in
+    let s = c .before .before .before .before .before .before .before .args in
+    let both = c .before .before .before .before .command2 .given in
     take-high (s .command) (s .payload .now) (both .0 .0) (both .0 .1 .0) (both .1) (search needs)
 
 payload-can-stand-requires : tie.Need-payload-can-stand-requires
@@ -31,14 +31,14 @@ enum-told c = search needs
 
 returns-3 : tie.Need-returns-3
 returns-3 c =
-    let s = c .before .before .before .before .before .before .args in
-    let last = c .before .before .before .command .given in
+    let s = c .before .before .before .before .before .before .before .args in
+    let last = c .before .before .before .before .command .given in
     open-stands (s .command) (s .payload .now) (last .0 .0) (last .1) (search needs)
 
 returns-4 : tie.Need-returns-4
 returns-4 c =
-    let s = c .before .before .before .before .before .before .before .args in
-    let both = c .before .before .before .before .command2 .given in
+    let s = c .before .before .before .before .before .before .before .before .args in
+    let both = c .before .before .before .before .before .command2 .given in
     c .payload-can-stand .ensures
     ∙ take-stands (s .command) (s .payload .now) (both .0 .0) (both .0 .1 .0) (both .1) (search needs) (search needs)
 

@@ -1,6 +1,6 @@
 -- `lines::write_line` meets its contract: the refusals in their order; then front, payload and 0A. Assumes nothing.
 use mathlib.Core.Bool.{true}
-use mathlib.Core.Path.{_≡_, sym, _∙_}
+use mathlib.Core.Path.{_≡_, refl, sym, _∙_}
 use native.Mathlib.Omega.{arith}
 use lib.ListN.{length-set}
 use borrow.Author.Needs.{needs}
@@ -22,7 +22,7 @@ returns : tie.Need-returns
 returns c =
     let s = c .before .before .before .before .args in
     let can = c .before .can-stand in
-    write-unfit (command-of (s .command)) (s .payload .now) (s .buffer .now) (sym (can .ensures) ∙ not-true (can .result) (c .if1 .taken)) (search needs)
+    (write-unfit (command-of (s .command)) (s .payload .now) (s .buffer .now) (sym (can .ensures) ∙ not-true (can .result) (c .if1 .taken)) (search needs), refl)
 
 front-size-requires : tie.Need-front-size-requires
 front-size-requires c κs = search needs
@@ -32,9 +32,11 @@ add-end c = omega (arith, c .front-size .ensures, front-small (command-of (c .be
 
 returns-2 : tie.Need-returns-2
 returns-2 c =
-    let s = c .before .before .before .before .before .before .args in
-    write-full (command-of (s .command)) (s .payload .now) (s .buffer .now) (stands-here (c .before .before)) (omega (arith, c .before .front-size .ensures))
-    (search needs)
+    let s = c .before .before .before .before .before .before .args in (
+      write-full (command-of (s .command)) (s .payload .now) (s .buffer .now) (stands-here (c .before .before)) (omega (arith, c .before .front-size .ensures))
+          (search needs),
+      refl,
+    )
 
 put-front-requires : tie.Need-put-front-requires
 put-front-requires c κs = omega (arith, c .before .before .front-size .ensures)
@@ -55,13 +57,15 @@ returns-3 : tie.Need-returns-3
 returns-3 c =
     let put = c .before .before .before .before .before .before in
     let room = put .before .before in
-    let start = c .before .before .before .before .before .before .before .before .before .before .before .before .before .before .args in
-    write-on (command-of (start .command)) (start .payload .now) (start .buffer .now) (stands-here (room .before .before))
-    (room .before .front-size .ensures)
-    (room .if2 .left)
-    (put .put-front .ensures)
-    (c .before .before .put-bytes .ensures)
-    (search needs)
+    let start = c .before .before .before .before .before .before .before .before .before .before .before .before .before .before .args in (
+      write-on (command-of (start .command)) (start .payload .now) (start .buffer .now) (stands-here (room .before .before))
+          (room .before .front-size .ensures)
+          (room .if2 .left)
+          (put .put-front .ensures)
+          (c .before .before .put-bytes .ensures)
+          (search needs),
+      refl,
+    )
 
 pub write-line-spec : {M : Type 1} → statement M
 write-line-spec =

@@ -85,7 +85,7 @@ module _ {M : Type 1} (𝓤 : URA M) (H : Heap 𝓤) (A : Atoms 𝓤) (W : Given
   exits =
       qed W Left-over ∵
       suffices ! _ (ends-at 𝓤 H A f.ended stayed (f.clauses 𝓤 H A mem run) W (bound 𝓤 H A mem run c) (reply-val r) (r .reply)
-      (tt, (lst c r (r .count), tt)) (tt, (long c r (r .count), tt))) $ says ! (says-r .reply, says-r .left (c .ys) refl) $
+      (tt, (lst c r (r .count), tt)) (tt, (long c r (r .count), tt))) $ says ! (says-r .reply, says-r .left (c .ys) refl, refl) $
       move ! (5 ∷ []) $ split ! $ move ! (5 ∷ 1 ∷ []) $ join ! $ move ! (1 ∷ 0 ∷ []) $ join ! $ frame ! $
       move ! (1 ∷ 2 ∷ []) $ fjoin ! $
       pureI ! (at-slice E.the-row (list-at c (lst c r (r .count))) (vals c .1 .0)) (tt, (tt, tt))

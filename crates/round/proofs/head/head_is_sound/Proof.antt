@@ -24,7 +24,7 @@ read4-requires c κs = search needs
 
 returns : tie.Need-returns
 returns c = rw (c .before .read2 .ensures, c .read4 .ensures)
-    (search (head-is, c .before .before .before .before .before .before .before .before .before .pre .1))
+    (search (head-is, c .before .before .before .before .before .before .before .before .before .before .before .pre .1))
 
 pub head-is-sound-spec : {M : Type 1} → statement M
 head-is-sound-spec =

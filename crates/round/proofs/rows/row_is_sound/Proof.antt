@@ -25,13 +25,13 @@ read8-requires-2 c κs = search needs
 returns : tie.Need-returns
 returns c =
     rw (
-      c .before .before .before .before .before .before .before .before .read4 .ensures,
-      c .before .before .before .before .before .before .before .read2 .ensures,
-      c .before .before .before .before .before .before .read42 .ensures,
+      c .before .before .before .before .before .before .before .before .before .read4 .ensures,
+      c .before .before .before .before .before .before .before .before .read2 .ensures,
+      c .before .before .before .before .before .before .before .read42 .ensures,
       c .before .read8 .ensures,
       c .read82 .ensures,
     )
-    (search (row-is, c .before .before .before .before .before .before .before .before .before .before .pre))
+    (search (row-is, c .before .before .before .before .before .before .before .before .before .before .before .pre))
 
 pub row-is-sound-spec : {M : Type 1} → statement M
 row-is-sound-spec =

@@ -236,7 +236,7 @@ module _ {M : Type 1} (𝓤 : URA M) (H : Heap 𝓤) (A : Atoms 𝓤) (W : Given
         pick ! (λ r.
         split ! $ move ! (1 ∷ []) $
         use1 W (some (λ (zs : Unit {0} × (List Entry × Unit {0})). ‵ (lasts listf.ended (κ, (ν ∷ [], tt)) (args l₄ ν δ) zs)
-        ⊛ raw (fact 𝓤 ((of-listed r ≡ list-answer (t .now) (length (take n ys))) × (zs .1 .0 ≡ list-left entry (t .now) (take n ys)))))) (id⊢ 𝓤 _) $
+        ⊛ raw (fact 𝓤 ((of-listed r ≡ list-answer (t .now) (length (take n ys))) × (zs .1 .0 ≡ list-left entry (t .now) (take n ys)) × (t .now ≡ t .now))))) (id⊢ 𝓤 _) $
         pick ! (λ zs.
         split ! $ move ! (1 ∷ []) $ drop ! $
         fsplit ! $ drop ! $ fsplit ! $ fsplit ! $ move ! (1 ∷ []) $ feqL ! (λ l. move ! (2 ∷ []) $ split ! $ move ! (1 ∷ []) $

@@ -7,35 +7,35 @@ use Rattle.turns.proofs.saying.say_opened.Tie as tie
 enum-told : tie.Need-enum-told
 enum-told c = search needs
 
-write-done-requires : tie.Need-write-done-requires
-write-done-requires c κs = search needs
+write-done-in-room-requires : tie.Need-write-done-in-room-requires
+write-done-in-room-requires c κs = search needs
 
 enum-known-opened : tie.Need-enum-known-opened
 enum-known-opened c = search needs
 
-write-refusal-requires : tie.Need-write-refusal-requires
-write-refusal-requires c κs = search needs
+write-refusal-in-room-requires : tie.Need-write-refusal-in-room-requires
+write-refusal-in-room-requires c κs = search needs
 
 same-length : tie.Need-same-length
 same-length c = search needs
 
 returns : tie.Need-returns
-returns c = said-by (c .before .before .write-done .ensures) (rw (c .before .before .before .before .enum-told .given .1))
+returns c = said-by (c .before .before .write-done-in-room .ensures) (rw (c .before .before .before .before .enum-told .given .1))
 
 same-length-2 : tie.Need-same-length-2
 same-length-2 c = search needs
 
 returns-2 : tie.Need-returns-2
-returns-2 c = said-by (c .before .before .write-refusal .ensures) (rw (c .before .before .before .before .before .opened .given .1))
+returns-2 c = said-by (c .before .before .write-refusal-in-room .ensures) (rw (c .before .before .before .before .before .opened .given .1))
 
 pub say-opened-spec : {M : Type 1} → statement M
 say-opened-spec =
     tie.close
     (tie.spec
     enum-told
-    write-done-requires
+    write-done-in-room-requires
     enum-known-opened
-    write-refusal-requires
+    write-refusal-in-room-requires
     same-length
     returns
     same-length-2

@@ -13,8 +13,8 @@ say-step-requires c κs = search needs
 enum-known-sent-2 : tie.Need-enum-known-sent-2
 enum-known-sent-2 c = search needs
 
-write-refusal-requires : tie.Need-write-refusal-requires
-write-refusal-requires c κs = search needs
+write-refusal-in-room-requires : tie.Need-write-refusal-in-room-requires
+write-refusal-in-room-requires c κs = search needs
 
 same-length : tie.Need-same-length
 same-length c = search needs
@@ -26,7 +26,7 @@ same-length-2 : tie.Need-same-length-2
 same-length-2 c = search needs
 
 returns-2 : tie.Need-returns-2
-returns-2 c = said-by (c .before .before .write-refusal .ensures) (rw (c .before .before .before .before .before .sent2 .given .1))
+returns-2 c = said-by (c .before .before .write-refusal-in-room .ensures) (rw (c .before .before .before .before .before .sent2 .given .1))
 
 pub say-sent-spec : {M : Type 1} → statement M
 say-sent-spec =
@@ -35,7 +35,7 @@ say-sent-spec =
     enum-known-sent
     say-step-requires
     enum-known-sent-2
-    write-refusal-requires
+    write-refusal-in-room-requires
     same-length
     returns
     same-length-2

@@ -25,7 +25,7 @@ here : (c : tie.After-known-told Inv-loop μ-loop) →
     (c .before .before .before .before .before .loop .read) (c .before .end .given .0 .0)
 here c =
     let input = c .before .before .before .before .before .before .before .before .before .args .input .now in
-    subst (Ends input (c .before .before .before .before .before .loop .read)) (c .before .end .given .1) (c .before .before .before .line-end .ensures)
+    subst (Ends input (c .before .before .before .before .before .loop .read)) (c .before .end .given .1) (c .before .before .before .line-end .ensures .0)
 
 loop-holds : tie.Need-loop-holds Inv-loop μ-loop
 loop-holds c =
@@ -57,7 +57,7 @@ returns : tie.Need-returns Inv-loop μ-loop
 returns c =
     let loop = c .before .before .before .before .before .loop in
     let none = subst (Ends (c .before .before .before .before .before .before .before .before .before .args .input .now) (loop .read))
-    (c .before .enum-told .given .1) (c .before .before .before .line-end .ensures) in
+    (c .before .enum-told .given .1) (c .before .before .before .line-end .ensures .0) in
     served-so-far (loop .inv .0) (c .so-far .ensures) (λ h. none)
 
 add-next : tie.Need-add-next Inv-loop μ-loop
@@ -81,22 +81,22 @@ enum-known-command c = c .match2 .keys1
 enum-told-2 : tie.Need-enum-told-2 Inv-loop μ-loop
 enum-told-2 c = c .match2 .keys2
 
-sub-write-refusal : tie.Need-sub-write-refusal Inv-loop μ-loop
-sub-write-refusal c = out-within (c .before .before .before .before .before .before .before .before .before .loop .inv .0)
+sub-write-refusal-in-room : tie.Need-sub-write-refusal-in-room Inv-loop μ-loop
+sub-write-refusal-in-room c = out-within (c .before .before .before .before .before .before .before .before .before .loop .inv .0)
 
-part-write-refusal-start : tie.Need-part-write-refusal-start Inv-loop μ-loop
-part-write-refusal-start c = out-within (c .before .before .before .before .before .before .before .before .before .loop .inv .0)
+part-write-refusal-in-room-start : tie.Need-part-write-refusal-in-room-start Inv-loop μ-loop
+part-write-refusal-in-room-start c = out-within (c .before .before .before .before .before .before .before .before .before .loop .inv .0)
 
-part-write-refusal-end : tie.Need-part-write-refusal-end Inv-loop μ-loop
-part-write-refusal-end c = le-refl _
+part-write-refusal-in-room-end : tie.Need-part-write-refusal-in-room-end Inv-loop μ-loop
+part-write-refusal-in-room-end c = le-refl _
 
-write-refusal-requires : tie.Need-write-refusal-requires Inv-loop μ-loop
-write-refusal-requires c κs =
+write-refusal-in-room-requires : tie.Need-write-refusal-in-room-requires Inv-loop μ-loop
+write-refusal-in-room-requires c κs =
     let loop = c .before .before .before .before .before .before .before .before .before .before .loop in
     room-left (loop .out) (loop .wrote) (c .before .before .before .before .before .before .before .before .before .loop-test .taken)
 
 add-wrote : tie.Need-add-wrote Inv-loop μ-loop
-add-wrote c = let wrote = c .before .before .write-refusal in omega (arith, reply-within (wrote .ensures) (wrote .kept .1 .0))
+add-wrote c = let wrote = c .before .before .write-refusal-in-room in omega (arith, reply-within (wrote .ensures) (wrote .kept .1 .0))
 
 same-length-3 : tie.Need-same-length-3 Inv-loop μ-loop
 same-length-3 c = c .before .before .before .before .before .before .before .before .before .before .before .before .before .loop .inv .1
@@ -109,8 +109,8 @@ returns-2 c =
     let line = c .before .before .before .before .before .before in
     let told = ap reading-of (c .before .before .before .before .enum-told2 .given .1) in
     let inv = line .before .before .before .before .before .before .before .loop .inv .0 in
-    let wrote = c .before .before .write-refusal in
-    served-broken inv (here (line .before .before)) (cc (told, line .read-command .ensures)) (refl, refl, search needs)
+    let wrote = c .before .before .write-refusal-in-room in
+    served-broken inv (here (line .before .before)) (cc (told, line .read-command .ensures .0)) (refl, refl, search needs)
     (put-line (out-within inv) (said-by (wrote .ensures) refl) (wrote .kept .1 .0))
 
 sub-take-turn : tie.Need-sub-take-turn Inv-loop μ-loop
@@ -143,7 +143,7 @@ loop-again c =
     let told = ap reading-of (command .1) in
     let inv = line .before .before .before .before .before .before .before .loop .inv in
     let taken = c .before .before .before .before .take-turn in (
-      serving-more (inv .0) (here (line .before .before)) (command-of (command .0 .0)) (sym told ∙ line .read-command .ensures) (refl, refl)
+      serving-more (inv .0) (here (line .before .before)) (command-of (command .0 .0)) (sym told ∙ line .read-command .ensures .0) (refl, refl)
           (taken .ensures .moved) (put-line (out-within (inv .0)) (taken .ensures .said) (taken .kept .1 .1 .0)),
       taken .kept .1 .0 ∙ inv .1,
     )
@@ -184,10 +184,10 @@ answer-lines-spec =
     read-command-requires
     enum-known-command
     enum-told-2
-    sub-write-refusal
-    part-write-refusal-start
-    part-write-refusal-end
-    write-refusal-requires
+    sub-write-refusal-in-room
+    part-write-refusal-in-room-start
+    part-write-refusal-in-room-end
+    write-refusal-in-room-requires
     add-wrote
     same-length-3
     same-length-4

@@ -1,4 +1,4 @@
--- `lines::write_step` meets its contract: the buffer is filled part by part. Assumes nothing.
+-- `lines::write_step_in_room` meets its contract: the buffer is filled part by part. Assumes nothing.
 use mathlib.Core.Path.{refl}
 use lib.ListN.{length-set}
 use borrow.Author.Needs.{needs}
@@ -6,8 +6,8 @@ use Rattle.rules.specs.Lines.{digits}
 use Rattle.lines.specs.Writing.{step-text}
 use Rattle.lines.proofs.Filling.{filled-none, filled-number, filled-byte}
 use Rattle.lines.proofs.Writing.{replied}
-use Rattle.lines.proofs.replies.write_step.Statement.{statement}
-use Rattle.lines.proofs.replies.write_step.Tie as tie
+use Rattle.lines.proofs.replies.write_step_in_room.Statement.{statement}
+use Rattle.lines.proofs.replies.write_step_in_room.Tie as tie
 
 put-number-requires : tie.Need-put-number-requires
 put-number-requires c κs = search needs
@@ -38,8 +38,8 @@ returns c =
     let four = filled-number 8 (s .gone .0) three (c .before .before .put-number4 .ensures) (search needs) in
     replied (filled-byte 14 10 four refl (search needs)) (search needs)
 
-pub write-step-spec : {M : Type 1} → statement M
-write-step-spec =
+pub write-step-in-room-spec : {M : Type 1} → statement M
+write-step-in-room-spec =
     tie.close
     (tie.spec
     put-number-requires

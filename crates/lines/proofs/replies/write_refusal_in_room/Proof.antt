@@ -1,12 +1,12 @@
--- `lines::write_refusal` meets its contract: the buffer is filled part by part. Assumes nothing.
+-- `lines::write_refusal_in_room` meets its contract: the buffer is filled part by part. Assumes nothing.
 use mathlib.Core.Path.{refl}
 use lib.ListN.{length-set}
 use borrow.Author.Needs.{needs}
 use Rattle.rules.specs.Lines.{digits, reply-digits, reply-text}
 use Rattle.lines.proofs.Filling.{filled-none, filled-number, filled-byte}
 use Rattle.lines.proofs.Writing.{replied}
-use Rattle.lines.proofs.replies.write_refusal.Statement.{statement}
-use Rattle.lines.proofs.replies.write_refusal.Tie as tie
+use Rattle.lines.proofs.replies.write_refusal_in_room.Statement.{statement}
+use Rattle.lines.proofs.replies.write_refusal_in_room.Tie as tie
 
 put-number-requires : tie.Need-put-number-requires
 put-number-requires c κs = search needs
@@ -28,7 +28,7 @@ returns c =
     let two = filled-number 2 (s .number) one (c .before .before .put-number2 .ensures) (search needs) in
     replied (filled-byte 4 10 two refl (search needs)) (search needs)
 
-pub write-refusal-spec : {M : Type 1} → statement M
-write-refusal-spec =
+pub write-refusal-in-room-spec : {M : Type 1} → statement M
+write-refusal-in-room-spec =
     tie.close
     (tie.spec put-number-requires put-number-requires-2 slice-write-buffer same-length returns)

@@ -1,12 +1,12 @@
--- `lines::write_ticket` meets its contract: the buffer is filled part by part. Assumes nothing.
+-- `lines::write_ticket_in_room` meets its contract: the buffer is filled part by part. Assumes nothing.
 use mathlib.Core.Path.{refl}
 use lib.ListN.{length-set}
 use borrow.Author.Needs.{needs}
 use Rattle.rules.specs.Lines.{digits, reply-digits, reply-text}
 use Rattle.lines.proofs.Filling.{filled-none, filled-number, filled-byte}
 use Rattle.lines.proofs.Writing.{replied}
-use Rattle.lines.proofs.replies.write_ticket.Statement.{statement}
-use Rattle.lines.proofs.replies.write_ticket.Tie as tie
+use Rattle.lines.proofs.replies.write_ticket_in_room.Statement.{statement}
+use Rattle.lines.proofs.replies.write_ticket_in_room.Tie as tie
 
 put-number-requires : tie.Need-put-number-requires
 put-number-requires c κs = search needs
@@ -28,7 +28,7 @@ returns c =
     let two = filled-number 8 (s .given .0) one (c .before .before .put-number2 .ensures) (search needs) in
     replied (filled-byte 10 10 two refl (search needs)) (search needs)
 
-pub write-ticket-spec : {M : Type 1} → statement M
-write-ticket-spec =
+pub write-ticket-in-room-spec : {M : Type 1} → statement M
+write-ticket-in-room-spec =
     tie.close
     (tie.spec put-number-requires put-number-requires-2 slice-write-buffer same-length returns)

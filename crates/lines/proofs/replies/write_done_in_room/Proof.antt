@@ -1,11 +1,11 @@
--- `lines::write_done` meets its contract: the buffer is filled part by part. Assumes nothing.
+-- `lines::write_done_in_room` meets its contract: the buffer is filled part by part. Assumes nothing.
 use mathlib.Core.Path.{refl}
 use borrow.Author.Needs.{needs}
 use Rattle.rules.specs.Lines.{digits, reply-digits, reply-text}
 use Rattle.lines.proofs.Filling.{filled-none, filled-number, filled-byte}
 use Rattle.lines.proofs.Writing.{replied}
-use Rattle.lines.proofs.replies.write_done.Statement.{statement}
-use Rattle.lines.proofs.replies.write_done.Tie as tie
+use Rattle.lines.proofs.replies.write_done_in_room.Statement.{statement}
+use Rattle.lines.proofs.replies.write_done_in_room.Tie as tie
 
 put-number-requires : tie.Need-put-number-requires
 put-number-requires c κs = search needs
@@ -23,5 +23,5 @@ returns c =
     let one = filled-number 2 0 (filled-none z) (c .before .before .put-number .ensures) (search needs) in
     replied (filled-byte 2 10 one refl (search needs)) (search needs)
 
-pub write-done-spec : {M : Type 1} → statement M
-write-done-spec = tie.close (tie.spec put-number-requires slice-write-buffer same-length returns)
+pub write-done-in-room-spec : {M : Type 1} → statement M
+write-done-in-room-spec = tie.close (tie.spec put-number-requires slice-write-buffer same-length returns)

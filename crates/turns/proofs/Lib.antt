@@ -1,4 +1,6 @@
 pub mod Said
-pub mod Served
+pub mod Put
+pub mod Cuts
+pub mod Answered
 pub mod Moved
-pub mod Rests
+pub mod OneRead

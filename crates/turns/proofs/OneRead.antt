@@ -1,4 +1,5 @@
 -- One read served: the four ways in which it ends. Assumes nothing.
+use mathlib.Core.Logic.{inl, inr}
 use mathlib.Core.Path.{_≡_, refl, sym, ap, _∙_}
 use mathlib.Core.Bool.{Bool, true, false, _&&_, _||_, not, cond}
 use mathlib.Core.List.{List, [], _∷_, _++_, append-nil, append-assoc}
@@ -10,6 +11,7 @@ use borrow.Author.Tests.{lt-ltb, le-ltb, ne-eqb}
 use Rattle.rules.specs.Calls.{refused, run}
 use Rattle.rules.specs.Lines.{reply-text, printed-from}
 use Rattle.rules.specs.Reads.{Between, begun-from, calls-of, stops, overlong, served, written}
+use Rattle.theory.specs.Tests.{ltb?}
 use Rattle.lines.specs.Writing.{Replies}
 use Rattle.turns.specs.declared.Progress.{Progress}
 use Rattle.turns.specs.declared.Served.{Served}
@@ -157,3 +159,24 @@ module _ (held got : ℕ) (input : List ℕ) {t out t′ out′ : List ℕ} {p :
           kept = m ∙ rw (hold, begun-long, begun-is);
           over = q .2 ∙ sym (s .over ∙ rw (goes, short));
         }
+
+-- WHAT IS HELD is no longer than a command's line
+short : (b : Bool) (xs : List ℕ) → length (cond (b || overlong xs) [] xs) ≤ 63
+unfolding overlong
+short true xs = omega arith
+short false xs = elim (ltb? 63 (length xs)) [ inl a ↦ rw (a .0) (omega arith) | inr a ↦ rw (a .0) (a .1) ]
+
+held-within : (t h x : List ℕ) → length (served t h x .held) ≤ 63
+unfolding served
+held-within t h [] = omega arith
+held-within t h (b ∷ bs) = short (stops (lines (h ++ (b ∷ bs)))) (begun-from [] (h ++ (b ∷ bs)))
+
+pub held-short : {held got : ℕ} {input t out input′ t′ out′ : List ℕ} {r : Served} → Serves held got input t out input′ t′ out′ r → r .held ≤ 63
+held-short {held} {got} {input} {t} s = omega (arith, s .holds, held-within t (take held input) (take got (drop held input)))
+
+-- and what is written is within the output
+pub wrote-within : {held got : ℕ} {input t out input′ t′ out′ : List ℕ} {r : Served} → Serves held got input t out input′ t′ out′ r →
+    r .wrote ≤ length out′
+wrote-within {held} {got} {input} {t} {out} s =
+    let w = to-write held got input t in
+    omega (arith, s .wrote, ap length (s .said), length-append w (drop (length w) out))

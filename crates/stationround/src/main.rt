@@ -1,6 +1,7 @@
 // stationround: text lines from standard input, a reply line for each on standard output.
 ghost use Prim.Native.Nat.{_+_, _≤_, _<_};
-ghost use lib.ListN.{length};
+ghost use mathlib.Core.Path.{_≡_};
+ghost use lib.ListN.{length, take};
 use libc::STDIN_FILENO;
 use libc::STDOUT_FILENO;
 use turns::fresh_table;
@@ -34,6 +35,7 @@ fn main() {
 fn read_behind(input: &mut [u8], held: usize) -> usize
     requires { ⌜ held < length (now input) ⌝ }
     ensures { λ r. ⌜ held + r ≤ length (now (input .entry)) ⌝ }
+    ensures { λ r. ⌜ take held (now (input .exit)) ≡ take held (now (input .entry)) ⌝ }
 {
     let part = &mut input[held..];
     let got = libc::read(STDIN_FILENO, part);

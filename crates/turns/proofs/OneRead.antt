@@ -44,6 +44,11 @@ drop-take r n l h k =
     let s : take n l ≡ take r l ++ take (n - r) (drop r l) = sym (ap (λ m. take m l) e) ∙ take-add r (n - r) l in
     ap (drop r) s ∙ drop-at (take r l) (take (n - r) (drop r l)) r (length-take-le r l (omega arith))
 
+-- no more is read than is there
+pub read-within : (held got : ℕ) (input : List ℕ) {t out t′ out′ : List ℕ} {p : Progress} → held + got ≤ length input →
+    Answers (take (held + got) input) t out t′ out′ p → p .read ≤ held + got
+read-within held got input h a = omega (arith, a .within, length-take-le (held + got) input h)
+
 -- THE END of the input: nothing is held, or an unended line
 pub ending-none : {held : ℕ} {out : List ℕ} → held ≡ 0 → Ending held out out 0
 ending-none e = record { long = rw e; left = rw e }
@@ -108,7 +113,7 @@ module _ (held got : ℕ) (input : List ℕ) {t out t′ out′ : List ℕ} {p :
     begun-is : begun-from [] (take (held + got) input) ≡ take (held + got - p .read) (drop (p .read) input)
     begun-is =
         sym (a .rest e)
-        ∙ drop-take (p .read) (held + got) input (omega (arith, a .within, length-take-le (held + got) input h)) h
+        ∙ drop-take (p .read) (held + got) input (read-within held got input h a) h
 
     begun-long : length (begun-from [] (take (held + got) input)) ≡ held + got - p .read
     begun-long = ap length (sym (a .rest e)) ∙ length-drop (p .read) (take (held + got) input) ∙ rw (length-take-le (held + got) input h)

@@ -1,15 +1,16 @@
--- `stationround::main` is safe and ends: what is held is shorter than the input, and the turns that are left fall. Assumes nothing.
+-- `stationround::main` is safe and ends: table and bytes held are those after the reads so far; the turns that are left fall. Assumes nothing.
 use mathlib.Core.Path.{_≡_}
 use Prim.Native.Nat.{_≤_}
 use native.Mathlib.Omega.{arith}
 use lib.ListN.{length, length-take}
 use Rattle.turns.proofs.OneRead.{held-short, wrote-within}
+use Rattle.stationround.proofs.SoFar.{So-far, so-far-none, so-far-more}
 use borrow.Author.Needs.{needs}
 use Rattle.stationround.proofs.main.Statement.{statement}
 use Rattle.stationround.proofs.main.Tie as tie
 
 abbrev Inv-loop : tie.InvT-loop
-Inv-loop table₀ input₀ out₀ held₀ turns₀ table input out held turns = (length table ≡ 24592) × (length input ≡ 4096) × (length out ≡ 65536) × (held ≤ 63)
+Inv-loop table₀ input₀ out₀ held₀ turns₀ table input out held turns = (length table ≡ 24592) × (length input ≡ 4096) × (length out ≡ 65536) × (held ≤ 63) × So-far table input held
 
 abbrev μ-loop : tie.MeasureT-loop
 μ-loop table₀ input₀ out₀ held₀ turns₀ table input out held turns = turns
@@ -30,7 +31,7 @@ slice-aggregate-out : tie.Need-slice-aggregate-out Inv-loop μ-loop
 slice-aggregate-out c = search needs
 
 loop-holds : tie.Need-loop-holds Inv-loop μ-loop
-loop-holds c = search needs
+loop-holds c = (search needs, search needs, search needs, search needs, so-far-none _ _ (search needs))
 
 read-behind-requires : tie.Need-read-behind-requires Inv-loop μ-loop
 read-behind-requires c κs = search needs
@@ -63,7 +64,16 @@ loop-less : tie.Need-loop-less Inv-loop μ-loop
 loop-less c = search needs
 
 loop-again : tie.Need-loop-again Inv-loop μ-loop
-loop-again c = (search needs, search needs, search needs, held-short (c .before .before .before .before .before .before .before .before .before .serve-in-room .ensures))
+loop-again c =
+    let served = c .before .before .before .before .before .before .before .before .before in
+    let read = served .before .before .before .before .before .before in (
+      search needs,
+      search needs,
+      search needs,
+      held-short (served .serve-in-room .ensures),
+      so-far-more (read .before .before .before .loop .inv .4) (read .read-behind .ensures .1) (served .serve-in-room .ensures) (omega arith)
+          (search needs) (omega arith),
+    )
 
 returns-3 : tie.Need-returns-3 Inv-loop μ-loop
 returns-3 c = search needs

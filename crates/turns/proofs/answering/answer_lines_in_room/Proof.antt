@@ -5,6 +5,8 @@ use native.Mathlib.Nat.{le-refl}
 use native.Mathlib.Omega.{arith}
 use lib.ListN.{length}
 use borrow.Author.Needs.{needs}
+use Rattle.rules.specs.Calls.{refused}
+use Rattle.rules.specs.Lines.{reply-text}
 use Rattle.lines.specs.Cases.{command-of, reading-of}
 use Rattle.lines.specs.Ends.{Ends, First}
 use Rattle.turns.proofs.Said.{said-by}
@@ -55,7 +57,8 @@ returns c =
     let loop = c .before .before .before .before .loop in
     let none = subst (Ends (c .before .before .before .before .before .before .before .before .args .input .now) (loop .read))
     (c .before .enum-told .given .1) (c .before .before .before .line-end .ensures) in
-    (answered-all (loop .inv .0) (c .so-far .ensures) none, refl)
+    let told = c .so-far .ensures in
+    (answered-all (loop .inv .0) (omega (arith, told .0), omega (arith, told .1), told .2) none, refl)
 
 add-next : tie.Need-add-next Inv-loop μ-loop
 add-next c = omega (arith, here c .within)
@@ -109,7 +112,7 @@ returns-2 c =
     let wrote = c .before .before .write-refusal in
     (
       answered-broken inv (here (line .before .before)) (cc (told, line .read-command .ensures)) (refl, refl, search needs)
-          (put-line (out-within inv) (said-by (wrote .ensures) refl) (wrote .kept .1 .0)),
+          (put-line (out-within inv) (said-by {text = reply-text (refused 1)} (wrote .ensures) cc) (wrote .kept .1 .0)),
       refl,
     )
 

@@ -1,6 +1,7 @@
 -- `turns::serving::end_input` meets its contract. Assumes nothing.
+use Rattle.rules.specs.Calls.{refused}
+use Rattle.rules.specs.Lines.{reply-text}
 use Rattle.turns.proofs.OneRead.{ending-none, ending-refused}
-use mathlib.Core.Path.{refl}
 use Rattle.turns.proofs.Said.{said-by}
 use borrow.Author.Needs.{needs}
 use Rattle.turns.proofs.serving.end_input.Statement.{statement}
@@ -16,7 +17,7 @@ same-length : tie.Need-same-length
 same-length c = search needs
 
 returns-2 : tie.Need-returns-2
-returns-2 c = ending-refused {held = c .before .before .before .before .before .before .args .held} (search needs) (said-by (c .before .before .write-refusal .ensures) refl)
+returns-2 c = ending-refused {held = c .before .before .before .before .before .before .args .held} (search needs) (said-by {text = reply-text (refused 1)} (c .before .before .write-refusal .ensures) cc)
 
 pub end-input-spec : {M : Type 1} → statement M
 end-input-spec = tie.close (tie.spec returns write-refusal-requires same-length returns-2)

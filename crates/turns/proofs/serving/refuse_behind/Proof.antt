@@ -1,6 +1,7 @@
 -- `turns::serving::refuse_behind` meets its contract. Assumes nothing.
-use mathlib.Core.Path.{refl}
 use native.Mathlib.Omega.{arith}
+use Rattle.rules.specs.Calls.{refused}
+use Rattle.rules.specs.Lines.{reply-text}
 use Rattle.turns.proofs.Said.{said-by}
 use Rattle.turns.proofs.Put.{put-line, reply-within}
 use Rattle.turns.proofs.OneRead.{behind}
@@ -29,7 +30,7 @@ same-length c = search needs
 returns : tie.Need-returns
 returns c =
     let wrote = c .before .before .write-refusal in
-    behind (put-line (search needs) (said-by (wrote .ensures) refl) (wrote .kept .1 .0))
+    behind (put-line (search needs) (said-by {text = reply-text (refused 1)} (wrote .ensures) cc) (wrote .kept .1 .0))
 
 pub refuse-behind-spec : {M : Type 1} → statement M
 refuse-behind-spec =

@@ -4,7 +4,7 @@ use Prim.Native.Nat.{_+_}
 use native.Mathlib.Omega.{arith}
 use lib.ListN.{length-take}
 use lib.Seq.{length-take-le}
-use Rattle.turns.proofs.OneRead.{serves-end, serves-stopped, serves-overlong, serves-on}
+use Rattle.turns.proofs.OneRead.{read-within, serves-end, serves-stopped, serves-overlong, serves-on}
 use borrow.Author.Needs.{needs}
 use Rattle.turns.proofs.serving.serve_in_room.Statement.{statement}
 use Rattle.turns.proofs.serving.serve_in_room.Tie as tie
@@ -62,16 +62,15 @@ sub-rest : tie.Need-sub-rest
 sub-rest c =
     let answered = c .before .before .before .before .before in
     let entry = answered .before .before .before .before .before .before .before .before in
-    let n = length-take-le (entry .args .held + entry .args .got) (entry .args .input .now) (entry .pre .0) in
-    omega (arith, n, answered .answer-lines-in-room .ensures .0 .within)
+    read-within (entry .args .held) (entry .args .got) (entry .args .input .now) (entry .pre .0) (answered .answer-lines-in-room .ensures .0)
 
 refuse-behind-requires : tie.Need-refuse-behind-requires
 refuse-behind-requires c κs =
     let answered = c .before .before .before .before .before .before .before in
     let entry = answered .before .before .before .before .before .before .before .before in
-    let n = length-take-le (entry .args .held + entry .args .got) (entry .args .input .now) (entry .pre .0) in
     let told = answered .answer-lines-in-room .ensures .0 in
-    omega (arith, n, told .within, told .small, answered .answer-lines-in-room .kept .1 .1 .0, entry .pre .1)
+    let read = read-within (entry .args .held) (entry .args .got) (entry .args .input .now) (entry .pre .0) told in
+    omega (arith, read, told .small, answered .answer-lines-in-room .kept .1 .1 .0, entry .pre .1)
 
 over-requires-3 : tie.Need-over-requires-3
 over-requires-3 c κs = search needs
@@ -96,8 +95,10 @@ keep-rest-requires : tie.Need-keep-rest-requires
 keep-rest-requires c κs =
     let answered = c .before .before .before .before .before .before .before in
     let entry = answered .before .before .before .before .before .before .before .before in
-    let n = length-take-le (entry .args .held + entry .args .got) (entry .args .input .now) (entry .pre .0) in
-    (omega (arith, n, answered .answer-lines-in-room .ensures .0 .within), entry .pre .0)
+    (
+      read-within (entry .args .held) (entry .args .got) (entry .args .input .now) (entry .pre .0) (answered .answer-lines-in-room .ensures .0),
+      entry .pre .0,
+    )
 
 same-length-8 : tie.Need-same-length-8
 same-length-8 c = search needs
@@ -113,7 +114,7 @@ returns-4 c =
     let answered = c .before .before .before .before .before .before .before .before .before .before in
     let entry = answered .before .before .before .before .before .before .before .before in
     serves-on (entry .args .held) (entry .args .got) (entry .args .input .now) (search needs) (entry .pre .0)
-    (answered .answer-lines-in-room .ensures .0) (search needs) (search needs) (c .before .before .keep-rest .ensures) (refl, refl, refl)
+    (answered .answer-lines-in-room .ensures .0) (search needs) (search needs) (c .before .before .keep-rest .ensures) (refl, omega arith, refl)
 
 pub serve-in-room-spec : {M : Type 1} → statement M
 serve-in-room-spec =

@@ -13,9 +13,9 @@ use Rattle.rules.specs.Reads.{begun-from, asked, calls-of, stops}
 use Rattle.theory.specs.Tests.{ltb?}
 use Rattle.lines.specs.Ends.{None, First}
 use Rattle.lines.proofs.Commands.{short}
-use Rattle.turns.specs.declared.Progress.{Progress}
+use Rattle.lines.proofs.Cuts.{cut, uncut}
+use Rattle.turns.specs.declared.answering.Progress.{Progress}
 use Rattle.turns.specs.Answering.{lines, bytes-read, Answers}
-use Rattle.turns.proofs.Cuts.{Cut, cut, Uncut, uncut}
 use Rattle.turns.proofs.Put.{Put, reply-long, refusal-long}
 
 -- A LINE and those behind it: a command's, and one that is broken

@@ -13,7 +13,7 @@ use Rattle.rules.specs.Lines.{reply-text, printed-from}
 use Rattle.rules.specs.Reads.{Between, begun-from, calls-of, stops, overlong, served, written}
 use Rattle.theory.specs.Tests.{ltb?}
 use Rattle.lines.specs.Writing.{Replies}
-use Rattle.turns.specs.declared.Progress.{Progress}
+use Rattle.turns.specs.declared.answering.Progress.{Progress}
 use Rattle.turns.specs.declared.Served.{Served}
 use Rattle.turns.specs.Answering.{lines, at-front, Answers}
 use Rattle.turns.specs.Serving.{after-read, to-write, Serves, Ending, Behind, moved-front}

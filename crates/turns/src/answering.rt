@@ -4,13 +4,19 @@ ghost use mathlib.Core.Bool.{false};
 ghost use Prim.Native.Nat.{_+_, _*_, _≤_};
 ghost use lib.ListN.{length};
 ghost use Rattle.turns.specs.Answering.{Answers};
-use crate::Progress;
 use crate::turning::take_turn;
 use lines::LineEnd;
 use lines::Reading;
 use lines::line_end;
 use lines::read_command;
 use lines::write_refusal;
+
+// How far the lines of a buffer are answered: the bytes read, the bytes of replies, and whether refusal 1 was among them.
+pub struct Progress {
+    pub read: usize,
+    pub wrote: usize,
+    pub stopped: bool,
+}
 
 // As long as a complete line is there; nothing follows refusal 1. No reply is over five times as long as its line.
 pub fn answer_lines_in_room(input: &[u8], table: &mut [u8], out: &mut [u8]) -> Progress

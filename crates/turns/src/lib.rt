@@ -9,13 +9,6 @@ mod serving; // serving.rt: one read
 
 pub use serving::serve_in_room;
 
-// How far the lines of a buffer are answered: the bytes read, the bytes of replies, and whether refusal 1 was among them.
-pub struct Progress {
-    pub read: usize,
-    pub wrote: usize,
-    pub stopped: bool,
-}
-
 // After one read: the bytes to write, the bytes held at the input's front, and whether nothing more is to be read.
 pub struct Served {
     pub wrote: usize,
@@ -29,7 +22,7 @@ pub const LONGEST_LINE: usize = 63;
 // A head and 1,024 rows.
 pub const TABLE_SIZE: usize = 24592;
 
-pub fn fresh_table() -> [u8; 24592]
+pub fn fresh_table() -> [u8; TABLE_SIZE]
     ensures { λ r. ⌜ r ≡ fresh-table ⌝ }
 {
     [0; TABLE_SIZE]

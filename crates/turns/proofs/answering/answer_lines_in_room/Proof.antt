@@ -146,7 +146,7 @@ loop-again c =
     let told = ap reading-of (command .1) in
     let inv = line .before .before .before .before .before .before .loop .inv in
     let taken = c .before .before .before .before .take-turn in (
-      answering-more (inv .0) (here (line .before .before)) (command-of (command .0 .0)) (sym told ∙ line .read-command .ensures) (refl, refl)
+      answering-more (inv .0) (here (line .before .before)) (command-of (command .0 .0)) (sym told ∙ line .read-command .ensures) (omega arith, refl)
           (taken .ensures .moved) (put-line (out-within (inv .0)) (taken .ensures .said) (taken .kept .1 .1 .0)),
       taken .kept .1 .0 ∙ inv .1,
     )

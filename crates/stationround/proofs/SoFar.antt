@@ -1,5 +1,5 @@
 -- The program's loop: its table and the bytes held are those after the reads so far, whatever these were. Assumes nothing.
-use mathlib.Core.Path.{_≡_, refl, sym, ap, _∙_}
+use mathlib.Core.Path.{_≡_, sym, ap, _∙_}
 use mathlib.Core.Bool.{false, false≢true}
 use mathlib.Core.Logic.{inl, inr}
 use mathlib.Core.List.{List, [], _∷_, _++_}
@@ -12,7 +12,6 @@ use Rattle.rules.specs.Lines.{fresh-table}
 use Rattle.rules.specs.Reads.{Between, served, between-after}
 use Rattle.theory.specs.Tests.{either}
 use Rattle.turns.specs.declared.Served.{Served}
-use Rattle.turns.specs.Answering.{at-front}
 use Rattle.turns.specs.Serving.{after-read, Serves}
 
 -- one read more

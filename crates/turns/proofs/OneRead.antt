@@ -1,21 +1,21 @@
 -- One read served: the four ways in which it ends. Assumes nothing.
 use mathlib.Core.Logic.{inl, inr}
-use mathlib.Core.Path.{_≡_, refl, sym, ap, _∙_}
+use mathlib.Core.Path.{_≡_, sym, ap, _∙_}
 use mathlib.Core.Bool.{Bool, true, false, _&&_, _||_, not, cond}
 use mathlib.Core.List.{List, [], _∷_, _++_, append-nil, append-assoc}
-use Prim.Native.Nat.{ℕ, _+_, _*_, _-_, _≤_, _<_}
+use Prim.Native.Nat.{ℕ, _+_, _-_, _≤_, _<_}
 use native.Mathlib.Omega.{arith}
 use lib.ListN.{length, take, drop, length-append, length-drop, take-append-drop}
 use lib.Seq.{length-take-le, drop-drop, take-add, take-at, drop-at}
 use borrow.Author.Tests.{lt-ltb, le-ltb, ne-eqb}
 use Rattle.rules.specs.Calls.{refused, run}
 use Rattle.rules.specs.Lines.{reply-text, printed-from}
-use Rattle.rules.specs.Reads.{Between, begun-from, calls-of, stops, overlong, served, written}
+use Rattle.rules.specs.Reads.{begun-from, calls-of, stops, overlong, served, written}
 use Rattle.theory.specs.Tests.{ltb?}
 use Rattle.lines.specs.Writing.{Replies}
 use Rattle.turns.specs.declared.answering.Progress.{Progress}
 use Rattle.turns.specs.declared.Served.{Served}
-use Rattle.turns.specs.Answering.{lines, at-front, Answers}
+use Rattle.turns.specs.Answering.{lines, Answers}
 use Rattle.turns.specs.Serving.{after-read, to-write, Serves, Ending, Behind, moved-front}
 use Rattle.turns.proofs.Put.{Put}
 

@@ -1,8 +1,8 @@
 // One read: its complete lines answered, a line begun kept for the next read or refused.
 ghost use mathlib.Core.Path.{_≡_};
 ghost use mathlib.Core.Bool.{true};
-ghost use Prim.Native.Nat.{_+_, _*_, _-_, _≤_};
-ghost use lib.ListN.{length, take, drop};
+ghost use Prim.Native.Nat.{_+_, _*_, _≤_};
+ghost use lib.ListN.{length};
 ghost use Rattle.turns.specs.Serving.{Serves, Ending, Behind, moved-front};
 use crate::LONGEST_LINE;
 use crate::Served;
@@ -10,7 +10,13 @@ use crate::answering::answer_lines_in_room;
 use lines::write_refusal;
 
 // The bytes got stand behind those held; no bytes are the end of the input.
-pub fn serve_in_room(input: &mut [u8], held: usize, got: usize, table: &mut [u8], out: &mut [u8]) -> Served
+pub fn serve_in_room(
+    input: &mut [u8],
+    held: usize,
+    got: usize,
+    table: &mut [u8],
+    out: &mut [u8],
+) -> Served
     requires { ⌜ (held + got ≤ length (now input)) × (5 * (held + got) + 15 ≤ length (now out)) ⌝ }
     ensures { λ r. ⌜ Serves held got (now (input .entry)) (now (table .entry)) (now (out .entry)) (now (input .exit)) (now (table .exit)) (now (out .exit)) r ⌝ }
 {

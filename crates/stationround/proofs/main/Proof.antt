@@ -10,7 +10,8 @@ use Rattle.stationround.proofs.main.Statement.{statement}
 use Rattle.stationround.proofs.main.Tie as tie
 
 abbrev Inv-loop : tie.InvT-loop
-Inv-loop table₀ input₀ out₀ held₀ turns₀ table input out held turns = (length table ≡ 24592) × (length input ≡ 4096) × (length out ≡ 65536) × (held ≤ 63) × So-far table input held
+Inv-loop table₀ input₀ out₀ held₀ turns₀ table input out held turns =
+    (length table ≡ 24592) × (length input ≡ 4096) × (length out ≡ 65536) × (held ≤ 63) × So-far table input held
 
 abbrev μ-loop : tie.MeasureT-loop
 μ-loop table₀ input₀ out₀ held₀ turns₀ table input out held turns = turns

@@ -109,8 +109,7 @@ returns-2 c =
     let line = c .before .before .before .before .before .before in
     let told = ap reading-of (c .before .before .before .before .enum-told2 .given .1) in
     let inv = line .before .before .before .before .before .before .loop .inv .0 in
-    let wrote = c .before .before .write-refusal in
-    (
+    let wrote = c .before .before .write-refusal in (
       answered-broken inv (here (line .before .before)) (cc (told, line .read-command .ensures)) (refl, refl, search needs)
           (put-line (out-within inv) (said-by {text = reply-text (refused 1)} (wrote .ensures) cc) (wrote .kept .1 .0)),
       refl,

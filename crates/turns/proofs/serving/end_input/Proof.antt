@@ -17,7 +17,9 @@ same-length : tie.Need-same-length
 same-length c = search needs
 
 returns-2 : tie.Need-returns-2
-returns-2 c = ending-refused {held = c .before .before .before .before .before .before .args .held} (search needs) (said-by {text = reply-text (refused 1)} (c .before .before .write-refusal .ensures) cc)
+returns-2 c =
+    let held = c .before .before .before .before .before .before .args .held in
+    ending-refused {held = held} (search needs) (said-by {text = reply-text (refused 1)} (c .before .before .write-refusal .ensures) cc)
 
 pub end-input-spec : {M : Type 1} → statement M
 end-input-spec = tie.close (tie.spec returns write-refusal-requires same-length returns-2)

@@ -94,8 +94,7 @@ returns-3 c =
 keep-rest-requires : tie.Need-keep-rest-requires
 keep-rest-requires c κs =
     let answered = c .before .before .before .before .before .before .before in
-    let entry = answered .before .before .before .before .before .before .before .before in
-    (
+    let entry = answered .before .before .before .before .before .before .before .before in (
       read-within (entry .args .held) (entry .args .got) (entry .args .input .now) (entry .pre .0) (answered .answer-lines-in-room .ensures .0),
       entry .pre .0,
     )

@@ -79,7 +79,7 @@ CONTRACTS = {
     "station": "each exported call: the packed reply (`pack`) and the bytes (`Exports`)",
     "lines": "`read_command` (`read`), `payload` (`Part`), `write_line` (`Writes`), `line_end` (`Ends`), the reply writers (`Replies`)",
     "turns": "`serve_in_room` (`Serves`): one read, and every byte it leaves; `fresh_table`; `answer_lines_in_room` (`Answers`), `take_turn` (`Turns`)",
-    "stationround": "`main` (`So-far`): its table and the bytes held are those after the reads so far",
+    "stationround": "`main`, which has no contract, by the invariant in its proof (`So-far`): table and bytes held are those after the reads so far",
 }
 
 

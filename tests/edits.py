@@ -79,8 +79,8 @@ CONTRACTS = {
     "listing": "`list_plan` (`Lists`): reply and entries",
     "station": "each exported call: the packed reply (`pack`) and the bytes (`Exports`, `Exports-look`)",
     "lines": "`read_command` (`read`), `payload` (`Part`), `write_line` (`Writes`), `line_end` (`Ends`), the reply writers (`Replies`)",
-    "turns": "`take_turn` (`Turns`), `answer_lines` (`Serves`), `keep_rest` (`Kept`)",
-    "stationround": "`serve` (`Rests`): no complete line is held back",
+    "turns": "`serve_in_room` (`Serves`): one read, and every byte it leaves; `fresh_table`; `answer_lines_in_room` (`Answers`), `take_turn` (`Turns`)",
+    "stationround": "`main`, which has no contract, by the invariant in its proof (`So-far`): table and bytes held are those after the reads so far",
 }
 
 

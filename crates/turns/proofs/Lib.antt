@@ -1,4 +1,5 @@
 pub mod Said
-pub mod Served
+pub mod Put
+pub mod Answered
 pub mod Moved
-pub mod Rests
+pub mod OneRead

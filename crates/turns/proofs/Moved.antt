@@ -4,9 +4,9 @@ use mathlib.Core.List.{List}
 use Prim.Native.Nat.{ℕ, suc, _+_, _-_, _<_}
 use native.Mathlib.Omega.{arith}
 use native.Mathlib.Numerals.{add-one}
-use lib.ListN.{length, getD, set, take, drop, length-set, length-drop}
+use lib.ListN.{length, getD, set, take, drop, length-set, length-drop, take-append-drop}
 use lib.Seq.{take-suc, take-suc-set, drop-set-lt, getD-drop, drop-drop}
-use Rattle.turns.specs.Serving.{Kept}
+use Rattle.turns.specs.Serving.{moved-front}
 
 -- the first i stand at the front; from there on nothing has changed
 pub record Moving (before after : List ℕ) (from i : ℕ) : Type 0 where
@@ -37,5 +37,5 @@ moving-more {z} {b} {from} {i} m h =
     on : drop (suc i) b ≡ drop (suc i) z
     on = rw (← add-one) (sym (drop-drop 1 i b) ∙ ap (drop 1) (m .rest) ∙ drop-drop 1 i z)
 
-pub moved : {z b : List ℕ} {from i end : ℕ} → Moving z b from i → end - from ≡ i → Kept z b from end
-moved m e = record { moved = rw e (m .front) }
+pub moved : {z b : List ℕ} {from i : ℕ} (end : ℕ) → Moving z b from i → end - from ≡ i → b ≡ moved-front from end z
+moved {z} {b} {from} {i} end m e = sym (take-append-drop i b) ∙ rw (e, m .front, m .rest)

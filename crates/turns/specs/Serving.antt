@@ -1,38 +1,42 @@
--- What the program has printed once some lines of its input are answered. Assumes nothing: these are definitions.
+-- What one read leaves and writes, on lent buffers. Assumes nothing: these are definitions.
 use mathlib.Core.Path.{_≡_}
-use mathlib.Core.Bool.{false, cond}
+use mathlib.Core.Bool.{cond}
 use mathlib.Core.List.{List, [], _++_}
-use Prim.Native.Nat.{ℕ, _+_, _*_, _-_, _≤_}
+use Prim.Native.Nat.{ℕ, _+_, _-_}
+use lib.Dec.{eqb}
 use lib.ListN.{length, take, drop}
-use Rattle.rules.specs.Lines.{lines-from, printed-from}
-use Rattle.lines.specs.Ends.{None}
-use Rattle.turns.specs.declared.Progress.{Progress}
+use Rattle.rules.specs.Calls.{refused}
+use Rattle.rules.specs.Lines.{reply-text}
+use Rattle.rules.specs.Reads.{Between, served, written}
+use Rattle.lines.specs.Writing.{Replies}
+use Rattle.turns.specs.declared.Served.{Served}
+use Rattle.turns.specs.Answering.{at-front}
 
--- what an input prints on a table
-abbrev pub prints : (input table : List ℕ) → List ℕ
-prints input t = printed-from (lines-from [] input) t
+-- what is there after a read, and what is written for it: the bytes got stand in the input behind those held
+abbrev pub after-read : (held got : ℕ) (input table : List ℕ) → Between
+after-read held got input t = served t (take held input) (take got (drop held input))
 
--- whatever comes after the input: it prints the bytes written, and then what the rest prints on the table left;
--- a reply of 15 bytes answers a line of 3 bytes or more, and refusal 1, 5 bytes, a line of 1 or more
-pub record Serving (input t z before after : List ℕ) (read wrote : ℕ) : Type 0 where
-  pub within : read ≤ length input
-  pub room : wrote ≤ length before
-  pub small : wrote ≤ 5 * read
-  pub long : length after ≡ length before
-  pub kept : drop wrote after ≡ drop wrote before
-  pub said : (more : List ℕ) → prints (input ++ more) t ≡ take wrote after ++ prints (drop read input ++ more) z
+abbrev pub to-write : (held got : ℕ) (input table : List ℕ) → List ℕ
+to-write held got input t = written t (take held input) (take got (drop held input))
 
--- the same of the answer, where nothing follows if it stopped; if it did not, no complete line is left or no room for a reply
-pub record Serves (input t z before after : List ℕ) (r : Progress) : Type 0 where
-  pub within : r .read ≤ length input
-  pub room : r .wrote ≤ length before
-  pub small : r .wrote ≤ 5 * r .read
-  pub long : length after ≡ length before
-  pub kept : drop (r .wrote) after ≡ drop (r .wrote) before
-  pub said : (more : List ℕ) →
-      prints (input ++ more) t ≡ take (r .wrote) after ++ cond (r .stopped) [] (prints (drop (r .read) input ++ more) z)
-  pub whole : r .stopped ≡ false → 15 ≤ length before - r .wrote → None input (r .read) (length input)
+-- ONE READ on three buffers: what is answered, and every byte of each
+pub record Serves (held got : ℕ) (input t out input′ t′ out′ : List ℕ) (r : Served) : Type 0 where
+  pub wrote : r .wrote ≡ length (to-write held got input t)
+  pub said : out′ ≡ at-front (to-write held got input t) out
+  pub moved : t′ ≡ after-read held got input t .table
+  pub holds : r .held ≡ length (after-read held got input t .held)
+  pub kept : input′ ≡ at-front (after-read held got input t .held) input
+  pub over : r .over ≡ after-read held got input t .over
 
--- bytes moved to the front
-pub record Kept (before after : List ℕ) (from end : ℕ) : Type 0 where
-  pub moved : take (end - from) after ≡ take (end - from) (drop from before)
+-- the end of the input, where some bytes are held
+abbrev pub Ending : (held : ℕ) (out out′ : List ℕ) → ℕ → Type 0
+Ending held out out′ r = Replies (cond (eqb held 0) [] (reply-text (refused 1))) out out′ r
+
+-- refusal 1 behind the bytes written
+pub record Behind (wrote : ℕ) (out out′ : List ℕ) (r : ℕ) : Type 0 where
+  pub long : r ≡ wrote + length (reply-text (refused 1))
+  pub left : out′ ≡ take wrote out ++ at-front (reply-text (refused 1)) (drop wrote out)
+
+-- a buffer whose bytes from a place up to another are moved to its front
+abbrev pub moved-front : (from end : ℕ) (buffer : List ℕ) → List ℕ
+moved-front from end z = take (end - from) (drop from z) ++ drop (end - from) z

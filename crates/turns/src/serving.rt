@@ -1,58 +1,81 @@
-// The complete lines of a buffer answered one after another, and the rest moved to its front.
+// One read: its complete lines answered, a line begun kept for the next read or refused.
 ghost use mathlib.Core.Path.{_≡_};
-ghost use mathlib.Core.Bool.{false};
-ghost use Prim.Native.Nat.{_≤_};
+ghost use mathlib.Core.Bool.{true};
+ghost use Prim.Native.Nat.{_+_, _*_, _≤_};
 ghost use lib.ListN.{length};
-ghost use Rattle.turns.specs.Serving.{Serves, Kept};
-use crate::Progress;
-use crate::turning::take_turn;
-use lines::LineEnd;
-use lines::REPLY_ROOM;
-use lines::Reading;
-use lines::line_end;
-use lines::read_command;
+ghost use Rattle.turns.specs.Serving.{Serves, Ending, Behind, moved-front};
+use crate::LONGEST_LINE;
+use crate::Served;
+use crate::answering::answer_lines_in_room;
 use lines::write_refusal_in_room;
 
-// As long as a complete line is there and the output has room for a reply; nothing follows refusal 1.
-pub fn answer_lines(input: &[u8], table: &mut [u8], out: &mut [u8]) -> Progress
-    ensures { λ r. ⌜ Serves (now (input .entry)) (now (table .entry)) (now (table .exit)) (now (out .entry)) (now (out .exit)) r ⌝ }
+// The bytes got stand behind those held; no bytes are the end of the input.
+pub fn serve_in_room(
+    input: &mut [u8],
+    held: usize,
+    got: usize,
+    table: &mut [u8],
+    out: &mut [u8],
+) -> Served
+    requires { ⌜ (held + got ≤ length (now input)) × (5 * (held + got) + 15 ≤ length (now out)) ⌝ }
+    ensures { λ r. ⌜ Serves held got (now (input .entry)) (now (table .entry)) (now (out .entry)) (now (input .exit)) (now (table .exit)) (now (out .exit)) r ⌝ }
 {
-    let mut read = 0;
-    let mut wrote = 0;
-    while REPLY_ROOM <= out.len() - wrote {
-        let LineEnd::At(end) = line_end(input, read) else {
-            return so_far(read, wrote);
-        };
-        let next = end + 1;
-        let Reading::Is(command) = read_command(&input[read..next]) else {
-            wrote += write_refusal_in_room(1, &mut out[wrote..]);
-            return Progress {
-                read: next,
-                wrote,
-                stopped: true,
-            };
-        };
-        wrote += take_turn(command, table, &mut out[wrote..]);
-        read = next;
+    if got == 0 {
+        return over(end_input(held, out));
     }
-    so_far(read, wrote)
+    let n = held + got;
+    let progress = answer_lines_in_room(&input[..n], table, out);
+    let wrote = progress.wrote;
+    if progress.stopped {
+        return over(wrote);
+    }
+    let read = progress.read;
+    let rest = n - read;
+    if LONGEST_LINE < rest {
+        return over(refuse_behind(wrote, out));
+    }
+    keep_rest(input, read, n);
+    Served {
+        wrote,
+        held: rest,
+        over: false,
+    }
 }
 
-// Where refusal 1 was not among the replies.
-fn so_far(read: usize, wrote: usize) -> Progress
-    ensures { λ r. ⌜ (r .read ≡ read) × (r .wrote ≡ wrote) × (r .stopped ≡ false) ⌝ }
+// Nothing is held, and nothing more is read.
+fn over(wrote: usize) -> Served
+    ensures { λ r. ⌜ (r .wrote ≡ wrote) × (r .held ≡ 0) × (r .over ≡ true) ⌝ }
 {
-    Progress {
-        read,
+    Served {
         wrote,
-        stopped: false,
+        held: 0,
+        over: true,
     }
+}
+
+// A line that the end of the input leaves unended: refusal 1.
+fn end_input(held: usize, out: &mut [u8]) -> usize
+    requires { ⌜ 15 ≤ length (now out) ⌝ }
+    ensures { λ r. ⌜ Ending held (now (out .entry)) (now (out .exit)) r ⌝ }
+{
+    if held == 0 {
+        return 0;
+    }
+    write_refusal_in_room(1, out)
+}
+
+// A line begun that is longer than any command's: refusal 1 behind the replies. It answers how many bytes are written then.
+fn refuse_behind(wrote: usize, out: &mut [u8]) -> usize
+    requires { ⌜ wrote + 15 ≤ length (now out) ⌝ }
+    ensures { λ r. ⌜ Behind wrote (now (out .entry)) (now (out .exit)) r ⌝ }
+{
+    wrote + write_refusal_in_room(1, &mut out[wrote..])
 }
 
 // The bytes from a place up to another, moved to the front.
-pub fn keep_rest(buffer: &mut [u8], from: usize, end: usize)
+fn keep_rest(buffer: &mut [u8], from: usize, end: usize)
     requires { ⌜ (from ≤ end) × (end ≤ length (now buffer)) ⌝ }
-    ensures { λ _. ⌜ Kept (now (buffer .entry)) (now (buffer .exit)) from end ⌝ }
+    ensures { λ _. ⌜ now (buffer .exit) ≡ moved-front from end (now (buffer .entry)) ⌝ }
 {
     let count = end - from;
     let mut i = 0;

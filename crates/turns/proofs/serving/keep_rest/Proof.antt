@@ -40,7 +40,7 @@ same-length : tie.Need-same-length Inv-loop μ-loop
 same-length c = c .before .loop .inv .0 .long
 
 returns : tie.Need-returns Inv-loop μ-loop
-returns c = moved (c .before .loop .inv .0) (search needs)
+returns c = moved _ (c .before .loop .inv .0) (search needs)
 
 pub keep-rest-spec : {M : Type 1} → statement M
 keep-rest-spec =

@@ -1,39 +1,38 @@
--- `turns::serving::answer_lines` meets its contract: the lines so far are answered; what is left of the input falls. Assumes nothing.
+-- `turns::answering::answer_lines_in_room` meets its contract: the lines so far are answered; what is left of the input falls. Assumes nothing.
 use mathlib.Core.Path.{_≡_, refl, sym, ap, subst, _∙_}
 use Prim.Native.Nat.{_-_}
 use native.Mathlib.Nat.{le-refl}
 use native.Mathlib.Omega.{arith}
 use lib.ListN.{length}
 use borrow.Author.Needs.{needs}
+use Rattle.rules.specs.Calls.{refused}
+use Rattle.rules.specs.Lines.{reply-text}
 use Rattle.lines.specs.Cases.{command-of, reading-of}
 use Rattle.lines.specs.Ends.{Ends, First}
-use Rattle.turns.specs.Serving.{Serving}
 use Rattle.turns.proofs.Said.{said-by}
-use Rattle.turns.proofs.Served.{put-line, reply-within, out-within, room-left, no-room, serving-none, serving-more, served-broken, served-so-far}
-use Rattle.turns.proofs.serving.answer_lines.Statement.{statement}
-use Rattle.turns.proofs.serving.answer_lines.Tie as tie
+use Rattle.turns.proofs.Put.{put-line, reply-within}
+use Rattle.turns.proofs.Answered.{Answering, out-within, room-left, answering-none, answering-more, answered-broken, answered-all}
+use Rattle.turns.proofs.answering.answer_lines_in_room.Statement.{statement}
+use Rattle.turns.proofs.answering.answer_lines_in_room.Tie as tie
 
 abbrev Inv-loop : tie.InvT-loop
-Inv-loop input table₀ out₀ read₀ wrote₀ table out read wrote = Serving input table₀ table out₀ out read wrote × (length table ≡ length table₀)
+Inv-loop input table₀ out₀ read₀ wrote₀ table out read wrote = Answering input table₀ table out₀ out read wrote × (length table ≡ length table₀)
 
 abbrev μ-loop : tie.MeasureT-loop
 μ-loop input table₀ out₀ read₀ wrote₀ table out read wrote = length input - read
 
 -- the line's end that was found
 here : (c : tie.After-known-told Inv-loop μ-loop) →
-    First (c .before .before .before .before .before .before .before .before .before .args .input .now)
-    (c .before .before .before .before .before .loop .read) (c .before .end .given .0 .0)
+    First (c .before .before .before .before .before .before .before .before .args .input .now)
+    (c .before .before .before .before .loop .read) (c .before .end .given .0 .0)
 here c =
-    let input = c .before .before .before .before .before .before .before .before .before .args .input .now in
-    subst (Ends input (c .before .before .before .before .before .loop .read)) (c .before .end .given .1) (c .before .before .before .line-end .ensures .0)
+    let input = c .before .before .before .before .before .before .before .before .args .input .now in
+    subst (Ends input (c .before .before .before .before .loop .read)) (c .before .end .given .1) (c .before .before .before .line-end .ensures .0)
 
 loop-holds : tie.Need-loop-holds Inv-loop μ-loop
 loop-holds c =
     let s = c .before .before .before .args in
-    (serving-none (s .input .now) (s .table .now) (s .out .now), refl)
-
-sub-loop : tie.Need-sub-loop Inv-loop μ-loop
-sub-loop c = out-within (c .loop .inv .0)
+    (answering-none (s .input .now) (s .table .now) (s .out .now) (c .before .before .before .pre), refl)
 
 line-end-requires : tie.Need-line-end-requires Inv-loop μ-loop
 line-end-requires c κs = tt
@@ -48,17 +47,18 @@ so-far-requires : tie.Need-so-far-requires Inv-loop μ-loop
 so-far-requires c κs = tt
 
 same-length : tie.Need-same-length Inv-loop μ-loop
-same-length c = c .before .before .before .before .before .loop .inv .1
+same-length c = c .before .before .before .before .loop .inv .1
 
 same-length-2 : tie.Need-same-length-2 Inv-loop μ-loop
-same-length-2 c = c .before .before .before .before .before .loop .inv .0 .long
+same-length-2 c = c .before .before .before .before .loop .inv .0 .long
 
 returns : tie.Need-returns Inv-loop μ-loop
 returns c =
-    let loop = c .before .before .before .before .before .loop in
-    let none = subst (Ends (c .before .before .before .before .before .before .before .before .before .args .input .now) (loop .read))
+    let loop = c .before .before .before .before .loop in
+    let none = subst (Ends (c .before .before .before .before .before .before .before .before .args .input .now) (loop .read))
     (c .before .enum-told .given .1) (c .before .before .before .line-end .ensures .0) in
-    served-so-far (loop .inv .0) (c .so-far .ensures) (λ h. none)
+    let told = c .so-far .ensures in
+    (answered-all (loop .inv .0) (omega (arith, told .0), omega (arith, told .1), told .2) none, refl)
 
 add-next : tie.Need-add-next Inv-loop μ-loop
 add-next c = omega (arith, here c .within)
@@ -82,24 +82,24 @@ enum-told-2 : tie.Need-enum-told-2 Inv-loop μ-loop
 enum-told-2 c = c .match2 .keys2
 
 sub-write-refusal-in-room : tie.Need-sub-write-refusal-in-room Inv-loop μ-loop
-sub-write-refusal-in-room c = out-within (c .before .before .before .before .before .before .before .before .before .loop .inv .0)
+sub-write-refusal-in-room c = out-within (c .before .before .before .before .before .before .before .before .loop .inv .0)
 
 part-write-refusal-in-room-start : tie.Need-part-write-refusal-in-room-start Inv-loop μ-loop
-part-write-refusal-in-room-start c = out-within (c .before .before .before .before .before .before .before .before .before .loop .inv .0)
+part-write-refusal-in-room-start c = out-within (c .before .before .before .before .before .before .before .before .loop .inv .0)
 
 part-write-refusal-in-room-end : tie.Need-part-write-refusal-in-room-end Inv-loop μ-loop
 part-write-refusal-in-room-end c = le-refl _
 
 write-refusal-in-room-requires : tie.Need-write-refusal-in-room-requires Inv-loop μ-loop
 write-refusal-in-room-requires c κs =
-    let loop = c .before .before .before .before .before .before .before .before .before .before .loop in
-    room-left (loop .out) (loop .wrote) (c .before .before .before .before .before .before .before .before .before .loop-test .taken)
+    let loop = c .before .before .before .before .before .before .before .before .before .loop in
+    room-left (loop .inv .0)
 
 add-wrote : tie.Need-add-wrote Inv-loop μ-loop
 add-wrote c = let wrote = c .before .before .write-refusal-in-room in omega (arith, reply-within (wrote .ensures) (wrote .kept .1 .0))
 
 same-length-3 : tie.Need-same-length-3 Inv-loop μ-loop
-same-length-3 c = c .before .before .before .before .before .before .before .before .before .before .before .before .before .loop .inv .1
+same-length-3 c = c .before .before .before .before .before .before .before .before .before .before .before .before .loop .inv .1
 
 same-length-4 : tie.Need-same-length-4 Inv-loop μ-loop
 same-length-4 c = search needs
@@ -108,24 +108,26 @@ returns-2 : tie.Need-returns-2 Inv-loop μ-loop
 returns-2 c =
     let line = c .before .before .before .before .before .before in
     let told = ap reading-of (c .before .before .before .before .enum-told2 .given .1) in
-    let inv = line .before .before .before .before .before .before .before .loop .inv .0 in
-    let wrote = c .before .before .write-refusal-in-room in
-    served-broken inv (here (line .before .before)) (cc (told, line .read-command .ensures .0)) (refl, refl, search needs)
-    (put-line (out-within inv) (said-by (wrote .ensures) refl) (wrote .kept .1 .0))
+    let inv = line .before .before .before .before .before .before .loop .inv .0 in
+    let wrote = c .before .before .write-refusal-in-room in (
+      answered-broken inv (here (line .before .before)) (cc (told, line .read-command .ensures .0)) (refl, refl, search needs)
+          (put-line (out-within inv) (said-by {text = reply-text (refused 1)} (wrote .ensures) cc) (wrote .kept .1 .0)),
+      refl,
+    )
 
 sub-take-turn : tie.Need-sub-take-turn Inv-loop μ-loop
-sub-take-turn c = out-within (c .before .before .before .before .before .before .before .before .before .before .before .loop .inv .0)
+sub-take-turn c = out-within (c .before .before .before .before .before .before .before .before .before .before .loop .inv .0)
 
 part-take-turn-start : tie.Need-part-take-turn-start Inv-loop μ-loop
-part-take-turn-start c = out-within (c .before .before .before .before .before .before .before .before .before .before .before .loop .inv .0)
+part-take-turn-start c = out-within (c .before .before .before .before .before .before .before .before .before .before .loop .inv .0)
 
 part-take-turn-end : tie.Need-part-take-turn-end Inv-loop μ-loop
 part-take-turn-end c = le-refl _
 
 take-turn-requires : tie.Need-take-turn-requires Inv-loop μ-loop
 take-turn-requires c κs =
-    let loop = c .before .before .before .before .before .before .before .before .before .before .before .before .loop in
-    room-left (loop .out) (loop .wrote) (c .before .before .before .before .before .before .before .before .before .before .before .loop-test .taken)
+    let loop = c .before .before .before .before .before .before .before .before .before .before .before .loop in
+    room-left (loop .inv .0)
 
 add-wrote-2 : tie.Need-add-wrote-2 Inv-loop μ-loop
 add-wrote-2 c =
@@ -141,35 +143,20 @@ loop-again c =
     let line = c .before .before .before .before .before .before .before .before .before .before in
     let command = c .before .before .before .before .before .before .before .before .command .given in
     let told = ap reading-of (command .1) in
-    let inv = line .before .before .before .before .before .before .before .loop .inv in
+    let inv = line .before .before .before .before .before .before .loop .inv in
     let taken = c .before .before .before .before .take-turn in (
-      serving-more (inv .0) (here (line .before .before)) (command-of (command .0 .0)) (sym told ∙ line .read-command .ensures .0) (refl, refl)
+      answering-more (inv .0) (here (line .before .before)) (command-of (command .0 .0)) (sym told ∙ line .read-command .ensures .0) (omega arith, refl)
           (taken .ensures .moved) (put-line (out-within (inv .0)) (taken .ensures .said) (taken .kept .1 .1 .0)),
       taken .kept .1 .0 ∙ inv .1,
     )
 
-so-far-requires-2 : tie.Need-so-far-requires-2 Inv-loop μ-loop
-so-far-requires-2 c κs = tt
-
-same-length-5 : tie.Need-same-length-5 Inv-loop μ-loop
-same-length-5 c = c .before .before .loop .inv .1
-
-same-length-6 : tie.Need-same-length-6 Inv-loop μ-loop
-same-length-6 c = c .before .before .loop .inv .0 .long
-
-returns-3 : tie.Need-returns-3 Inv-loop μ-loop
-returns-3 c =
-    let inv = c .before .before .loop .inv .0 in
-    served-so-far inv (c .so-far2 .ensures) (λ h. absurd (no-room inv (c .before .loop-test .left) h))
-
-pub answer-lines-spec : {M : Type 1} → statement M
-answer-lines-spec =
+pub answer-lines-in-room-spec : {M : Type 1} → statement M
+answer-lines-in-room-spec =
     tie.close
     (tie.spec
     Inv-loop
     μ-loop
     loop-holds
-    sub-loop
     line-end-requires
     enum-known-end
     enum-told
@@ -198,8 +185,4 @@ answer-lines-spec =
     take-turn-requires
     add-wrote-2
     loop-less
-    loop-again
-    so-far-requires-2
-    same-length-5
-    same-length-6
-    returns-3)
+    loop-again)

@@ -12,7 +12,8 @@ use Rattle.rules.specs.Lines.{number-from, all-digits, number-at, Command, open
 use Rattle.rules.specs.Lines.{Reading, command, broken, body, payload-at, read}
 use Rattle.theory.specs.Tests.{either}
 use Rattle.theory.specs.Digits.{all-digits-join, all-digits-part}
-use Rattle.theory.specs.Lines.{Reads, to-command, body-end, read-ended, Ended, command-ended}
+use Rattle.theory.specs.Lines.{Reads, to-command, body-end, read-ended, Ended}
+use Rattle.theory.specs.Broken.{length-body, read-not}
 use Rattle.lines.specs.declared.digits.Spelt.{Spelt}
 use Rattle.lines.specs.declared.digits.Spelt.the-variants.{Number, Nothing}
 use Rattle.lines.specs.Spelling.{spelt, Begun}
@@ -49,30 +50,11 @@ pub part-body : (a n : ℕ) (line : List ℕ) → a + n < length line → take n
 unfolding body
 part-body a n line h = part-of a n (length line - 1) line (omega arith) (omega arith)
 
-pub length-body : (line : List ℕ) → length (body line) ≡ length line - 1
-unfolding body
-length-body line = length-take-le (length line - 1) line (omega arith)
-
 -- A LINE IS READ just where its digits are followed by the 0A and fit a command
 pub read-is : (c : Command) (line : List ℕ) → Ended c line → read line ≡ command c
 read-is c line h = ap read (h .ends) ∙ read-ended (body line) ∙ rw (h .clean) (to-command c (body line) (h .reads))
 
-pub read-not : (line : List ℕ) → ((c : Command) → Ended c line → ⊥) → broken ≡ read line
-read-not line f = told (read line) refl
-  where
-    told : (r : Reading) → read line ≡ r → broken ≡ read line
-    told (command c) e = absurd (f c (command-ended c line e))
-    told broken e = sym e
-
--- BROKEN LINES: no 0A last, a byte that is no digit, a line number or a length that no command has
-ended-last : (c : Command) (line : List ℕ) → Ended c line → getD line (length line - 1) 0 ≡ line-end
-ended-last c line h =
-    let l : length line ≡ length (body line) + 1 = ap length (h .ends) ∙ length-append (body line) (line-end ∷ []) in
-    ap (λ (xs : List ℕ). getD xs (length line - 1) 0) (h .ends) ∙ getD-at (body line) line-end [] 0 (length line - 1) (omega arith)
-
-pub unended : (line : List ℕ) → (getD line (length line - 1) 0 ≡ line-end → ⊥) → broken ≡ read line
-unended line f = read-not line (λ c h. f (ended-last c line h))
-
+-- BROKEN LINES: a byte that is no digit, a line number or a length that no command has
 pub foul : (a n : ℕ) (line : List ℕ) → a + n < length line → all-digits (take n (drop a line)) ≡ false → broken ≡ read line
 foul a n line l e =
     read-not line (λ c h. false≢true (sym e ∙ sym (ap all-digits (part-body a n line l)) ∙ all-digits-part a n (body line) (h .clean)))

@@ -1,7 +1,7 @@
 -- Where a line of an input ends, and what an input cut there is. Assumes nothing.
-use mathlib.Core.Path.{_≡_, refl, ap, _∙_}
+use mathlib.Core.Path.{_≡_, ap, _∙_}
 use mathlib.Core.Logic.{inl, inr}
-use mathlib.Core.List.{List, [], _∷_, _++_, append-nil}
+use mathlib.Core.List.{List, [], _∷_, _++_}
 use Prim.Native.Nat.{ℕ, zero, suc, _+_, _-_, _<_}
 use native.Mathlib.Omega.{arith}
 use lib.ListN.{length, getD, take, drop, length-drop}
@@ -10,6 +10,7 @@ use borrow.Author.Tests.{ne-eqb}
 use Rattle.rules.specs.Lines.{line-end}
 use Rattle.rules.specs.Reads.{complete-from, begun-from}
 use Rattle.theory.specs.Tests.{eqb?}
+use Rattle.theory.specs.Complete.{unended-made, unended-complete, unended-begun}
 use Rattle.lines.specs.Ends.{None, First}
 
 -- a byte more that is no 0A
@@ -35,20 +36,6 @@ begun-cut xs (b ∷ bs) zero h e f = rw e
 begun-cut xs (b ∷ bs) (suc k) h e f =
     rw (ne-eqb b line-end (f 0 (omega arith)))
     (begun-cut (xs ++ (b ∷ [])) bs k (omega arith) e (λ j g. f (suc j) (omega arith)))
-
--- and where there is none
-complete-none : (xs ys : List ℕ) → ((j : ℕ) → j < length ys → getD ys j 0 ≡ line-end → ⊥) → complete-from xs ys ≡ []
-unfolding complete-from
-complete-none xs [] f = refl
-complete-none xs (b ∷ bs) f =
-    rw (ne-eqb b line-end (f 0 (omega arith))) (complete-none (xs ++ (b ∷ [])) bs (λ j g. f (suc j) (omega arith)))
-
-begun-none : (xs ys : List ℕ) → ((j : ℕ) → j < length ys → getD ys j 0 ≡ line-end → ⊥) → begun-from xs ys ≡ xs ++ ys
-unfolding begun-from
-begun-none xs [] f = rw append-nil
-begun-none xs (b ∷ bs) f =
-    rw (ne-eqb b line-end (f 0 (omega arith)))
-    (begun-none (xs ++ (b ∷ [])) bs (λ j g. f (suc j) (omega arith)) ∙ append-snoc xs b bs)
 
 -- FROM A PLACE ON: the first line up to its 0A, and the rest
 pub record Cut (input : List ℕ) (from at : ℕ) : Type 0 where
@@ -79,4 +66,5 @@ pub uncut : (input : List ℕ) (from : ℕ) → None input from (length input) �
 uncut input from h =
     let f : (j : ℕ) → j < length (drop from input) → getD (drop from input) j 0 ≡ line-end → ⊥ =
     λ j g e. h (from + j) (omega arith) (omega (arith, length-drop from input)) (rw getD-drop at e) in
-    record { complete = complete-none [] (drop from input) f; begun = begun-none [] (drop from input) f }
+    let u = unended-made (drop from input) f in
+    record { complete = unended-complete [] (drop from input) u; begun = unended-begun [] (drop from input) u }

@@ -203,7 +203,8 @@ further-rounds =
     record { start = replicate 41 7; turns = refuses (marking 9) 2 true ∷ refuses totalling 2 true ∷ [] } ∷
     record { start = found; turns = refuses (opening 4096) 4 true ∷ refuses (taking 9 0) 3 true ∷ refuses sending 3 true ∷ [] } ∷
     record { start = found; turns = refuses (marking 9) 3 true ∷ refuses totalling 3 true ∷ [] } ∷
-    record { start = table (round 3 2 9 8 []); turns = refuses (taking 9 0) 5 true ∷ refuses sending 5 true ∷ refuses (marking 9) 5 true ∷ refuses totalling 5 true ∷ [] } ∷
+    record { start = table (round 3 2 9 8 []); turns = refuses (taking 9 0) 5 true ∷ refuses sending 5 true ∷ [] } ∷
+    record { start = table (round 3 2 9 8 []); turns = refuses (marking 9) 5 true ∷ refuses totalling 5 true ∷ [] } ∷
     record {
       start = table (round 1 2 16777216 1 (waits 1 2 5 ∷ []));
       turns =

@@ -4,7 +4,8 @@ use native.Mathlib.Omega.{arith}
 use lib.ListN.{take}
 use borrow.Author.Needs.{needs}
 use Rattle.lines.specs.Spelling.{Begun}
-use Rattle.lines.proofs.Commands.{spelt-number, spelt-nothing, short, unended, foul, begun, unknown}
+use Rattle.lines.proofs.Commands.{spelt-number, spelt-nothing, short, foul, begun, unknown}
+use Rattle.theory.specs.Broken.{unended}
 use Rattle.lines.proofs.reader.read_command.Statement.{statement}
 use Rattle.lines.proofs.reader.read_command.Tie as tie
 

@@ -4,7 +4,8 @@
 A reference is written "`name`, `name` in path"; "and in path" asks the same names of a further file. That a file uses a name is not enough:
 the name has to stand where FORMS says that a thing is defined. "Words" in path asks only that these words stand there. PROOFS.md also writes
 "`name`, path" and "`name` (path)", and its path may be a folder, for some file in it; where it names no file, a statement (`Name`) and a field
-are of Demands.antt. Each line of AUDIT.md's tables must have a reference, and each name there a file.
+are of Demands.antt. Each line of AUDIT.md's tables must have a reference, and each name there a file. And of the public functions just those
+that PROOFS.md lists have a `requires`.
 
   audit.py              one line for each thing that is wrong, then 'N passed, M failed'
   audit.py --self-test  tries the rules on samples
@@ -15,6 +16,9 @@ from pathlib import Path
 
 TOP = Path(__file__).resolve().parent.parent
 DEMANDS = "crates/rules/specs/Demands.antt"
+# The crates whose functions are for callers, and how a name says that there is a `requires`.
+PUBLIC = ("calls", "asking", "listing", "station", "lines", "turns")
+NEEDY = "_in_room"
 PATH = r"(?:crates|tests|docs|include|examples|bench)/[\w./-]*\w"
 NAMED = re.compile(rf"((?:(?:`[^`]+`|\"[^\"]+\")(?:, )?)+) in ({PATH})((?:[^;`|]*?,? and in {PATH})*)")
 NAMED_LOOSELY = re.compile(rf"((?:`[^`]+`(?:, and |, | and )?)+)(?:,? in |, | \()({PATH})()")
@@ -116,6 +120,28 @@ def lines(page):
             yield line, head
 
 
+def let_out(crate):
+    """The functions that a public crate lets out, each with what stands between its name and its body."""
+    folder = TOP / "crates" / crate / "src"
+    lib = (folder / "lib.rt").read_text(encoding="utf-8")
+    modules = {"lib", *re.findall(r"^pub mod (\w+);", lib, re.M)}
+    names = set(re.findall(r"^pub use (?:\w+::)+(\w+);", lib, re.M))
+    for file in sorted(folder.glob("*.rt")):
+        for name, contract in re.findall(r'^ *pub (?:extern "C" )?fn (\w+)(.*?)^ *\{', file.read_text(encoding="utf-8"), re.M | re.S):
+            if file.stem in modules or name in names:
+                yield name, contract
+
+
+def wrong_needs(page):
+    """Of the public functions: a `requires` that the name does not say, or that PROOFS.md does not list."""
+    for crate in PUBLIC:
+        for name, contract in let_out(crate):
+            if ("requires {" in contract) != name.endswith(NEEDY):
+                yield f"{name} in crates/{crate}: a `requires` and a name in {NEEDY} go together"
+            elif name.endswith(NEEDY) and f"`{name}`" not in page:
+                yield f"{name} in crates/{crate} is not among those with a `requires`"
+
+
 def report():
     passed = failed = 0
     for page in ("AUDIT.md", "PROOFS.md"):
@@ -127,8 +153,10 @@ def report():
                 print(f"audit: {page}, {line.strip('| ')[:60]}: {what}")
             failed += bool(wrong)
             passed += not wrong
-    print(f"{passed} passed, {failed} failed")
-    return failed == 0
+    for what in (needs := list(wrong_needs((TOP / "docs" / "PROOFS.md").read_text(encoding="utf-8")))):
+        print(f"audit: PROOFS.md, {what}")
+    print(f"{passed + (not needs)} passed, {failed + bool(needs)} failed")
+    return failed == 0 and not needs
 
 
 # Whether a text defines the name `it`, by the suffix of its file.

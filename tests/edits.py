@@ -51,13 +51,24 @@ KINDS = [
     ("refusals 10 and 11 exchanged", "asking/ten_and_eleven_exchanged"),
     ("refusal 5 given in the last slot", OVER),
     ("a listing whose count is not the plan's rows", "listing/list_count_of_all_rows"),
-    ("a listing that touches an entry past the count", "listing/list_past_the_count"),
+    ("a listing with a count of 0", "listing/list_count_of_0 rules/list_count_of_0"),
+    ("a listing that touches an entry past the count", "listing/list_past_the_count rules/entries_past_the_count_changed"),
     ("canonical order broken among equals", "order/later_ticket_first rules/tie_by_larger_ticket"),
     ("a reader that takes lower-case digits", "lines/lower_case_digits_read"),
     ("a payload off by one digit", "lines/payload_off_by_one_digit"),
     ("a payload taken from a refused line", "lines/payload_of_a_refused_line"),
     ("a writer that changes a byte on refusal 12", "lines/bytes_changed_on_refusal_12"),
+    ("a payload of 50 digits", "lines/payload_of_50_digits rules/payload_of_50_digits"),
     ("a reply line of the wrong step", "lines/step_of_the_wrong_kind turns/leap_said_as_ordinary"),
+    ("a kept blank that goes out and stays", "leap/sent_row_stays rules/sent_blank_stays"),
+    ("a leap's shifts that begin at p's due slot", "rules/shifts_from_ps_due_slot"),
+    ("a refusal that changes something", "listing/list_refused_but_written rules/refused_call_writes rules/refused_write_clears"),
+    ("a program that writes no reply", "turns/no_reply_written"),
+    ("a program that says FF02 for FF01", "turns/refusal_2_for_1 turns/unended_line_gets_refusal_2 rules/reader_refuses_by_2"),
+    ("a program that refuses a line split over two reads", "turns/split_line_refused rules/split_line_lost"),
+    ("a program that passes over an unended line of one byte", "turns/one_byte_passed_over rules/unended_byte_passed_over"),
+    ("a program that goes on after refusal 1", "turns/refusal_1_goes_on rules/refusal_1_goes_on"),
+    ("a program whose table is sevens at first", "turns/table_of_sevens rules/table_of_sevens"),
 ]
 
 # What the edits of a crate aim at.
@@ -80,7 +91,6 @@ CONTRACTS = {
     "station": "each exported call: the packed reply (`pack`) and the bytes (`Exports`, `Exports-look`)",
     "lines": "`read_command` (`read`), `payload` (`Part`), `write_line` (`Writes`), `line_end` (`Ends`), the reply writers (`Replies`)",
     "turns": "`serve_in_room` (`Serves`): one read, and every byte it leaves; `fresh_table`; `answer_lines_in_room` (`Answers`), `take_turn` (`Turns`)",
-    "stationround": "`main`, which has no contract, by the invariant in its proof (`So-far`): table and bytes held are those after the reads so far",
 }
 
 

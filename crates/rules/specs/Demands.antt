@@ -184,14 +184,14 @@ Write-refusals =
 unfoldable pub Read-refusals : Type 0
 Read-refusals = (line : List ℕ) → read-given line (read-refusal line)
 
-abbrev pub Placed : Place → (start end : ℕ) → Type 0
-Placed p a b = (p .start ≡ a) × (p .end ≡ b)
+abbrev pub Place-is : Place → (start end : ℕ) → Type 0
+Place-is p a b = (p .start ≡ a) × (p .end ≡ b)
 
 unfoldable pub Payload-places : Type 0
 Payload-places =
-    ((line : List ℕ) → No-command line → Placed (payload-place line) 0 0)
-    × ((c : Command) → stands c [] ≡ true → Placed (payload-place (text c [])) 0 0)
-    × ((c : Command) (ps : List ℕ) → stands c ps ≡ true → 1 ≤ length ps → Placed (payload-place (text c ps)) payload-at (payload-at + length ps))
+    ((line : List ℕ) → No-command line → Place-is (payload-place line) 0 0)
+    × ((c : Command) → stands c [] ≡ true → Place-is (payload-place (text c [])) 0 0)
+    × ((c : Command) (ps : List ℕ) → stands c ps ≡ true → 1 ≤ length ps → Place-is (payload-place (text c ps)) payload-at (payload-at + length ps))
 
 -- THE PROGRAM: for every way in which an input is cut into reads, what is written for them, one after another, is what the whole prints;
 -- the table is that of the calls of its lines, and the line begun is held

@@ -9,7 +9,7 @@ use lib.ListN.{length}
 use Rattle.rules.specs.Lines.{Command, open-line, take-line, send-line, text, Reading, command, broken, reading-refusal, read, read-refusal}
 use Rattle.rules.specs.Lines.{payload-at, place-of, payload-place, payload}
 use Rattle.rules.specs.Conditions.{No-command, read-given}
-use Rattle.rules.specs.Demands.{Placed, Read-refusals, Payload-places}
+use Rattle.rules.specs.Demands.{Place-is, Read-refusals, Payload-places}
 use Rattle.theory.specs.Lines.{front-size, length-text, Stands, from-stands, not-broken, read-text, text-read}
 
 -- a line is read as a command, or is none's text
@@ -31,18 +31,18 @@ read-refusals line = elim (read? line) [
 ]
 
 -- THE PLACE, by the reading and the line's length
-pub place-broken : (line : List ℕ) → read line ≡ broken → Placed (payload-place line) 0 0
+pub place-broken : (line : List ℕ) → read line ≡ broken → Place-is (payload-place line) 0 0
 unfolding payload-place place-of
 place-broken line e = rw e (refl, refl)
 
-pub place-none : (c : Command) (n : ℕ) → n ≡ front-size c + 1 → Placed (place-of (command c) n) 0 0
+pub place-none : (c : Command) (n : ℕ) → n ≡ front-size c + 1 → Place-is (place-of (command c) n) 0 0
 unfolding place-of front-size
 place-none (open-line l) n e = (refl, refl)
 place-none (take-line d w) n e = rw (le-ltb (suc payload-at) n (omega arith)) (refl, refl)
 place-none send-line n e = (refl, refl)
 
 pub place-some : (c : Command) (ps : List ℕ) (n : ℕ) → Stands c ps → 1 ≤ length ps → n ≡ front-size c + length ps + 1 →
-    Placed (place-of (command c) n) payload-at (payload-at + length ps)
+    Place-is (place-of (command c) n) payload-at (payload-at + length ps)
 unfolding place-of front-size Stands
 place-some (open-line l) ps n s h e = absurd (omega (arith, s .1))
 place-some (take-line d w) ps n s h e = rw (lt-ltb (suc payload-at) n (omega arith)) (refl, omega arith)

@@ -104,14 +104,14 @@ Refused-unchanged =
     ((c : Call) (t : List ℕ) → Refused (refusal c t) (answer c t) t (left c t))
     × ((c : Command) (ps z : List ℕ) → Refused (write-refusal c ps (length z)) (write-answer c ps (length z)) z (write-left c ps z))
 
--- and by the reply's number alone, 0 where the call is accepted
-unfoldable pub Numbers : Type 0
-Numbers = (c : Call) (t : List ℕ) → number-of (answer c t) ≡ refusal c t
-
 unfoldable pub List-refused-unchanged : Type 1
 List-refused-unchanged =
     (E : Type 0) (entry : Row → E) (t : List ℕ) (es : List E) →
     Refused (list-refusal t (length es)) (list-answer t (length es)) es (list-left entry t es)
+
+-- a reply's number is the refusal's, 0 where the call is accepted
+unfoldable pub Numbers : Type 0
+Numbers = (c : Call) (t : List ℕ) → number-of (answer c t) ≡ refusal c t
 
 -- DEMAND 2: tables read back; every sound round's plan, reachable or not, is PlanM's; the orders, and the golden comparison, are what their names say
 abbrev pub Sound-round : Round → Type 0

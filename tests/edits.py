@@ -63,12 +63,12 @@ KINDS = [
     ("a kept blank that goes out and stays", "leap/sent_row_stays rules/sent_blank_stays"),
     ("a leap's shifts that begin at p's due slot", "rules/shifts_from_ps_due_slot"),
     ("a refusal that changes something", "listing/list_refused_but_written rules/refused_call_writes rules/refused_write_clears"),
-    ("a program that writes no reply", "turns/no_reply_written"),
-    ("a program that says FF02 for FF01", "turns/refusal_2_for_1 turns/unended_line_gets_refusal_2 rules/reader_refuses_by_2"),
-    ("a program that refuses a line split over two reads", "turns/split_line_refused rules/split_line_lost"),
-    ("a program that passes over an unended line of one byte", "turns/one_byte_passed_over rules/unended_byte_passed_over"),
-    ("a program that goes on after refusal 1", "turns/refusal_1_goes_on rules/refusal_1_goes_on"),
-    ("a program whose table is sevens at first", "turns/table_of_sevens rules/table_of_sevens"),
+    ("a program that writes no reply", "serving/no_reply_written"),
+    ("a program that says FF02 for FF01", "serving/refusal_2_for_1 serving/unended_line_gets_refusal_2 rules/reader_refuses_by_2"),
+    ("a program that refuses a line split over two reads", "serving/split_line_refused rules/split_line_lost"),
+    ("a program that passes over an unended line of one byte", "serving/one_byte_passed_over rules/unended_byte_passed_over"),
+    ("a program that goes on after refusal 1", "serving/refusal_1_goes_on rules/refusal_1_goes_on"),
+    ("a program whose table is sevens at first", "serving/table_of_sevens rules/table_of_sevens"),
 ]
 
 # What the edits of a crate aim at.
@@ -90,7 +90,8 @@ CONTRACTS = {
     "listing": "`list_plan` (`Lists`): reply and entries",
     "station": "each exported call: the packed reply (`pack`) and the bytes (`Exports`, `Exports-look`)",
     "lines": "`read_command` (`read`), `payload` (`Part`), `write_line` (`Writes`), `line_end` (`Ends`), the reply writers (`Replies`)",
-    "turns": "`serve_in_room` (`Serves`): one read, and every byte it leaves; `fresh_table`; `answer_lines_in_room` (`Answers`), `take_turn` (`Turns`)",
+    "turns": "`take_turn_in_room` (`Turns`): a command's call on the table, and its reply's line",
+    "serving": "`serve_in_room` (`Serves`): one read, and every byte it leaves; `answer_lines_in_room` (`Answers`); `fresh_table`",
 }
 
 

@@ -11,8 +11,8 @@ use borrow.Rule.Slice.PartMut.{putMid}
 use Rattle.rules.specs.Lines.{fresh-table}
 use Rattle.rules.specs.Reads.{Between, served, between-after, Some-bytes}
 use Rattle.theory.specs.Tests.{either}
-use Rattle.turns.specs.declared.Served.{Served}
-use Rattle.turns.specs.Serving.{after-read, Serves}
+use Rattle.serving.specs.declared.Served.{Served}
+use Rattle.serving.specs.Serving.{after-read, Serves}
 
 -- one read more
 more : (t h : List ℕ) (xs : List (List ℕ)) (x : List ℕ) {z k : List ℕ} → between-after t h xs ≡ record { table = z; held = k; over = false } →

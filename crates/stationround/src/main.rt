@@ -4,8 +4,8 @@ ghost use mathlib.Core.Path.{_≡_};
 ghost use lib.ListN.{length, take};
 use libc::STDIN_FILENO;
 use libc::STDOUT_FILENO;
-use turns::fresh_table;
-use turns::serve_in_room;
+use serving::fresh_table;
+use serving::serve_in_room;
 
 // Replies to all complete lines are written before the next read. A proved loop has to end, so it counts down from a number that no run uses up.
 fn main() {

@@ -1,5 +1,1 @@
 pub mod Said
-pub mod Put
-pub mod Answered
-pub mod Moved
-pub mod OneRead

@@ -1,3 +1,1 @@
 pub mod Turns
-pub mod Answering
-pub mod Serving

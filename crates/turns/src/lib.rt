@@ -1,29 +1,5 @@
-// What the program does between a read and a write, all of it on lent buffers.
-ghost use mathlib.Core.Path.{_≡_};
-ghost use Rattle.rules.specs.Lines.{fresh-table};
-
+// A command's turn on the table, and the line of its reply.
 mod saying; // saying.rt: the line of each call's reply
 mod turning; // turning.rt: a command's turn
-mod answering; // answering.rt: the complete lines of a buffer
-mod serving; // serving.rt: one read
 
-pub use serving::serve_in_room;
-
-// After one read: the bytes to write, the bytes held at the input's front, and whether nothing more is to be read.
-pub struct Served {
-    pub wrote: usize,
-    pub held: usize,
-    pub over: bool,
-}
-
-// A command's longest line: its number, a due slot, a weight, a payload and the 0A.
-pub const LONGEST_LINE: usize = 63;
-
-// A head and 1,024 rows.
-pub const TABLE_SIZE: usize = 24592;
-
-pub fn fresh_table() -> [u8; TABLE_SIZE]
-    ensures { λ r. ⌜ r ≡ fresh-table ⌝ }
-{
-    [0; TABLE_SIZE]
-}
+pub use turning::take_turn_in_room;

@@ -11,7 +11,7 @@ use calls::sending::send_slot;
 use calls::taking::take_frame;
 use lines::Command;
 
-pub fn take_turn(command: Command, table: &mut [u8], reply: &mut [u8]) -> usize
+pub fn take_turn_in_room(command: Command, table: &mut [u8], reply: &mut [u8]) -> usize
     requires { ⌜ 15 ≤ length (now reply) ⌝ }
     ensures { λ r. ⌜ Turns (command-of command) (now (table .entry)) (now (table .exit)) (now (reply .entry)) (now (reply .exit)) r ⌝ }
 {

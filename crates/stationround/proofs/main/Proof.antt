@@ -3,7 +3,7 @@ use mathlib.Core.Path.{_≡_}
 use Prim.Native.Nat.{_≤_}
 use native.Mathlib.Omega.{arith}
 use lib.ListN.{length, length-take}
-use Rattle.turns.proofs.OneRead.{held-short, wrote-within}
+use Rattle.serving.proofs.OneRead.{held-short, wrote-within}
 use Rattle.stationround.proofs.SoFar.{So-far, so-far-none, so-far-more}
 use borrow.Author.Needs.{needs}
 use Rattle.stationround.proofs.main.Statement.{statement}

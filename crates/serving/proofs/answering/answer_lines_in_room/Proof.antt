@@ -9,11 +9,11 @@ use Rattle.rules.specs.Calls.{refused}
 use Rattle.rules.specs.Lines.{reply-text}
 use Rattle.lines.specs.Cases.{command-of, reading-of}
 use Rattle.lines.specs.Ends.{Ends, First}
 use Rattle.turns.proofs.Said.{said-by}
-use Rattle.turns.proofs.Put.{put-line, reply-within}
-use Rattle.turns.proofs.Answered.{Answering, out-within, room-left, answering-none, answering-more, answered-broken, answered-all}
-use Rattle.turns.proofs.answering.answer_lines_in_room.Statement.{statement}
-use Rattle.turns.proofs.answering.answer_lines_in_room.Tie as tie
+use Rattle.serving.proofs.Put.{put-line, reply-within}
+use Rattle.serving.proofs.Answered.{Answering, out-within, room-left, answering-none, answering-more, answered-broken, answered-all}
+use Rattle.serving.proofs.answering.answer_lines_in_room.Statement.{statement}
+use Rattle.serving.proofs.answering.answer_lines_in_room.Tie as tie
 
 abbrev Inv-loop : tie.InvT-loop
 Inv-loop input table₀ out₀ read₀ wrote₀ table out read wrote = Answering input table₀ table out₀ out read wrote × (length table ≡ length table₀)
@@ -115,23 +115,23 @@ returns-2 c =
       refl,
     )
 
-sub-take-turn : tie.Need-sub-take-turn Inv-loop μ-loop
-sub-take-turn c = out-within (c .before .before .before .before .before .before .before .before .before .before .loop .inv .0)
+sub-take-turn-in-room : tie.Need-sub-take-turn-in-room Inv-loop μ-loop
+sub-take-turn-in-room c = out-within (c .before .before .before .before .before .before .before .before .before .before .loop .inv .0)
 
-part-take-turn-start : tie.Need-part-take-turn-start Inv-loop μ-loop
-part-take-turn-start c = out-within (c .before .before .before .before .before .before .before .before .before .before .loop .inv .0)
+part-take-turn-in-room-start : tie.Need-part-take-turn-in-room-start Inv-loop μ-loop
+part-take-turn-in-room-start c = out-within (c .before .before .before .before .before .before .before .before .before .before .loop .inv .0)
 
-part-take-turn-end : tie.Need-part-take-turn-end Inv-loop μ-loop
-part-take-turn-end c = le-refl _
+part-take-turn-in-room-end : tie.Need-part-take-turn-in-room-end Inv-loop μ-loop
+part-take-turn-in-room-end c = le-refl _
 
-take-turn-requires : tie.Need-take-turn-requires Inv-loop μ-loop
-take-turn-requires c κs =
+take-turn-in-room-requires : tie.Need-take-turn-in-room-requires Inv-loop μ-loop
+take-turn-in-room-requires c κs =
     let loop = c .before .before .before .before .before .before .before .before .before .before .before .loop in
     room-left (loop .inv .0)
 
 add-wrote-2 : tie.Need-add-wrote-2 Inv-loop μ-loop
 add-wrote-2 c =
-    let taken = c .before .before .before .before .take-turn in
+    let taken = c .before .before .before .before .take-turn-in-room in
     omega (arith, reply-within (taken .ensures .said) (taken .kept .1 .1 .0))
 
 loop-less : tie.Need-loop-less Inv-loop μ-loop
@@ -144,7 +144,7 @@ loop-again c =
     let command = c .before .before .before .before .before .before .before .before .command .given in
     let told = ap reading-of (command .1) in
     let inv = line .before .before .before .before .before .before .loop .inv in
-    let taken = c .before .before .before .before .take-turn in (
+    let taken = c .before .before .before .before .take-turn-in-room in (
       answering-more (inv .0) (here (line .before .before)) (command-of (command .0 .0)) (sym told ∙ line .read-command .ensures .0) (omega arith, refl)
           (taken .ensures .moved) (put-line (out-within (inv .0)) (taken .ensures .said) (taken .kept .1 .1 .0)),
       taken .kept .1 .0 ∙ inv .1,
@@ -179,10 +179,10 @@ answer-lines-in-room-spec =
     same-length-3
     same-length-4
     returns-2
-    sub-take-turn
-    part-take-turn-start
-    part-take-turn-end
-    take-turn-requires
+    sub-take-turn-in-room
+    part-take-turn-in-room-start
+    part-take-turn-in-room-end
+    take-turn-in-room-requires
     add-wrote-2
     loop-less
     loop-again)

@@ -14,9 +14,9 @@ use Rattle.theory.specs.Tests.{ltb?}
 use Rattle.lines.specs.Ends.{None, First}
 use Rattle.lines.proofs.Commands.{short}
 use Rattle.lines.proofs.Cuts.{cut, uncut}
-use Rattle.turns.specs.declared.answering.Progress.{Progress}
-use Rattle.turns.specs.Answering.{lines, bytes-read, Answers}
-use Rattle.turns.proofs.Put.{Put, reply-long, refusal-long}
+use Rattle.serving.specs.declared.answering.Progress.{Progress}
+use Rattle.serving.specs.Answering.{lines, bytes-read, Answers}
+use Rattle.serving.proofs.Put.{Put, reply-long, refusal-long}
 
 -- A LINE and those behind it: a command's, and one that is broken
 record Told (c : Command) (line : List ℕ) (more : List (List ℕ)) (t : List ℕ) : Type 0 where

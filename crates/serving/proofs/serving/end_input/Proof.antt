@@ -1,11 +1,11 @@
 -- `turns::serving::end_input` meets its contract. Assumes nothing.
 use Rattle.rules.specs.Calls.{refused}
 use Rattle.rules.specs.Lines.{reply-text}
-use Rattle.turns.proofs.OneRead.{ending-none, ending-refused}
+use Rattle.serving.proofs.OneRead.{ending-none, ending-refused}
 use Rattle.turns.proofs.Said.{said-by}
 use borrow.Author.Needs.{needs}
-use Rattle.turns.proofs.serving.end_input.Statement.{statement}
-use Rattle.turns.proofs.serving.end_input.Tie as tie
+use Rattle.serving.proofs.serving.end_input.Statement.{statement}
+use Rattle.serving.proofs.serving.end_input.Tie as tie
 
 returns : tie.Need-returns
 returns c = ending-none {held = c .before .before .args .held} (search needs)

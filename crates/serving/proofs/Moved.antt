@@ -6,7 +6,7 @@ use native.Mathlib.Omega.{arith}
 use native.Mathlib.Numerals.{add-one}
 use lib.ListN.{length, getD, set, take, drop, length-set, length-drop, take-append-drop}
 use lib.Seq.{take-suc, take-suc-set, drop-set-lt, getD-drop, drop-drop}
-use Rattle.turns.specs.Serving.{moved-front}
+use Rattle.serving.specs.Serving.{moved-front}
 
 -- the first i stand at the front; from there on nothing has changed
 pub record Moving (before after : List ℕ) (from i : ℕ) : Type 0 where

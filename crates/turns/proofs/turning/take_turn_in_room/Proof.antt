@@ -1,11 +1,11 @@
--- `turns::turning::take_turn` meets its contract: the call that the command asks for, and its reply's line. Assumes nothing.
+-- `turns::turning::take_turn_in_room` meets its contract: the call that the command asks for, and its reply's line. Assumes nothing.
 use mathlib.Core.Path.{ap, ap₂}
 use Rattle.rules.specs.Calls.{opening, taking}
 use Rattle.rules.specs.Lines.{call-of}
 use Rattle.turns.proofs.Said.{turned}
 use borrow.Author.Needs.{needs}
-use Rattle.turns.proofs.turning.take_turn.Statement.{statement}
-use Rattle.turns.proofs.turning.take_turn.Tie as tie
+use Rattle.turns.proofs.turning.take_turn_in_room.Statement.{statement}
+use Rattle.turns.proofs.turning.take_turn_in_room.Tie as tie
 
 enum-known-command : tie.Need-enum-known-command
 enum-known-command c = c .match .keys1
@@ -72,8 +72,8 @@ returns-3 c =
     let told = c .before .before .before .before .before .before .before .before .enum-told .given .1 in
     turned _ _ _ _ _ _ _ _ (rw told) (c .before .before .before .before .before .before .send-slot .ensures) (c .before .before .say-sent .ensures)
 
-pub take-turn-spec : {M : Type 1} → statement M
-take-turn-spec =
+pub take-turn-in-room-spec : {M : Type 1} → statement M
+take-turn-in-room-spec =
     tie.close
     (tie.spec
     enum-known-command

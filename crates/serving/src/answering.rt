@@ -3,13 +3,13 @@ ghost use mathlib.Core.Path.{_≡_};
 ghost use mathlib.Core.Bool.{false};
 ghost use Prim.Native.Nat.{_+_, _*_, _≤_};
 ghost use lib.ListN.{length};
-ghost use Rattle.turns.specs.Answering.{Answers};
-use crate::turning::take_turn;
+ghost use Rattle.serving.specs.Answering.{Answers};
 use lines::LineEnd;
 use lines::Reading;
 use lines::line_end;
 use lines::read_command;
 use lines::write_refusal_in_room;
+use turns::take_turn_in_room;
 
 // How far the lines of a buffer are answered: the bytes read, the bytes of replies, and whether refusal 1 was among them.
 pub struct Progress {
@@ -39,7 +39,7 @@ pub fn answer_lines_in_room(input: &[u8], table: &mut [u8], out: &mut [u8]) -> P
                 stopped: true,
             };
         };
-        wrote += take_turn(command, table, &mut out[wrote..]);
+        wrote += take_turn_in_room(command, table, &mut out[wrote..]);
         read = next;
     }
 }

@@ -1,10 +1,10 @@
 -- `turns::serving::keep_rest` meets its contract: the first i bytes are moved; what is left of the count falls. Assumes nothing.
-use Rattle.turns.proofs.Moved.{moving-none, moving-more, moved}
+use Rattle.serving.proofs.Moved.{moving-none, moving-more, moved}
 use Prim.Native.Nat.{_-_, _≤_}
-use Rattle.turns.proofs.Moved.{Moving}
+use Rattle.serving.proofs.Moved.{Moving}
 use borrow.Author.Needs.{needs}
-use Rattle.turns.proofs.serving.keep_rest.Statement.{statement}
-use Rattle.turns.proofs.serving.keep_rest.Tie as tie
+use Rattle.serving.proofs.serving.keep_rest.Statement.{statement}
+use Rattle.serving.proofs.serving.keep_rest.Tie as tie
 
 abbrev Inv-loop : tie.InvT-loop
 Inv-loop buffer₀ from end count i₀ buffer i = Moving buffer₀ buffer from i × (i ≤ count)

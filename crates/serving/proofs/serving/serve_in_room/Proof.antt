@@ -4,10 +4,10 @@ use Prim.Native.Nat.{_+_}
 use native.Mathlib.Omega.{arith}
 use lib.ListN.{length-take}
 use lib.Seq.{length-take-le}
-use Rattle.turns.proofs.OneRead.{read-within, serves-end, serves-stopped, serves-overlong, serves-on}
+use Rattle.serving.proofs.OneRead.{read-within, serves-end, serves-stopped, serves-overlong, serves-on}
 use borrow.Author.Needs.{needs}
-use Rattle.turns.proofs.serving.serve_in_room.Statement.{statement}
-use Rattle.turns.proofs.serving.serve_in_room.Tie as tie
+use Rattle.serving.proofs.serving.serve_in_room.Statement.{statement}
+use Rattle.serving.proofs.serving.serve_in_room.Tie as tie
 
 end-input-requires : tie.Need-end-input-requires
 end-input-requires c κs = search needs

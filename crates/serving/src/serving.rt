@@ -3,7 +3,7 @@ ghost use mathlib.Core.Path.{_≡_};
 ghost use mathlib.Core.Bool.{true};
 ghost use Prim.Native.Nat.{_+_, _*_, _≤_};
 ghost use lib.ListN.{length};
-ghost use Rattle.turns.specs.Serving.{Serves, Ending, Behind, moved-front};
+ghost use Rattle.serving.specs.Serving.{Serves, Ending, Behind, moved-front};
 use crate::LONGEST_LINE;
 use crate::Served;
 use crate::answering::answer_lines_in_room;

@@ -2,12 +2,12 @@
 use native.Mathlib.Omega.{arith}
 use Rattle.rules.specs.Calls.{refused}
 use Rattle.rules.specs.Lines.{reply-text}
 use Rattle.turns.proofs.Said.{said-by}
-use Rattle.turns.proofs.Put.{put-line, reply-within}
-use Rattle.turns.proofs.OneRead.{behind}
+use Rattle.serving.proofs.Put.{put-line, reply-within}
+use Rattle.serving.proofs.OneRead.{behind}
 use borrow.Author.Needs.{needs}
-use Rattle.turns.proofs.serving.refuse_behind.Statement.{statement}
-use Rattle.turns.proofs.serving.refuse_behind.Tie as tie
+use Rattle.serving.proofs.serving.refuse_behind.Statement.{statement}
+use Rattle.serving.proofs.serving.refuse_behind.Tie as tie
 
 sub-write-refusal-in-room : tie.Need-sub-write-refusal-in-room
 sub-write-refusal-in-room c = search needs

@@ -13,11 +13,11 @@ use Rattle.rules.specs.Lines.{reply-text, printed-from}
 use Rattle.rules.specs.Reads.{begun-from, calls-of, stops, overlong, served, written}
 use Rattle.theory.specs.Tests.{ltb?}
 use Rattle.lines.specs.Writing.{Replies}
-use Rattle.turns.specs.declared.answering.Progress.{Progress}
-use Rattle.turns.specs.declared.Served.{Served}
-use Rattle.turns.specs.Answering.{lines, Answers}
-use Rattle.turns.specs.Serving.{after-read, to-write, Serves, Ending, Behind, moved-front}
-use Rattle.turns.proofs.Put.{Put}
+use Rattle.serving.specs.declared.answering.Progress.{Progress}
+use Rattle.serving.specs.declared.Served.{Served}
+use Rattle.serving.specs.Answering.{lines, Answers}
+use Rattle.serving.specs.Serving.{after-read, to-write, Serves, Ending, Behind, moved-front}
+use Rattle.serving.proofs.Put.{Put}
 
 -- A READ OF SOME BYTES, by all the bytes that are there then
 record Some (t h x there : List ℕ) : Type 0 where

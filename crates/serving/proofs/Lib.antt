@@ -1,0 +1,4 @@
+pub mod Put
+pub mod Answered
+pub mod Moved
+pub mod OneRead

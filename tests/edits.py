@@ -28,7 +28,7 @@ TURNED_DOWN = " ".join(f"calls/every_{call}_turned_down" for call in ("opening",
 
 BREAKAGES = [
     ("a sender that plans the first slot and plays that plan out afterwards (demand 2)",
-     "pick/canonical_first_instead_of_the_pick rules/canonical_first"),
+     "rules/canonical_first"),
     ("a listing whose count is not the plan's rows (2)", "listing/list_count_of_all_rows order/rows_left_out_are_listed"),
     ("a table reported full with a row free, or a round reported over in its last slot (1)", "calls/full_with_a_row_free " + OVER),
     ("a sender always silent (2)", "sender/always_silent sender/silence_with_a_row_waiting"),
@@ -38,12 +38,12 @@ BREAKAGES = [
 
 KINDS = [
     ("a sender always silent", "sender/always_silent"),
-    ("the canonical first instead of the pick", "pick/canonical_first_instead_of_the_pick rules/canonical_first"),
+    ("the canonical first instead of the pick", "rules/canonical_first"),
     ("the heaviest instead of the pick", "pick/the_heaviest_goes rules/the_heaviest_goes"),
     ("φ by a smaller Fibonacci pair", "pick/smaller_fibonacci_pair rules/golden_ratio_near"),
     ("r raised without shifting the h frames", "shifting/links_not_shifted"),
     ("a raised blank dropped", "leap/raised_blank_dropped rules/raised_blank_dropped"),
-    ("the lightest instead of the heaviest h", "shifting/lightest_link rules/lightest_shifted"),
+    ("the lightest instead of the heaviest h", "rules/lightest_shifted"),
     ("a mark that ignores the first tight slot", "marks/mark_ignores_the_first_tight_slot"),
     ("a substitute from before the tight slot", "marks/substitute_from_before_the_tight_slot"),
     ("a sender that forgets to move the slot on", "closing/slot_not_moved_on"),

@@ -1,4 +1,5 @@
--- Further rounds by hand, in the form of Rounds.antt, for what P1 to P10 leave open: each keeps a wrong definition out. Assumes nothing.
+-- Further rounds by hand, in the form of Rounds.antt, for what P1 to P10 leave open: each keeps a wrong definition out.
+-- Their values are from a model written from document 01 alone. Assumes nothing.
 use mathlib.Core.Path.{_≡_, refl}
 use mathlib.Core.Bool.{true}
 use mathlib.Core.List.{List, [], _∷_}

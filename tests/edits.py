@@ -48,7 +48,7 @@ KINDS = [
     ("a substitute from before the tight slot", "marks/substitute_from_before_the_tight_slot"),
     ("a sender that forgets to move the slot on", "closing/slot_not_moved_on"),
     ("an expired row left in", "closing/expired_row_left_in"),
-    ("refusals 10 and 11 exchanged", "asking/ten_and_eleven_exchanged"),
+    ("refusals 10 and 11 exchanged", "asking/ten_and_eleven_exchanged rules/ten_and_eleven_exchanged"),
     ("refusal 5 given in the last slot", OVER),
     ("a listing whose count is not the plan's rows", "listing/list_count_of_all_rows"),
     ("a listing with a count of 0", "listing/list_count_of_0 rules/list_count_of_0"),

@@ -1,5 +1,5 @@
 -- Further rounds by hand, in the form of Rounds.antt, for what P1 to P10 leave open: each keeps a wrong definition out.
--- Their values are from a model written from document 01 alone. Assumes nothing.
+-- Their values are from a model written from document 01 alone; those of the substitutes asked are worked out by hand. Assumes nothing.
 use mathlib.Core.Path.{_≡_, refl}
 use mathlib.Core.Bool.{true}
 use mathlib.Core.List.{List, [], _∷_}
@@ -9,7 +9,7 @@ use Rattle.rules.specs.Plan.{due-by, fits-from, feasible, kept, blanks-f
 use Rattle.rules.specs.Steps.{opened, taken, changed, without, heaviest-between, shifted, replaced, leapt, still-due, is-ordinary, sent}
 use Rattle.rules.specs.Table.{low, value, field, row-bytes, rows-bytes, table, rows-in, rows-of, round-in, length-good, rows-good, round-good, same, table-refusal}
 use Rattle.rules.specs.Calls.{opening, taking, sending, marking, totalling, silence, frame, kept-blank, ordinary, leap, refused, done, ticket, step, amount, blank-due, number-of, first, open-refusal, take-refusal, send-refusal, mark-refusal, round-refusal, out-of, says, leaves, table-first, refusal, answer, left, with-ticket, stand-in, substitute-answer, list-refusal, list-answer, list-left}
-use Rattle.rules.proofs.Played.{waits, keeps, old, turn, listing, lists, refuses, Hand, found, played}
+use Rattle.rules.proofs.Played.{waits, keeps, old, turn, listing, substituting, lists, refuses, Hand, found, played}
 
 -- THE TABLE
 abbrev pub further-rounds : List Hand
@@ -180,6 +180,23 @@ further-rounds =
           lists 2 (refused 12) (old 1 ∷ old 0 ∷ []) ∷
           [];
     } ∷
+    -- substitutes asked: 11 outside the plan; 10 of a ticket in no row: 0, the next one, one gone, one sent
+    record {
+      start = table (round 0 2 5 8 (waits 1 0 4 ∷ waits 2 1 10 ∷ waits 3 2 5 ∷ waits 4 2 3 ∷ []));
+      turns =
+          substituting 1 (ticket 1) ∷
+          substituting 2 (ticket 4) ∷
+          substituting 3 (ticket 4) ∷
+          substituting 4 (refused 11) ∷
+          substituting 0 (refused 10) ∷
+          substituting 5 (refused 10) ∷
+          turn sending (step (leap (frame 2))) (waits 3 1 5 ∷ waits 4 2 4 ∷ []) (5 ∷ 4 ∷ []) ∷
+          substituting 1 (refused 10) ∷
+          substituting 2 (refused 10) ∷
+          substituting 3 (ticket 3) ∷
+          substituting 4 (blank-due 2) ∷
+          [];
+    } ∷
     -- the last ticket is given, and then 8
     record {
       start = table (round 0 0 16777215 8 []);
@@ -201,11 +218,11 @@ further-rounds =
     } ∷
     -- each number by its condition, in its order, and every byte as it was: 2, 3, 5, 6, 7, 8 and 9, and 4
     record { start = replicate 41 7; turns = refuses (opening 4096) 2 true ∷ refuses (taking 9 0) 2 true ∷ refuses sending 2 true ∷ [] } ∷
-    record { start = replicate 41 7; turns = refuses (marking 9) 2 true ∷ refuses totalling 2 true ∷ [] } ∷
+    record { start = replicate 41 7; turns = refuses (marking 9) 2 true ∷ refuses totalling 2 true ∷ substituting 9 (refused 2) ∷ lists 0 (refused 2) [] ∷ [] } ∷
     record { start = found; turns = refuses (opening 4096) 4 true ∷ refuses (taking 9 0) 3 true ∷ refuses sending 3 true ∷ [] } ∷
-    record { start = found; turns = refuses (marking 9) 3 true ∷ refuses totalling 3 true ∷ [] } ∷
+    record { start = found; turns = refuses (marking 9) 3 true ∷ refuses totalling 3 true ∷ substituting 9 (refused 3) ∷ [] } ∷
     record { start = table (round 3 2 9 8 []); turns = refuses (taking 9 0) 5 true ∷ refuses sending 5 true ∷ [] } ∷
-    record { start = table (round 3 2 9 8 []); turns = refuses (marking 9) 5 true ∷ refuses totalling 5 true ∷ [] } ∷
+    record { start = table (round 3 2 9 8 []); turns = refuses (marking 9) 5 true ∷ refuses totalling 5 true ∷ substituting 9 (refused 5) ∷ [] } ∷
     record {
       start = table (round 1 2 16777216 1 (waits 1 2 5 ∷ []));
       turns =

@@ -26,11 +26,13 @@ lent (suc n) = old n ∷ lent n
 
 -- A TURN: a call with its reply, then the waiting rows and the marks from the current slot to the last;
 -- or the tickets of the plan in canonical order with the substitute of each;
+-- or the substitute asked of a ticket, with the reply;
 -- or the plan listed into so many entries, with the reply and all entries afterwards;
 -- or a call that is refused by a number, and whether every byte is as it was
 pub data Turn : Type 0 where
   turn : Call → Reply → (rows : List Row) → (marks : List ℕ) → Turn
   listing : (tickets : List ℕ) → (substitutes : List Reply) → Turn
+  substituting : (ticket : ℕ) → Reply → Turn
   lists : (room : ℕ) → Reply → (entries : List Row) → Turn
   refuses : Call → (number : ℕ) → (unchanged : Bool) → Turn
 
@@ -60,6 +62,7 @@ replayed t (turn c a xs ms ∷ ts) =
     let z = left c t in turn c (answer c t) (round-in z .rows) (marks-of (round-in z)) ∷ replayed z ts
 replayed t (listing ks ss ∷ ts) =
     let is = tickets-of (listed (round-in t)) in listing is (map (λ (k : ℕ). substitute-answer k t) is) ∷ replayed t ts
+replayed t (substituting k a ∷ ts) = substituting k (substitute-answer k t) ∷ replayed t ts
 replayed t (lists n a es ∷ ts) =
     lists n (list-answer t n) (list-left (λ (x : Row). x) t (lent n)) ∷ replayed t ts
 replayed t (refuses c n b ∷ ts) = refuses c (number-of (answer c t)) (same (left c t) t) ∷ replayed t ts

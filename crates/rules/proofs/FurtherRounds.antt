@@ -4,12 +4,16 @@ use mathlib.Core.Path.{_≡_, refl}
 use mathlib.Core.Bool.{true}
 use mathlib.Core.List.{List, [], _∷_}
 use lib.ListN.{replicate}
-use Rattle.rules.specs.Rows.{row, blank, round, slots-left, heavier, canonical, into, sorted, rows-only}
+use Rattle.rules.specs.Rows.{Row, row, blank, round, slots-left, heavier, canonical, into, sorted, rows-only}
 use Rattle.rules.specs.Plan.{due-by, fits-from, feasible, kept, blanks-from, plan, total-weight, total, tight, tight-from, tight-after, segment-from, segment-start, first-end, least-weight, mark-in, mark, same-row, in-plan, lightest-by, heaviest-outside, substitute, beats-golden, golden-more, sends-before, best-from, best, listed}
 use Rattle.rules.specs.Steps.{opened, taken, changed, without, heaviest-between, shifted, replaced, leapt, still-due, is-ordinary, sent}
 use Rattle.rules.specs.Table.{low, value, field, row-bytes, rows-bytes, table, rows-in, rows-of, round-in, length-good, rows-good, round-good, same, table-refusal}
 use Rattle.rules.specs.Calls.{opening, taking, sending, marking, totalling, silence, frame, kept-blank, ordinary, leap, refused, done, ticket, step, amount, blank-due, number-of, first, open-refusal, take-refusal, send-refusal, mark-refusal, round-refusal, out-of, says, leaves, table-first, refusal, answer, left, with-ticket, stand-in, substitute-answer, list-refusal, list-answer, list-left}
 use Rattle.rules.proofs.Played.{waits, keeps, old, turn, listing, substituting, lists, refuses, Hand, found, played}
+
+-- what waits in P4 before its sending
+abbrev pub p4-rows : List Row
+p4-rows = waits 1 0 4 ∷ waits 2 1 10 ∷ waits 3 2 5 ∷ waits 4 2 3 ∷ []
 
 -- THE TABLE
 abbrev pub further-rounds : List Hand
@@ -74,17 +78,12 @@ further-rounds =
     } ∷
     -- marks asked, each slot its own, with 7 before the current slot and after the last, and 5 past it
     record {
-      start = found;
+      start = table (round 0 2 5 8 p4-rows);
       turns =
-          turn (opening 2) done [] (0 ∷ 0 ∷ 0 ∷ []) ∷
-          turn (taking 0 4) (ticket 1) (waits 1 0 4 ∷ []) (4 ∷ 0 ∷ 0 ∷ []) ∷
-          turn (taking 1 10) (ticket 2) (waits 1 0 4 ∷ waits 2 1 10 ∷ []) (4 ∷ 4 ∷ 0 ∷ []) ∷
-          turn (taking 2 5) (ticket 3) (waits 1 0 4 ∷ waits 2 1 10 ∷ waits 3 2 5 ∷ []) (4 ∷ 4 ∷ 4 ∷ []) ∷
-          turn (taking 2 3) (ticket 4) (waits 1 0 4 ∷ waits 2 1 10 ∷ waits 3 2 5 ∷ waits 4 2 3 ∷ []) (4 ∷ 4 ∷ 4 ∷ []) ∷
-          turn (marking 0) (amount 4) (waits 1 0 4 ∷ waits 2 1 10 ∷ waits 3 2 5 ∷ waits 4 2 3 ∷ []) (4 ∷ 4 ∷ 4 ∷ []) ∷
-          turn (marking 1) (amount 4) (waits 1 0 4 ∷ waits 2 1 10 ∷ waits 3 2 5 ∷ waits 4 2 3 ∷ []) (4 ∷ 4 ∷ 4 ∷ []) ∷
-          turn (marking 2) (amount 4) (waits 1 0 4 ∷ waits 2 1 10 ∷ waits 3 2 5 ∷ waits 4 2 3 ∷ []) (4 ∷ 4 ∷ 4 ∷ []) ∷
-          turn (marking 3) (refused 7) (waits 1 0 4 ∷ waits 2 1 10 ∷ waits 3 2 5 ∷ waits 4 2 3 ∷ []) (4 ∷ 4 ∷ 4 ∷ []) ∷
+          turn (marking 0) (amount 4) p4-rows (4 ∷ 4 ∷ 4 ∷ []) ∷
+          turn (marking 1) (amount 4) p4-rows (4 ∷ 4 ∷ 4 ∷ []) ∷
+          turn (marking 2) (amount 4) p4-rows (4 ∷ 4 ∷ 4 ∷ []) ∷
+          turn (marking 3) (refused 7) p4-rows (4 ∷ 4 ∷ 4 ∷ []) ∷
           turn sending (step (leap (frame 2))) (waits 3 1 5 ∷ waits 4 2 4 ∷ []) (5 ∷ 4 ∷ []) ∷
           turn (marking 0) (refused 7) (waits 3 1 5 ∷ waits 4 2 4 ∷ []) (5 ∷ 4 ∷ []) ∷
           turn (marking 1) (amount 5) (waits 3 1 5 ∷ waits 4 2 4 ∷ []) (5 ∷ 4 ∷ []) ∷
@@ -182,7 +181,7 @@ further-rounds =
     } ∷
     -- substitutes asked: 11 outside the plan; 10 of a ticket in no row: 0, the next one, one gone, one sent
     record {
-      start = table (round 0 2 5 8 (waits 1 0 4 ∷ waits 2 1 10 ∷ waits 3 2 5 ∷ waits 4 2 3 ∷ []));
+      start = table (round 0 2 5 8 p4-rows);
       turns =
           substituting 1 (ticket 1) ∷
           substituting 2 (ticket 4) ∷

@@ -11,7 +11,7 @@ use borrow.Author.Tests.{lt-ltb, le-ltb, ne-eqb}
 use Rattle.rules.specs.Calls.{refused, run}
 use Rattle.rules.specs.Lines.{reply-text, printed-from}
 use Rattle.rules.specs.Reads.{begun-from, calls-of, stops, overlong, served, written}
-use Rattle.theory.specs.Tests.{ltb?}
+use Rattle.theory.specs.Served.{served-short}
 use Rattle.lines.specs.Writing.{Replies}
 use Rattle.serving.specs.declared.answering.Progress.{Progress}
 use Rattle.serving.specs.declared.Served.{Served}
@@ -166,18 +166,8 @@ module _ (held got : ℕ) (input : List ℕ) {t out t′ out′ : List ℕ} {p :
         }
 
 -- WHAT IS HELD is no longer than a command's line
-short : (b : Bool) (xs : List ℕ) → length (cond (b || overlong xs) [] xs) ≤ 63
-unfolding overlong
-short true xs = omega arith
-short false xs = elim (ltb? 63 (length xs)) [ inl a ↦ rw (a .0) (omega arith) | inr a ↦ rw (a .0) (a .1) ]
-
-held-within : (t h x : List ℕ) → length (served t h x .held) ≤ 63
-unfolding served
-held-within t h [] = omega arith
-held-within t h (b ∷ bs) = short (stops (lines (h ++ (b ∷ bs)))) (begun-from [] (h ++ (b ∷ bs)))
-
 pub held-short : {held got : ℕ} {input t out input′ t′ out′ : List ℕ} {r : Served} → Serves held got input t out input′ t′ out′ r → r .held ≤ 63
-held-short {held} {got} {input} {t} s = omega (arith, s .holds, held-within t (take held input) (take got (drop held input)))
+held-short {held} {got} {input} {t} s = omega (arith, s .holds, served-short t (take held input) (take got (drop held input)))
 
 -- and what is written is within the output
 pub wrote-within : {held got : ℕ} {input t out input′ t′ out′ : List ℕ} {r : Served} → Serves held got input t out input′ t′ out′ r →

@@ -3,6 +3,7 @@
 #include <stdio.h>
 
 #define LEAST_CHAIN 4
+#define LEAST_SPARSE 8
 
 #define COUNT(array) (sizeof(array) / sizeof((array)[0]))
 
@@ -14,16 +15,28 @@ static int is_quick(uint32_t rows, uint32_t slots)
     return slots == 1024 && (rows == 16 || rows == 1024);
 }
 
+/* Opening does not read the table; where no row is in use, there is no substitute to ask for. */
+static int is_tried(const struct cell *cell)
+{
+    switch (cell->shape) {
+    case HALFOUT:
+        return 1;
+    case CHAIN:
+        return has_shapes(cell->call) && cell->rows >= LEAST_CHAIN;
+    case SPARSE:
+        return cell->call != OPEN && cell->rows >= LEAST_SPARSE;
+    case UNUSED:
+        return cell->call != OPEN && cell->call != SUBSTITUTE;
+    default:
+        return has_shapes(cell->call);
+    }
+}
+
 static void shapes_of(struct cell cell, void (*measure)(const struct cell *cell))
 {
-    if (!has_shapes(cell.call)) {
-        cell.shape = HALFOUT;
-        measure(&cell);
-        return;
-    }
     for (int shape = 0; shape < SHAPES; shape++) {
         cell.shape = (enum shape)shape;
-        if (cell.shape != CHAIN || cell.rows >= LEAST_CHAIN) {
+        if (is_tried(&cell)) {
             measure(&cell);
         }
     }
@@ -44,7 +57,7 @@ void for_each_cell(int quick, void (*measure)(const struct cell *cell))
 const char *cell_name(const struct cell *cell)
 {
     static char name[80];
-    const char *shape = has_shapes(cell->call) ? shape_names[cell->shape] : "-";
+    const char *shape = has_shapes(cell->call) || cell->shape != HALFOUT ? shape_names[cell->shape] : "-";
     snprintf(name, sizeof name, "%s %s %u %u", call_names[cell->call], shape, cell->rows, cell->slots);
     return name;
 }

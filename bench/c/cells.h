@@ -13,7 +13,7 @@ struct cell {
 /* Does it for each cell. Quick: 16 and 1,024 rows and 1,024 slots alone. */
 void for_each_cell(int quick, void (*measure)(const struct cell *cell));
 
-/* "call shape rows slots", with "-" where the shape makes no difference. */
+/* "call shape rows slots", with "-" for a full table where its shape makes no difference. */
 const char *cell_name(const struct cell *cell);
 
 /* Draws the cell's input of this number. */

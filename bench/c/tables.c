@@ -4,7 +4,8 @@
 
 #define MOST_WEIGHT (1u << 24)
 
-const char *const shape_names[SHAPES] = {"inplan", "halfout", "asc2x", "fewdue", "equal", "spread", "chain"};
+const char *const shape_names[SHAPES] = {"inplan", "halfout", "asc2x",  "fewdue", "equal",
+                                         "spread", "chain",   "sparse", "unused"};
 
 struct row {
     uint32_t due, weight;
@@ -46,6 +47,7 @@ static struct row draw_row(enum shape shape, uint32_t place, uint32_t rows, uint
     case EQUAL:
         return (struct row){half, 1000};
     case SPREAD:
+    case SPARSE:
         return (struct row){below(state, rows), weight};
     default: /* CHAIN: falling weights, and the last row's is the substitute of all */
         if (place == 0 || place + 1 == rows) {
@@ -72,17 +74,31 @@ static void put(uint8_t *bytes, size_t size, uint32_t number)
     }
 }
 
-void draw_table(struct table *table, enum shape shape, uint32_t rows, uint32_t unused, uint32_t slots, uint64_t seed)
+/* How many of so many rows are in use. */
+static uint32_t in_use(enum shape shape, uint32_t rows)
+{
+    switch (shape) {
+    case SPARSE:
+        return rows / 8;
+    case UNUSED:
+        return 0;
+    default:
+        return rows;
+    }
+}
+
+void draw_table(struct table *table, enum shape shape, uint32_t rows, uint32_t kept_free, uint32_t slots, uint64_t seed)
 {
     struct row drawn_rows[MOST_ROWS];
     uint64_t state = seed;
-    for (uint32_t place = 0; place < rows; place++) {
-        drawn_rows[place] = draw_row(shape, place, rows, &state);
+    const uint32_t count = in_use(shape, rows);
+    for (uint32_t place = 0; place < count; place++) {
+        drawn_rows[place] = draw_row(shape, place, count, &state);
     }
     if (shape == INPLAN) {
-        shuffle(drawn_rows, rows, &state);
+        shuffle(drawn_rows, count, &state);
     }
-    const uint32_t used = rows - unused;
+    const uint32_t used = count > rows - kept_free ? rows - kept_free : count;
     table->length = HEAD_SIZE + ROW_SIZE * (size_t)rows;
     memset(table->bytes, 0, sizeof table->bytes);
     put(table->bytes + 2, 2, slots - 1);

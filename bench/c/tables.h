@@ -10,8 +10,8 @@
 #define MOST_ROWS 1024
 #define MOST_SIZE (HEAD_SIZE + ROW_SIZE * MOST_ROWS)
 
-/* How due slots and weights are drawn; README.md says it in words. */
-enum shape { INPLAN, HALFOUT, ASC2X, FEWDUE, EQUAL, SPREAD, CHAIN, SHAPES };
+/* How many rows are in use, and how due slots and weights are drawn; README.md says it in words. */
+enum shape { INPLAN, HALFOUT, ASC2X, FEWDUE, EQUAL, SPREAD, CHAIN, SPARSE, UNUSED, SHAPES };
 
 extern const char *const shape_names[SHAPES];
 
@@ -20,10 +20,10 @@ struct table {
     uint8_t bytes[MOST_SIZE];
 };
 
-/* A sound table of so many rows at slot 0 of so many slots, all rows in use but the `unused` last. */
-void draw_table(struct table *table, enum shape shape, uint32_t rows, uint32_t unused, uint32_t slots, uint64_t seed);
+/* A sound table of so many rows at slot 0 of so many slots, the `kept_free` last of them not in use. */
+void draw_table(struct table *table, enum shape shape, uint32_t rows, uint32_t kept_free, uint32_t slots, uint64_t seed);
 
-/* The ticket of the heaviest row, which is in every plan. */
+/* The ticket of the heaviest row, which is in every plan; 0 where no row is in use. */
 uint32_t heaviest_ticket(const struct table *table);
 
 #endif

@@ -14,12 +14,13 @@ def ratio(value, other):
 
 
 def table(library, tuned):
-    """Instructions; the floor is soundness alone, the library's own; times are information."""
+    """Instructions; the floor is soundness alone, the library's own, of as many rows in use; times are information."""
     print("\nInstructions a call, and nanoseconds")
     print(COLUMNS.format(*TITLES))
     for cell, theirs in tuned.instructions.items():
         ours = library.instructions[cell]
-        floor = library.instructions[Cell("soundness", "-", cell.rows, cell.slots)]
+        full = Cell("soundness", "-", cell.rows, cell.slots)
+        floor = library.instructions.get(cell._replace(call="soundness"), library.instructions[full])
         print(COLUMNS.format(*cell, number(ours), number(theirs), ratio(ours, theirs), number(floor), ratio(ours, floor),
                              number(library.time[cell]), number(tuned.time[cell])))
 

@@ -71,8 +71,10 @@ fn used_are_sound(used: &[Row], head: Head, mut each: impl FnMut(usize, u32)) ->
     zeros == 0 && rising == used.len() && timely == used.len() && previous < head.next
 }
 
+/// A branch for each eight bytes, as document 02 asks (L8).
 #[inline(always)]
 fn are_zero(unused: &[Row]) -> bool {
-    let gather = |all, row: &Row| all | word(row, 0) | word(row, 8) | word(row, 16);
-    unused.iter().fold(0, gather) == 0
+    unused
+        .iter()
+        .all(|row| word(row, 0) == 0 && word(row, 8) == 0 && word(row, 16) == 0)
 }

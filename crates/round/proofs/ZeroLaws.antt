@@ -1,26 +1,20 @@
 -- Bytes that are zero, as numbers. Assumes nothing.
 use mathlib.Core.Path.{_≡_, refl, sym, ap, _∙_}
-use mathlib.Core.Logic.{inl, inr}
+use mathlib.Core.Logic.{inl, inr, _≢_}
 use mathlib.Core.Bool.{Bool, true, false, _&&_}
 use mathlib.Core.List.{List, [], _∷_, _++_, append-assoc, append-nil}
 use Prim.Native.Nat.{ℕ, suc, _+_, _*_, _-_, _≤_, _<_}
 use native.Mathlib.Omega.{arith}
 use native.Mathlib.Numerals.{add-one}
 use lib.Dec.{leb, eqb}
-use borrow.Author.Tests.{eq-eqb, ne-eqb, le-leb, lt-leb}
-use lib.ListN.{length, set, take, drop, replicate, take-append-drop, drop-of-length-le, replicate-append-replicate}
+use borrow.Author.Tests.{le-leb, lt-leb}
+use lib.ListN.{length, set, take, drop, replicate, length-take, take-append-drop, drop-of-length-le, replicate-append-replicate}
 use lib.Seq.{take-add, drop-drop, take-suc-set}
 use Rattle.rules.specs.Table.{value, field}
-use Rattle.theory.specs.Tests.{leb?, eqb?}
+use Rattle.rules.specs.Conditions.{_⟺_}
+use Rattle.theory.specs.Tests.{either, leb?, eqb?}
 use Rattle.theory.specs.Judge.{zeros}
-
--- a sum is zero when both parts are
-pub sum-zero : (a b : ℕ) → eqb a 0 && eqb b 0 ≡ eqb (a + b) 0
-sum-zero a b =
-    elim (eqb? a 0) [
-      | inl h ↦ let e : b ≡ a + b = omega (arith, h .1) in rw (h .0) (ap (λ (n : ℕ). eqb n 0) e)
-      | inr h ↦ rw (h .0) (sym (ne-eqb (a + b) 0 (λ e. h .1 (omega arith))))
-    ]
+use Rattle.theory.specs.Fields.{Zeros, test-zeros, zeros-test, part-taken, zeros-value}
 
 -- both of three tests, grouped either way
 pub and-assoc : (a b c : Bool) → (a && b) && c ≡ a && (b && c)
@@ -33,21 +27,6 @@ zeros-append [] ys = refl
 zeros-append (x ∷ xs) ys =
     ap (λ (t : Bool). eqb x 0 && t) (zeros-append xs ys) ∙ sym (and-assoc (eqb x 0) (zeros xs) (zeros ys))
 
--- bytes are zero when their number is
-pub zeros-value : (bs : List ℕ) → zeros bs ≡ eqb (value bs) 0
-unfolding zeros value
-zeros-value [] = refl
-zeros-value (b ∷ bs) =
-    let e : eqb (value bs) 0 ≡ eqb (256 * value bs) 0 = scaled (value bs) in
-    ap (λ (t : Bool). eqb b 0 && t) (zeros-value bs ∙ e) ∙ sum-zero b (256 * value bs)
-  where
-    scaled : (n : ℕ) → eqb n 0 ≡ eqb (256 * n) 0
-    scaled n =
-        elim (eqb? n 0) [
-          | inl h ↦ h .0 ∙ sym (eq-eqb (256 * n) 0 (omega (arith, h .1)))
-          | inr h ↦ h .0 ∙ sym (ne-eqb (256 * n) 0 (λ e. h .1 (omega arith)))
-        ]
-
 pub zeros-field : (bs : List ℕ) (a n : ℕ) → zeros (take n (drop a bs)) ≡ eqb (field a n bs) 0
 unfolding field
 zeros-field bs a n = zeros-value (take n (drop a bs))
@@ -59,33 +38,28 @@ zeros-split bs a m n =
     ∙ zeros-append (take m (drop a bs)) (take n (drop m (drop a bs)))
     ∙ rw (zeros-field bs a m, drop-drop m a bs)
 
--- 24 bytes are zero when the sum of their six numbers is
-pub zeros-row : (bs : List ℕ) (a : ℕ) →
-    eqb ((field a 4 bs + field (a + 4) 4 bs + field (a + 8) 4 bs) + (field (a + 12) 4 bs + field (a + 16) 4 bs + field (a + 20) 4 bs)) 0
-    ≡ zeros (take 24 (drop a bs))
-zeros-row bs a =
-    let p : a + 4 + 4 ≡ a + 8 = omega arith in
-    let q : a + 8 + 4 ≡ a + 12 = omega arith in
-    let r : a + 12 + 4 ≡ a + 16 = omega arith in
-    let s : a + 16 + 4 ≡ a + 20 = omega arith in
-    rw (
-      zeros-split bs a 4 20,
-      zeros-split bs (a + 4) 4 16,
-      p,
-      zeros-split bs (a + 8) 4 12,
-      q,
-      zeros-split bs (a + 12) 4 8,
-      r,
-      zeros-split bs (a + 16) 4 4,
-      s,
-      zeros-field bs (a + 20) 4,
-    )
-    (six (field a 4 bs) (field (a + 4) 4 bs) (field (a + 8) 4 bs) (field (a + 12) 4 bs) (field (a + 16) 4 bs) (field (a + 20) 4 bs))
+-- A ROW is zero unless some word of it is not
+pub row-foul : (bs : List ℕ) (a b w : ℕ) → (w ≡ 0) ⟺ Zeros b (b + 8) bs → w ≢ 0 → a ≤ b → b + 8 ≤ a + 24 → false ≡ zeros (take 24 (drop a bs))
+row-foul bs a b w e f h k =
+    elim (either (zeros (take 24 (drop a bs)))) [
+      | inl z ↦ absurd (f (e .1 (λ i p q. test-zeros a (a + 24) bs (take 24 (drop a bs)) (part-taken a 24 bs) z i (omega arith) (omega arith))))
+      | inr z ↦ sym z
+    ]
+
+pub row-last : (bs : List ℕ) (a v w x : ℕ) → (v ≡ 0) ⟺ Zeros a (a + 8) bs → (w ≡ 0) ⟺ Zeros (a + 8) (a + 8 + 8) bs →
+    (x ≡ 0) ⟺ Zeros (a + 16) (a + 16 + 8) bs → v ≡ 0 → w ≡ 0 → eqb x 0 ≡ zeros (take 24 (drop a bs))
+row-last bs a v w x d e f p q =
+    elim (eqb? x 0) [
+      | inl h ↦ h .0 ∙ sym (zeros-test a (a + 24) bs (take 24 (drop a bs)) (part-taken a 24 bs) (omega (arith, length-take 24 (drop a bs))) (all (h .1)))
+      | inr h ↦ h .0 ∙ row-foul bs a (a + 16) x f (h .1) (omega arith) (omega arith)
+    ]
   where
-    six : (a b c d e f : ℕ) → eqb ((a + b + c) + (d + e + f)) 0 ≡ eqb a 0 && (eqb b 0 && (eqb c 0 && (eqb d 0 && (eqb e 0 && eqb f 0))))
-    six a b c d e f =
-        let k : (a + b + c) + (d + e + f) ≡ a + (b + (c + (d + (e + f)))) = omega arith in
-        rw (sum-zero e f, sum-zero d (e + f), sum-zero c (d + (e + f)), sum-zero b (c + (d + (e + f))), sum-zero a (b + (c + (d + (e + f)))), k)
+    all : x ≡ 0 → Zeros a (a + 24) bs
+    all r i h k =
+        elim (leb? (a + 16) i) [
+          | inl m ↦ f .0 r i (m .1) (omega arith)
+          | inr m ↦ elim (leb? (a + 8) i) [ inl n ↦ e .0 q i (n .1) (omega (arith, m .1)) | inr n ↦ d .0 p i h (n .1) ]
+        ]
 
 -- the bytes from a place on: so many, and the rest
 pub zeros-rest : (bs : List ℕ) (a n : ℕ) → zeros (drop a bs) ≡ zeros (take n (drop a bs)) && zeros (drop (a + n) bs)

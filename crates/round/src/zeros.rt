@@ -4,9 +4,11 @@ ghost use mathlib.Core.List.{_++_};
 ghost use Prim.Native.Nat.{_+_, _*_, _-_, _%_, _≤_, _<_};
 ghost use lib.ListN.{length, take, drop, replicate};
 ghost use Rattle.rules.specs.Limits.{row-size};
+ghost use Rattle.rules.specs.Conditions.{_⟺_};
 ghost use Rattle.theory.specs.Judge.{zeros};
+ghost use Rattle.theory.specs.Fields.{Zeros};
 use crate::Round;
-use numbers::read4;
+use numbers::read8;
 
 // Whether all bytes from a place on are zero; whole rows follow it.
 pub fn zeros_from(table: &[u8], from: usize) -> bool
@@ -23,25 +25,26 @@ pub fn zeros_from(table: &[u8], from: usize) -> bool
     true
 }
 
-// A sum is zero when each of its numbers is: one branch a row, and two sums of three measured cheaper than one of six.
+// Three words, and a branch for each.
 fn row_is_zero(table: &[u8], at: usize) -> bool
     requires { ⌜ at + row-size ≤ length (now table) ⌝ }
     ensures { λ r. ⌜ r ≡ zeros (take row-size (drop at (now (table .entry)))) ⌝ }
 {
-    let low = sum3(read4(table, at), read4(table, at + 4), read4(table, at + 8));
-    let high = sum3(
-        read4(table, at + 12),
-        read4(table, at + 16),
-        read4(table, at + 20),
-    );
-    low + high == 0
+    if word(table, at) != 0 {
+        return false;
+    }
+    if word(table, at + 8) != 0 {
+        return false;
+    }
+    word(table, at + 16) == 0
 }
 
-// The bound lets two such sums be added.
-fn sum3(a: u32, b: u32, c: u32) -> u64
-    ensures { λ r. ⌜ (r ≡ a + b + c) × (r < 3 * 4294967296) ⌝ }
+// Eight bytes gathered into a word, which is 0 exactly when all eight are.
+fn word(table: &[u8], at: usize) -> u64
+    requires { ⌜ at + 8 ≤ length (now table) ⌝ }
+    ensures { λ r. ⌜ (r ≡ 0) ⟺ Zeros at (at + 8) (now (table .entry)) ⌝ }
 {
-    a as u64 + b as u64 + c as u64
+    read8(table, at)
 }
 
 // Every byte from a place on becomes zero.

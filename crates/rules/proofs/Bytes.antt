@@ -1,10 +1,10 @@
--- THE LAYOUT, byte for byte: one table with a value above 255 in every field wider than a byte. Assumes nothing.
+-- THE LAYOUT, byte for byte: one table with a value above 255 in every field wider than a byte; and words of eight bytes. Assumes nothing.
 use mathlib.Core.Path.{_≡_, refl}
-use mathlib.Core.List.{List, [], _∷_}
-use Prim.Native.Nat.{ℕ, _*_}
+use mathlib.Core.List.{List, [], _∷_, _++_, map}
+use Prim.Native.Nat.{ℕ, _*_, _-_}
 use lib.ListN.{take, replicate}
 use Rattle.rules.specs.Rows.{Round, row, round}
-use Rattle.rules.specs.Table.{low, row-bytes, rows-bytes, table}
+use Rattle.rules.specs.Table.{low, value, row-bytes, rows-bytes, table}
 
 -- slot 0102, last slot 0304, next ticket 00060608, one frame and one kept blank in 259 rows (hexadecimal)
 abbrev pub vector-round : Round
@@ -27,3 +27,17 @@ vector-written = refl
 pub vector-head : take 16 (table (round 258 772 394760 259 (replicate 258 (row 1 515 1 0)))) ≡ 2 ∷ 1 ∷ 4 ∷ 3 ∷ 8 ∷ 6 ∷ 6 ∷ 0 ∷ 2 ∷ 1 ∷ replicate 6 0
 unfolding row round low row-bytes rows-bytes table
 vector-head = refl
+
+-- WORDS of eight bytes: each byte alone, all of them, none
+abbrev pub byte-alone : ℕ → List ℕ
+byte-alone i = replicate i 0 ++ (1 ∷ replicate (7 - i) 0)
+
+pub vector-words :
+    map (λ (i : ℕ). value (byte-alone i)) (0 ∷ 1 ∷ 2 ∷ 3 ∷ 4 ∷ 5 ∷ 6 ∷ 7 ∷ [])
+    ≡ 1 ∷ 256 ∷ 65536 ∷ 16777216 ∷ 4294967296 ∷ 1099511627776 ∷ 281474976710656 ∷ 72057594037927936 ∷ []
+unfolding value
+vector-words = refl
+
+pub vector-word : (value (replicate 8 255) ≡ 18446744073709551615) × (value (replicate 8 0) ≡ 0)
+unfolding value
+vector-word = (refl, refl)

@@ -4,12 +4,12 @@ use mathlib.Core.Bool.{Bool, true, false, _&&_, _||_, not, cond}
 use mathlib.Core.List.{List, [], _∷_, _++_, map}
 use Prim.Native.Nat.{ℕ, suc, _+_, _*_, _-_, _≤_, _<_}
 use lib.Dec.{leb, eqb}
-use lib.ListN.{length, take, drop}
+use lib.ListN.{length, getD, take, drop}
 use Rattle.rules.specs.Limits.{head-size, row-size, most-rows, most-last, most-weight}
 use Rattle.rules.specs.Rows.{Row, Round, chosen, slots-left, sorted, heavier, canonical, Heavier, Canonical}
 use Rattle.rules.specs.Plan.{plan, total, total-weight, mark, feasible, planned, listed, beats-golden, golden-more}
 use Rattle.rules.specs.Steps.{opened, sent}
-use Rattle.rules.specs.Table.{table, round-in, round-good, table-refusal}
+use Rattle.rules.specs.Table.{value, table, round-in, round-good, table-refusal}
 use Rattle.rules.specs.Calls.{Call, opening, taking, sending, marking, totalling, Reply, refused, done, ticket, step, amount, number-of, ordinary, silence, refusal, round-refusal, says, answer, left, run, replies, at, substitute-answer, list-refusal, list-answer, list-left}
 use Rattle.rules.specs.Lines.{Command, command, text, stands, read, read-refusal, payload-at, Place, payload-place, payload, write-refusal, write-answer, write-left, fresh-table, printed}
 use Rattle.rules.specs.Reads.{complete-from, begun-from, calls-of, Between, written-for, between-after, Some-bytes, joined}
@@ -94,6 +94,10 @@ unfoldable pub Opening-alone : Type 0
 Opening-alone =
     (l : ℕ) (t u : List ℕ) → length t ≡ length u →
     (answer (opening l) t ≡ answer (opening l) u) × (answer (opening l) t ≡ done → left (opening l) t ≡ left (opening l) u)
+
+-- L8: a word of bytes, however many, is 0 exactly when all of them are
+unfoldable pub Word-zero : Type 0
+Word-zero = (bs : List ℕ) → (value bs ≡ 0) ⟺ ((i : ℕ) → getD bs i 0 ≡ 0)
 
 -- a refusal returns its number alone and changes no lent byte; the same of the writer's buffer, and of the listing's entries, whatever these are
 abbrev pub Refused : (number : ℕ) → (answered : Reply) → {A : Type 0} → (before after : A) → Type 0

@@ -1,16 +1,18 @@
--- Numbers and zeros in bytes: a field's bytes are its number's, a part's fields are the whole's, zeros by index. Assumes nothing.
+-- Numbers and zeros in bytes: a field's bytes are its number's, a part's fields are the whole's, zeros by index, a word that is 0. Assumes nothing.
 use mathlib.Core.Path.{_≡_, refl, sym, ap, ap₂, _∙_}
+use mathlib.Core.Logic.{inl, inr}
 use mathlib.Core.Bool.{true}
 use mathlib.Core.List.{List, [], _∷_, _++_}
 use Prim.Native.Nat.{ℕ, zero, suc, _+_, _*_, _-_, _/_, _%_, _≤_, _<_}
 use native.Mathlib.Omega.{arith}
 use lib.Dec.{eqb}
 use borrow.Author.Tests.{eqb-true, eq-eqb}
-use lib.ListN.{length, getD, take, drop, replicate, length-drop, length-replicate, getD-replicate, List·getD-append}
-use lib.Seq.{getD-drop, take-take, drop-drop}
+use lib.ListN.{length, getD, take, drop, replicate, length-take, length-drop, length-replicate, getD-replicate, List·getD-append}
+use lib.Seq.{getD-take, getD-drop, take-take, drop-drop}
 use Rattle.rules.specs.Table.{low, value, field}
-use Rattle.rules.specs.Conditions.{Bytes}
-use Rattle.theory.specs.Tests.{and-true}
+use Rattle.rules.specs.Conditions.{_⟺_, Bytes}
+use Rattle.rules.specs.Demands.{Word-zero}
+use Rattle.theory.specs.Tests.{either, eqb?, and-true}
 use Rattle.theory.specs.Judge.{zeros}
 
 pub bytes-drop : (k : ℕ) (bs : List ℕ) → Bytes bs → Bytes (drop k bs)
@@ -97,3 +99,41 @@ test-zeros a e bs cs p z i h k =
 
 pub zeros-test : (a e : ℕ) (bs cs : List ℕ) → Part a e bs cs → length cs + a ≤ e → Zeros a e bs → zeros cs ≡ true
 zeros-test a e bs cs p l z = zeros-all cs (λ i h k. p i (omega arith) ∙ z (a + i) (omega arith) (omega arith))
+
+pub part-taken : (a n : ℕ) (bs : List ℕ) → Part a (a + n) bs (take n (drop a bs))
+part-taken a n bs i h = getD-take n (drop a bs) i 0 (omega arith) ∙ getD-drop a bs i 0
+
+-- A WORD is 0 exactly when all its bytes are, however many it has
+bytes-of-0 : (bs : List ℕ) → value bs ≡ 0 → (i : ℕ) → getD bs i 0 ≡ 0
+unfolding value
+bytes-of-0 [] e i = refl
+bytes-of-0 (b ∷ bs) e zero = omega arith
+bytes-of-0 (b ∷ bs) e (suc i) = bytes-of-0 bs (omega arith) i
+
+value-of-zeros : (bs : List ℕ) → ((i : ℕ) → getD bs i 0 ≡ 0) → value bs ≡ 0
+unfolding value
+value-of-zeros [] h = refl
+value-of-zeros (b ∷ bs) h = omega (arith, h 0, value-of-zeros bs (λ i. h (suc i)))
+
+pub word-zero : Word-zero
+unfolding Word-zero
+word-zero bs = (bytes-of-0 bs, value-of-zeros bs)
+
+-- as a test
+pub zeros-value : (bs : List ℕ) → zeros bs ≡ eqb (value bs) 0
+unfolding Word-zero
+zeros-value bs =
+    elim (eqb? (value bs) 0) [
+      | inl h ↦ zeros-all bs (λ i _ _. word-zero bs .0 (h .1) i) ∙ sym (h .0)
+      | inr h ↦ elim (either (zeros bs)) [ inl e ↦ absurd (h .1 (word-zero bs .1 (zeros-at bs e))) | inr e ↦ e ∙ sym (h .0) ]
+    ]
+
+-- as a part of a table
+pub field-zeros : (a n : ℕ) (bs : List ℕ) → (field a n bs ≡ 0) ⟺ Zeros a (a + n) bs
+unfolding field
+field-zeros a n bs =
+    let ws = take n (drop a bs) in (
+      λ e. test-zeros a (a + n) bs ws (part-taken a n bs) (zeros-value ws ∙ eq-eqb (value ws) 0 e),
+      λ z. eqb-true (value ws) 0
+          (sym (zeros-value ws) ∙ zeros-test a (a + n) bs ws (part-taken a n bs) (omega (arith, length-take n (drop a bs))) z),
+    )

@@ -86,6 +86,8 @@ mutations! {
     KeptBlankUnsound Take "a kept blank is unsound";
     RowZerosUnchecked Take "a used row's zero bytes may be anything";
     UnusedRowsUnchecked Take "unused rows may be anything";
+    UnusedEighthUnchecked Take "of eight bytes of an unused row the last may be anything";
+    UnusedWordsAdded Take "an unused row is zero where its three words add up to it";
     // The orders and the pick.
     TiesByTicket Send "heavier compares the ticket before the due slot";
     TiesByLateDue Send "among equal weights the later due slot is heavier";

@@ -49,13 +49,26 @@ fn rows_are_sound(table: &[u8], head: Head, mutation: Mutation) -> bool {
             previous = ticket;
             rises && used_is_sound(bytes, head, mutation)
         } else {
-            mutation == Mutation::UnusedRowsUnchecked || bytes.iter().all(|byte| *byte == 0)
+            unused_is_sound(bytes, mutation)
         };
         if !sound {
             return false;
         }
     }
     true
+}
+
+/// An unused row is zero.
+fn unused_is_sound(bytes: &[u8], mutation: Mutation) -> bool {
+    let zero = |bytes: &[u8]| bytes.iter().all(|byte| *byte == 0);
+    let word = |eight: &[u8]| u64::from_le_bytes(eight.try_into().expect("eight bytes"));
+    let mut eights = bytes.chunks(8);
+    match mutation {
+        Mutation::UnusedRowsUnchecked => true,
+        Mutation::UnusedEighthUnchecked => eights.all(|eight| zero(&eight[..7])),
+        Mutation::UnusedWordsAdded => eights.map(word).fold(0, u64::wrapping_add) == 0,
+        _ => zero(bytes),
+    }
 }
 
 /// Tickets rise strictly, from 1 up.

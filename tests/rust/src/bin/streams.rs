@@ -69,6 +69,8 @@ const HIDDEN: &[Mutation] = &[
     Mutation::KindUnchecked,
     Mutation::RowZerosUnchecked,
     Mutation::UnusedRowsUnchecked,
+    Mutation::UnusedEighthUnchecked,
+    Mutation::UnusedWordsAdded,
 ];
 
 /// The calls whose faults lines show.

@@ -5,7 +5,9 @@ use crate::compare::bench::{Agreed, Bench, Difference};
 use crate::compare::draw::Draw;
 use crate::compare::library::Library;
 use crate::compare::tally::Tally;
-use crate::compare::{bytes, damage, extremes, fullest, hands, large, lengths, lists, sound};
+use crate::compare::{
+    bytes, damage, extremes, fullest, hands, large, lengths, lists, sound, unused,
+};
 use crate::kind::Kind;
 
 /// Asks all of one case.
@@ -20,6 +22,7 @@ pub const KINDS: &[Kind<Case>] = &[
     Kind::drawn("sound", 120_000, sound::run),
     Kind::drawn("lists", 4_000, lists::run),
     Kind::drawn("large", 200, large::run),
+    Kind::fixed("unused", unused::CASES, unused::run),
 ];
 
 /// What the long run has beside them.

@@ -17,3 +17,4 @@ pub mod sound;
 pub mod store;
 pub mod tables;
 pub mod tally;
+pub mod unused;

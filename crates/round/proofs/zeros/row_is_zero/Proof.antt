@@ -1,81 +1,41 @@
--- `round::zeros::row_is_zero` meets its contract: a sum is zero where all its numbers are. Assumes nothing.
+-- `round::zeros::row_is_zero` meets its contract: a row is zero where its three words are. Assumes nothing.
+use Prim.Native.Nat.{_+_}
 use borrow.Author.Needs.{needs}
-use Rattle.round.proofs.ZeroLaws.{zeros-row}
+use Rattle.round.proofs.ZeroLaws.{row-foul, row-last}
 use Rattle.round.proofs.zeros.row_is_zero.Statement.{statement}
 use Rattle.round.proofs.zeros.row_is_zero.Tie as tie
 
-read4-requires : tie.Need-read4-requires
-read4-requires c κs = search needs
-
-add-read4 : tie.Need-add-read4
-add-read4 c = search needs
-
-read4-requires-2 : tie.Need-read4-requires-2
-read4-requires-2 c κs = search needs
-
-add-read4-2 : tie.Need-add-read4-2
-add-read4-2 c = search needs
-
-read4-requires-3 : tie.Need-read4-requires-3
-read4-requires-3 c κs = search needs
-
-sum3-requires : tie.Need-sum3-requires
-sum3-requires c κs = search needs
-
-add-read4-3 : tie.Need-add-read4-3
-add-read4-3 c = search needs
-
-read4-requires-4 : tie.Need-read4-requires-4
-read4-requires-4 c κs = search needs
-
-add-read4-4 : tie.Need-add-read4-4
-add-read4-4 c = search needs
-
-read4-requires-5 : tie.Need-read4-requires-5
-read4-requires-5 c κs = search needs
-
-add-read4-5 : tie.Need-add-read4-5
-add-read4-5 c = search needs
-
-read4-requires-6 : tie.Need-read4-requires-6
-read4-requires-6 c κs = search needs
-
-sum3-requires-2 : tie.Need-sum3-requires-2
-sum3-requires-2 c κs = search needs
-
-add-result : tie.Need-add-result
-add-result c = search needs
+word-requires : tie.Need-word-requires
+word-requires c κs = search needs
 
 returns : tie.Need-returns
 returns c =
-    rw (
-      c .before .before .before .before .sum3 .ensures .0,
-      c .sum32 .ensures .0,
-      c .before .before .before .before .before .before .before .read4 .ensures,
-      c .before .before .before .before .before .before .read42 .ensures,
-      c .before .before .before .before .before .read43 .ensures,
-      c .before .before .before .read44 .ensures,
-      c .before .before .read45 .ensures,
-      c .before .read46 .ensures,
-    )
-    (zeros-row _ _)
+    let s = c .before .before .before .args in
+    row-foul (s .table .now) (s .at) (s .at) _ (c .before .word .ensures) (c .if1 .taken) (search needs) (search needs)
+
+add-word : tie.Need-add-word
+add-word c = search needs
+
+word-requires-2 : tie.Need-word-requires-2
+word-requires-2 c κs = search needs
+
+returns-2 : tie.Need-returns-2
+returns-2 c =
+    let s = c .before .before .before .before .before .args in
+    row-foul (s .table .now) (s .at) (s .at + 8) _ (c .before .word2 .ensures) (c .if2 .taken) (search needs) (search needs)
+
+add-word-2 : tie.Need-add-word-2
+add-word-2 c = search needs
+
+word-requires-3 : tie.Need-word-requires-3
+word-requires-3 c κs = search needs
+
+returns-3 : tie.Need-returns-3
+returns-3 c =
+    row-last _ _ _ _ _ (c .before .before .before .before .word .ensures) (c .before .before .word2 .ensures)
+    (c .word3 .ensures) (c .before .before .before .if1 .left) (c .before .if2 .left)
 
 pub row-is-zero-spec : {M : Type 1} → statement M
 row-is-zero-spec =
     tie.close
-    (tie.spec
-    read4-requires
-    add-read4
-    read4-requires-2
-    add-read4-2
-    read4-requires-3
-    sum3-requires
-    add-read4-3
-    read4-requires-4
-    add-read4-4
-    read4-requires-5
-    add-read4-5
-    read4-requires-6
-    sum3-requires-2
-    add-result
-    returns)
+    (tie.spec word-requires returns add-word word-requires-2 returns-2 add-word-2 word-requires-3 returns-3)

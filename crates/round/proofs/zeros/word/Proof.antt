@@ -1,0 +1,14 @@
+-- `round::zeros::word` meets its contract: eight bytes are a word, and `Word-zero` says of it what is owed. Assumes nothing.
+use borrow.Author.Needs.{needs}
+use Rattle.theory.specs.Fields.{field-zeros}
+use Rattle.round.proofs.zeros.word.Statement.{statement}
+use Rattle.round.proofs.zeros.word.Tie as tie
+
+read8-requires : tie.Need-read8-requires
+read8-requires c κs = search needs
+
+returns : tie.Need-returns
+returns c = rw (c .read8 .ensures) (field-zeros (c .before .before .args .at) 8 (c .before .before .args .table .now))
+
+pub word-spec : {M : Type 1} → statement M
+word-spec = tie.close (tie.spec read8-requires returns)

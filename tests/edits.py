@@ -69,13 +69,16 @@ KINDS = [
     ("a program that passes over an unended line of one byte", "serving/one_byte_passed_over rules/unended_byte_passed_over"),
     ("a program that goes on after refusal 1", "serving/refusal_1_goes_on rules/refusal_1_goes_on"),
     ("a program whose table is sevens at first", "serving/table_of_sevens rules/table_of_sevens"),
+    ("a word that gathers seven bytes", "round/seven_bytes_gathered round/first_byte_not_gathered rules/number_of_seven_bytes"),
+    ("the last word of a row left out", "round/last_word_left_out"),
+    ("one byte gathered twice and another not", "round/byte_gathered_twice numbers/neighbour_not_gathered"),
 ]
 
 # What the edits of a crate aim at.
 CONTRACTS = {
     "rules": "the definitions, held to the rounds, bytes and lines worked out by hand in crates/rules/proofs",
     "numbers": "numbers in bytes: read (`field`) and written (`low`)",
-    "round": "`judge` (`Judge-says`): a table is sound, or refused with 2 or 3",
+    "round": "`judge` (`Judge-says`): a table is sound, or refused with 2 or 3; `word`: 0 exactly when its eight bytes are",
     "plan": "`choose_rows` (`Chosen`): the flags are those of the plan's rows",
     "tally": "`reach_of` (`Reaches`): how far the plan is full; `tally` (`Tallied`): the plan's rows by due slot",
     "pick": "`choose` and `choose_all` (`Picked`): the row that goes is the pick",

@@ -8,13 +8,13 @@ use native.Mathlib.Omega.{arith}
 use native.Mathlib.Numerals.{add-one}
 use lib.Dec.{leb, eqb}
 use borrow.Author.Tests.{le-leb, lt-leb}
-use lib.ListN.{length, set, take, drop, replicate, length-take, take-append-drop, drop-of-length-le, replicate-append-replicate}
+use lib.ListN.{length, set, take, drop, replicate, take-append-drop, drop-of-length-le, replicate-append-replicate}
 use lib.Seq.{take-add, drop-drop, take-suc-set}
 use Rattle.rules.specs.Table.{value, field}
 use Rattle.rules.specs.Conditions.{_⟺_}
 use Rattle.theory.specs.Tests.{either, leb?, eqb?}
 use Rattle.theory.specs.Judge.{zeros}
-use Rattle.theory.specs.Fields.{Zeros, test-zeros, zeros-test, part-taken, zeros-value}
+use Rattle.theory.specs.Fields.{Zeros, taken-zeros, zeros-value}
 
 -- both of three tests, grouped either way
 pub and-assoc : (a b c : Bool) → (a && b) && c ≡ a && (b && c)
@@ -38,27 +38,31 @@ zeros-split bs a m n =
     ∙ zeros-append (take m (drop a bs)) (take n (drop m (drop a bs)))
     ∙ rw (zeros-field bs a m, drop-drop m a bs)
 
--- A ROW is zero unless some word of it is not
-pub row-foul : (bs : List ℕ) (a b w : ℕ) → (w ≡ 0) ⟺ Zeros b (b + 8) bs → w ≢ 0 → a ≤ b → b + 8 ≤ a + 24 → false ≡ zeros (take 24 (drop a bs))
+-- A WORD that is 0 exactly when its eight bytes are
+abbrev pub Word : (at word : ℕ) → List ℕ → Type 0
+Word a w bs = (w ≡ 0) ⟺ Zeros a (a + 8) bs
+
+-- A ROW is not zero where a word in it is not; by three words without a gap it is where the last is
+pub row-foul : (bs : List ℕ) (a b w : ℕ) → Word b w bs → w ≢ 0 → a ≤ b → b + 8 ≤ a + 24 → false ≡ zeros (take 24 (drop a bs))
 row-foul bs a b w e f h k =
     elim (either (zeros (take 24 (drop a bs)))) [
-      | inl z ↦ absurd (f (e .1 (λ i p q. test-zeros a (a + 24) bs (take 24 (drop a bs)) (part-taken a 24 bs) z i (omega arith) (omega arith))))
+      | inl z ↦ absurd (f (e .1 (λ i p q. taken-zeros a 24 bs .0 z i (omega arith) (omega arith))))
       | inr z ↦ sym z
     ]
 
-pub row-last : (bs : List ℕ) (a v w x : ℕ) → (v ≡ 0) ⟺ Zeros a (a + 8) bs → (w ≡ 0) ⟺ Zeros (a + 8) (a + 8 + 8) bs →
-    (x ≡ 0) ⟺ Zeros (a + 16) (a + 16 + 8) bs → v ≡ 0 → w ≡ 0 → eqb x 0 ≡ zeros (take 24 (drop a bs))
-row-last bs a v w x d e f p q =
-    elim (eqb? x 0) [
-      | inl h ↦ h .0 ∙ sym (zeros-test a (a + 24) bs (take 24 (drop a bs)) (part-taken a 24 bs) (omega (arith, length-take 24 (drop a bs))) (all (h .1)))
-      | inr h ↦ h .0 ∙ row-foul bs a (a + 16) x f (h .1) (omega arith) (omega arith)
+pub row-last : (bs : List ℕ) (a b c u v w : ℕ) → Word a u bs → Word b v bs → Word c w bs → u ≡ 0 → v ≡ 0 → a ≤ c → b ≤ a + 8 → c ≤ b + 8 →
+    c + 8 ≡ a + 24 → eqb w 0 ≡ zeros (take 24 (drop a bs))
+row-last bs a b c u v w d e f p q k l m n =
+    elim (eqb? w 0) [
+      | inl h ↦ h .0 ∙ sym (taken-zeros a 24 bs .1 (all (h .1)))
+      | inr h ↦ h .0 ∙ row-foul bs a c w f (h .1) k (omega arith)
     ]
   where
-    all : x ≡ 0 → Zeros a (a + 24) bs
-    all r i h k =
-        elim (leb? (a + 16) i) [
-          | inl m ↦ f .0 r i (m .1) (omega arith)
-          | inr m ↦ elim (leb? (a + 8) i) [ inl n ↦ e .0 q i (n .1) (omega (arith, m .1)) | inr n ↦ d .0 p i h (n .1) ]
+    all : w ≡ 0 → Zeros a (a + 24) bs
+    all r i g h =
+        elim (leb? (a + 8) i) [
+          | inr x ↦ d .0 p i g (x .1)
+          | inl x ↦ elim (leb? (b + 8) i) [ inr y ↦ e .0 q i (omega (arith, x .1)) (y .1) | inl y ↦ f .0 r i (omega (arith, y .1)) (omega arith) ]
         ]
 
 -- the bytes from a place on: so many, and the rest

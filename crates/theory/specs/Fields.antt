@@ -100,8 +100,16 @@ test-zeros a e bs cs p z i h k =
 pub zeros-test : (a e : ℕ) (bs cs : List ℕ) → Part a e bs cs → length cs + a ≤ e → Zeros a e bs → zeros cs ≡ true
 zeros-test a e bs cs p l z = zeros-all cs (λ i h k. p i (omega arith) ∙ z (a + i) (omega arith) (omega arith))
 
-pub part-taken : (a n : ℕ) (bs : List ℕ) → Part a (a + n) bs (take n (drop a bs))
-part-taken a n bs i h = getD-take n (drop a bs) i 0 (omega arith) ∙ getD-drop a bs i 0
+-- so many bytes from a place on
+pub taken-zeros : (a n : ℕ) (bs : List ℕ) → (zeros (take n (drop a bs)) ≡ true) ⟺ Zeros a (a + n) bs
+taken-zeros a n bs =
+    let ws = take n (drop a bs) in (
+      test-zeros a (a + n) bs ws part,
+      zeros-test a (a + n) bs ws part (omega (arith, length-take n (drop a bs))),
+    )
+  where
+    part : Part a (a + n) bs (take n (drop a bs))
+    part i h = getD-take n (drop a bs) i 0 (omega arith) ∙ getD-drop a bs i 0
 
 -- A WORD is 0 exactly when all its bytes are, however many it has
 bytes-of-0 : (bs : List ℕ) → value bs ≡ 0 → (i : ℕ) → getD bs i 0 ≡ 0
@@ -128,12 +136,11 @@ zeros-value bs =
       | inr h ↦ elim (either (zeros bs)) [ inl e ↦ absurd (h .1 (word-zero bs .1 (zeros-at bs e))) | inr e ↦ e ∙ sym (h .0) ]
     ]
 
--- as a part of a table
+-- in a table
 pub field-zeros : (a n : ℕ) (bs : List ℕ) → (field a n bs ≡ 0) ⟺ Zeros a (a + n) bs
 unfolding field
 field-zeros a n bs =
     let ws = take n (drop a bs) in (
-      λ e. test-zeros a (a + n) bs ws (part-taken a n bs) (zeros-value ws ∙ eq-eqb (value ws) 0 e),
-      λ z. eqb-true (value ws) 0
-          (sym (zeros-value ws) ∙ zeros-test a (a + n) bs ws (part-taken a n bs) (omega (arith, length-take n (drop a bs))) z),
+      λ e. taken-zeros a n bs .0 (zeros-value ws ∙ eq-eqb (value ws) 0 e),
+      λ z. eqb-true (value ws) 0 (sym (zeros-value ws) ∙ taken-zeros a n bs .1 z),
     )

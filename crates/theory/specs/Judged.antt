@@ -9,13 +9,13 @@ use lib.Dec.{ltb, leb}
 use borrow.Author.Tests.{ltb-true, leb-true, lt-ltb, le-leb}
 use lib.ListN.{length, take, drop, length-take, length-drop}
 use lib.Seq.{getD-drop, getD-take}
-use Rattle.rules.specs.Limits.{head-size, row-size, head-zeros-at, row-zeros-at}
+use Rattle.rules.specs.Limits.{head-size, row-size, row-zeros-at}
 use Rattle.rules.specs.Rows.{row}
 use Rattle.rules.specs.Table.{field, rows-of, length-good, table-refusal}
 use Rattle.rules.specs.Conditions.{Bytes, slot-in, last-in, next-in, used-in}
 use Rattle.theory.specs.Tests.{either, and-true}
 use Rattle.theory.specs.Judge.{zeros, row-judged, rows-judged, head-judged, judged}
-use Rattle.theory.specs.Fields.{Part, field-take, test-zeros, zeros-test, part-taken}
+use Rattle.theory.specs.Fields.{Part, field-take, test-zeros, zeros-test, taken-zeros}
 use Rattle.theory.specs.Clauses.{Row-right, front-row, Rows-right, Clauses, length-long, clauses-accepted, accepted-length, accepted-clauses, refusal-three}
 
 -- A ROW JUDGED on its own bytes
@@ -109,7 +109,7 @@ judged-clauses t e =
       slot-most = leb-true (slot-in t) (suc (last-in t)) (p .0);
       next-least = leb-true 1 (next-in t) (q .0);
       next-most = leb-true (next-in t) 16777216 (q .1);
-      head-zeros = test-zeros 10 16 t (take 6 (drop 10 t)) (part-taken 10 6 t) (d .1);
+      head-zeros = taken-zeros 10 6 t .0 (d .1);
       rows = rows-true (used-in t) (slot-in t) (last-in t) (next-in t) 0 (drop 16 t) (r .0);
       rest-zeros = test-zeros m (length t) t (drop m t) (λ i h. getD-drop m t i 0) (r .1);
     }
@@ -124,7 +124,7 @@ head-yes t c =
       le-leb 1 (next-in t) (c .next-least),
       le-leb (next-in t) 16777216 (c .next-most),
     )
-    (zeros-test 10 16 t (take 6 (drop 10 t)) (part-taken 10 6 t) (omega (arith, length-take 6 (drop 10 t))) (c .head-zeros))
+    (taken-zeros 10 6 t .1 (c .head-zeros))
 
 pub clauses-judged : (t : List ℕ) → head-size + row-size * used-in t ≤ length t → Clauses t → judged t ≡ true
 unfolding judged

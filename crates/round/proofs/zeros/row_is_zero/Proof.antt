@@ -1,5 +1,4 @@
--- `round::zeros::row_is_zero` meets its contract: a row is zero where its three words are. Assumes nothing.
-use Prim.Native.Nat.{_+_}
+-- `round::zeros::row_is_zero` meets its contract: a row is zero where its three words are, which leave no gap. Assumes nothing.
 use borrow.Author.Needs.{needs}
 use Rattle.round.proofs.ZeroLaws.{row-foul, row-last}
 use Rattle.round.proofs.zeros.row_is_zero.Statement.{statement}
@@ -11,7 +10,7 @@ word-requires c κs = search needs
 returns : tie.Need-returns
 returns c =
     let s = c .before .before .before .args in
-    row-foul (s .table .now) (s .at) (s .at) _ (c .before .word .ensures) (c .if1 .taken) (search needs) (search needs)
+    row-foul (s .table .now) (s .at) _ _ (c .before .word .ensures) (c .if1 .taken) (search needs) (search needs)
 
 add-word : tie.Need-add-word
 add-word c = search needs
@@ -22,7 +21,7 @@ word-requires-2 c κs = search needs
 returns-2 : tie.Need-returns-2
 returns-2 c =
     let s = c .before .before .before .before .before .args in
-    row-foul (s .table .now) (s .at) (s .at + 8) _ (c .before .word2 .ensures) (c .if2 .taken) (search needs) (search needs)
+    row-foul (s .table .now) (s .at) _ _ (c .before .word2 .ensures) (c .if2 .taken) (search needs) (search needs)
 
 add-word-2 : tie.Need-add-word-2
 add-word-2 c = search needs
@@ -32,8 +31,9 @@ word-requires-3 c κs = search needs
 
 returns-3 : tie.Need-returns-3
 returns-3 c =
-    row-last _ _ _ _ _ (c .before .before .before .before .word .ensures) (c .before .before .word2 .ensures)
-    (c .word3 .ensures) (c .before .before .before .if1 .left) (c .before .if2 .left)
+    let s = c .before .before .before .before .before .before .args in
+    row-last (s .table .now) (s .at) _ _ _ _ _ (c .before .before .before .before .word .ensures) (c .before .before .word2 .ensures)
+    (c .word3 .ensures) (c .before .before .before .if1 .left) (c .before .if2 .left) (search needs) (search needs) (search needs) (search needs)
 
 pub row-is-zero-spec : {M : Type 1} → statement M
 row-is-zero-spec =

@@ -1,4 +1,5 @@
 -- `round::zeros::word` meets its contract: eight bytes are a word, and `Word-zero` says of it what is owed. Assumes nothing.
+use native.Mathlib.Omega.{arith}
 use borrow.Author.Needs.{needs}
 use Rattle.theory.specs.Fields.{field-zeros}
 use Rattle.round.proofs.zeros.word.Statement.{statement}
@@ -8,7 +9,9 @@ read8-requires : tie.Need-read8-requires
 read8-requires c κs = search needs
 
 returns : tie.Need-returns
-returns c = rw (c .read8 .ensures) (field-zeros (c .before .before .args .at) 8 (c .before .before .args .table .now))
+returns c =
+    let z = field-zeros (c .before .before .args .at) 8 (c .before .before .args .table .now) in
+    (λ e. z .0 (omega (arith, c .read8 .ensures)), λ h. omega (arith, c .read8 .ensures, z .1 h))
 
 pub word-spec : {M : Type 1} → statement M
 word-spec = tie.close (tie.spec read8-requires returns)

@@ -5,20 +5,23 @@ from measured import Cell
 from shown import most_stack
 
 PLANNING = ("send", "mark", "total")
-SHAPES = ("inplan", "halfout", "asc2x", "fewdue", "equal", "spread", "chain")
+FULL = ("inplan", "halfout", "asc2x", "fewdue", "equal", "spread", "chain")
+NOT_FULL = ("sparse", "unused")
 STACK = 34 * 1024
 
 # Tuned Rust counts as tuned if it is within 1.1 of these, in instructions at 1,024 rows and 1,024 slots.
 BEST = {
     ("soundness", "-"): 22_600,
+    ("soundness", "sparse"): 10_400,
+    ("soundness", "unused"): 9_300,
     ("open", "-"): 1_400,
     ("take", "-"): 27_800,
     ("send", "inplan"): 59_000,
     ("send", "chain"): 221_000,
     ("mark", "inplan"): 50_000,
     ("total", "inplan"): 37_000,
-} | {("send", shape): 170_000 for shape in SHAPES[1:-1]} | {
-    (call, shape): 164_000 for call in ("mark", "total") for shape in SHAPES[1:]
+} | {("send", shape): 170_000 for shape in FULL[1:-1]} | {
+    (call, shape): 164_000 for call in ("mark", "total") for shape in FULL[1:]
 }
 
 Limit = namedtuple("Limit", "text value most")
@@ -43,7 +46,9 @@ def worst(library, tuned, call, rows, shape=None):
 def against_tuned(library, tuned):
     for call in ("soundness", "open", "take", "mark", "total"):
         yield Limit(f"{call}, 1,024 rows", worst(library, tuned, call, 1024), 2.0)
-    for shape in SHAPES:
+    for shape in NOT_FULL:
+        yield Limit(f"soundness {shape}, 1,024 rows", worst(library, tuned, "soundness", 1024, shape), 1.2)
+    for shape in FULL + NOT_FULL:
         yield Limit(f"send {shape}, 1,024 rows (goal 1.5)", worst(library, tuned, "send", 1024, shape), 2.0)
     for call in PLANNING:
         for rows in (16, 128):

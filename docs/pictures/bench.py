@@ -5,7 +5,7 @@ import math
 import re
 import sys
 
-WIDTH, HEIGHT, TOP, BOTTOM = 960, 560, 76, 470
+WIDTH, HEIGHT, TOP, BOTTOM = 960, 720, 76, 630
 LEFT, RIGHT = 80, 400
 ROWS = (1, 16, 128, 1024)
 CALLS = ("open", "take", "send", "mark", "total", "substitute")
@@ -51,7 +51,7 @@ def grid():
     for rows in ROWS:
         yield line(across(rows), TOP, across(rows), BOTTOM, GRID)
         yield text(across(rows), BOTTOM + 18, f"{rows:,}", GREY, "middle")
-    yield text((LEFT + RIGHT) / 2, BOTTOM + 36, "rows in use", GREY, "middle")
+    yield text((LEFT + RIGHT) / 2, BOTTOM + 36, "rows in the table", GREY, "middle")
 
 
 def curves(found):

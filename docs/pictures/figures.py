@@ -23,10 +23,24 @@ def table(text):
         yield f"| {call} | {stack[call]} | " + " | ".join(most) + " |"
 
 
+def row_more(found, shape):
+    """What one row more costs where a table is only found sound."""
+    most, fewer = (found["soundness", shape, n][0] for n in (1024, 128))
+    return (most - fewer) / (1024 - 128)
+
+
+def soundness(text):
+    found = cells(text.splitlines())
+    yield ""
+    yield f"Of this, finding the table sound takes {row_more(found, '-'):.0f} instructions for each row in use and "
+    yield f"{row_more(found, 'unused'):.0f} for each that is not, in every call but opening."
+
+
 def main():
     bench, page = sys.argv[1:]
     with open(bench, encoding="utf-8") as file:
-        lines = "\n".join(table(file.read()))
+        figures = file.read()
+    lines = "\n".join([*table(figures), *soundness(figures)])
     with open(page, encoding="utf-8") as file:
         text, places = MARKS.subn(lambda marks: marks[1] + lines + "\n" + marks[2], file.read())
     if places != 1:

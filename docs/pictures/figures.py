@@ -32,8 +32,8 @@ def row_more(found, shape):
 def soundness(text):
     found = cells(text.splitlines())
     yield ""
-    yield f"Of this, finding the table sound takes {row_more(found, '-'):.0f} instructions for each row in use and "
-    yield f"{row_more(found, 'unused'):.0f} for each that is not, in every call but opening."
+    yield f"Of this, to find the table sound takes {row_more(found, '-'):.0f} for each row in use, in every call but opening; and each row that"
+    yield f"is not in use takes {row_more(found, 'unused'):.0f}."
 
 
 def main():

@@ -1,5 +1,5 @@
 -- `numbers::read4` meets its contract: the bytes joined are a field of four. Assumes nothing.
-use mathlib.Core.Path.{sym, _∙_}
+use native.Mathlib.Omega.{arith}
 use borrow.Author.Needs.{needs}
 use Rattle.numbers.proofs.NumberLaws.{field4}
 use Rattle.numbers.proofs.read4.Statement.{statement}
@@ -30,7 +30,9 @@ join4-requires : tie.Need-join4-requires
 join4-requires c κs = search needs
 
 returns : tie.Need-returns
-returns c = c .join4 .ensures ∙ sym (field4 _ _ (search needs))
+returns c =
+    let s = c .before .before .before .before .before .before in
+    omega (arith, c .join4 .ensures, field4 (s .args .bytes .now) (s .args .at) (search needs))
 
 pub read4-spec : {M : Type 1} → statement M
 read4-spec =

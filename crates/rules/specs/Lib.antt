@@ -10,3 +10,4 @@ pub mod Conditions
 pub mod PlanM
 pub mod StepsOf
 pub mod Demands
+pub mod Hindsight

@@ -81,14 +81,18 @@ offers (nothing ∷ ts) s = offers ts s
 offers (took k d w ∷ ts) s = offer s d w ∷ offers ts s
 offers (went o ∷ ts) s = offers ts (suc s)
 
--- A RIVAL'S CHOICE, for each offer in turn a slot or none. It can be kept: each slot lies within its offer's time, and none is used twice
-unfoldable pub kept-to : List Offer → (choice : List (Option ℕ)) → (used : List ℕ) → Bool
+-- A RIVAL'S CHOICE: for each offer in turn a slot or none
+abbrev pub Choice : Type 0
+Choice = List (Option ℕ)
+
+-- it can be kept: each slot lies within its offer's time, and none is used twice
+unfoldable pub kept-to : List Offer → Choice → (used : List ℕ) → Bool
 kept-to [] cs us = true
 kept-to (x ∷ xs) [] us = true
 kept-to (x ∷ xs) (none ∷ cs) us = kept-to xs cs us
 kept-to (x ∷ xs) (some s ∷ cs) us = ((leb (x .from) s && leb s (x .to)) && not (member s us)) && kept-to xs cs (s ∷ us)
 
-unfoldable pub gained : List Offer → (choice : List (Option ℕ)) → ℕ
+unfoldable pub gained : List Offer → Choice → ℕ
 gained [] cs = 0
 gained (x ∷ xs) [] = 0
 gained (x ∷ xs) (none ∷ cs) = gained xs cs
@@ -110,8 +114,8 @@ could-have ts = most (offers ts 0) []
 -- it is the most: some choice that can be kept gains it, and none gains more
 unfoldable pub Most : List Offer → ℕ → Type 0
 Most xs b =
-    ((cs : List (Option ℕ)) × (kept-to xs cs [] ≡ true) × (gained xs cs ≡ b))
-    × ((cs : List (Option ℕ)) → kept-to xs cs [] ≡ true → gained xs cs ≤ b)
+    ((cs : Choice) × (kept-to xs cs [] ≡ true) × (gained xs cs ≡ b))
+    × ((cs : Choice) → kept-to xs cs [] ≡ true → gained xs cs ≤ b)
 
 unfoldable pub Most-reckoned : Type 0
 Most-reckoned = (xs : List Offer) → Most xs (most xs [])

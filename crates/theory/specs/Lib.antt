@@ -31,6 +31,7 @@ pub mod Substitute
 pub mod Best
 pub mod Opened
 pub mod Picks
+pub mod Reach
 pub mod PlanM
 pub mod Chain
 pub mod Leaping

@@ -9,7 +9,7 @@ use borrow.Author.Tests.{ltb-true, leb-true, eqb-true}
 use lib.ListN.{length}
 use Rattle.rules.specs.Rows.{Row, Round, round, All}
 use Rattle.rules.specs.Table.{table, rows-of, round-in, length-good, rows-good, round-good, same, table-refusal}
-use Rattle.rules.specs.Calls.{Call, opening, taking, sending, marking, totalling, refused, first, round-refusal, table-first, refusal, says, leaves, answer, left, run, next-round, after}
+use Rattle.rules.specs.Calls.{Call, opening, taking, sending, marking, totalling, Reply, refused, first, round-refusal, table-first, refusal, says, leaves, answer, left, run, replies, next-round, after}
 use Rattle.theory.specs.Tests.{and-true}
 use Rattle.theory.specs.Full.{Fine, Row-fine, Rising}
 use Rattle.theory.specs.Calls.{no-refusal, next-fine}
@@ -142,3 +142,17 @@ pub run-is : (cs : List Call) (r : Round) → Sane r → run cs (table r) ≡ ta
 unfolding run after
 run-is [] r s = refl
 run-is (c ∷ cs) r s = rw (left-is c r s) (run-is cs (next-round c r) (next-sane c r s))
+
+-- THE REPLIES to a list of calls by the model, without a table
+unfoldable pub model-reply : Call → Round → Reply
+model-reply c r = cond (eqb (round-refusal c r) 0) (says c r) (refused (round-refusal c r))
+
+unfoldable pub model-replies : List Call → Round → List Reply
+model-replies [] r = []
+model-replies (c ∷ cs) r = model-reply c r ∷ model-replies cs (next-round c r)
+
+pub replies-is : (cs : List Call) (r : Round) → Sane r → replies cs (table r) ≡ model-replies cs r
+unfolding replies model-replies model-reply
+replies-is [] r s = refl
+replies-is (c ∷ cs) r s =
+    ap₂ (λ (a : Reply) (qs : List Reply). a ∷ qs) (answer-is c r s) (rw (left-is c r s) (replies-is cs (next-round c r) (next-sane c r s)))

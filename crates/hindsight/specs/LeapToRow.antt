@@ -1,0 +1,165 @@
+-- A leap whose substitute is a row: the shifts make a chain, along which the walk goes. Assumes nothing.
+use mathlib.Core.Path.{_≡_, refl, sym, ap, _∙_, subst}
+use mathlib.Core.Logic.{inl, inr}
+use mathlib.Core.Bool.{false}
+use mathlib.Core.List.{List, [], _∷_}
+use Prim.Native.Nat.{ℕ, suc, _+_, _-_, _≤_, _<_}
+use native.Mathlib.Omega.{arith}
+use borrow.Author.Tests.{ne-eqb}
+use Rattle.rules.specs.Limits.{most-weight}
+use Rattle.rules.specs.Rows.{All, In, Round, Row, row}
+use Rattle.rules.specs.Plan.{in-plan, mark, mark-in, plan, tight-after}
+use Rattle.rules.specs.Steps.{changed, replaced, shifted}
+use Rattle.theory.specs.Sum.{sum}
+use Rattle.theory.specs.All.{all-in, all-map, blank-ticket}
+use Rattle.theory.specs.Full.{Fine, Row-fine, outside, plan-member}
+use Rattle.theory.specs.Marks.{box, mark-all}
+use Rattle.theory.specs.Change.{First, changed-first, changed-sum, not-in-plan, rising-above, rising-same, row-outside, without-sum}
+use Rattle.theory.specs.Leap.{After-leap, Ends, Heavy-to, at-its-mark, ends-of, outside-heavy, rows-kept}
+use Rattle.theory.specs.Totals.{plan-weights}
+use Rattle.theory.specs.Picks.{mark-least}
+use Rattle.hindsight.specs.Occurs.{like, like?, part-in, pull, seen}
+use Rattle.theory.specs.Reach.{reach}
+use Rattle.hindsight.specs.Worth.{Split}
+use Rattle.hindsight.specs.Stash.{Entry, Good, held}
+use Rattle.hindsight.specs.Places.{Chain, Link, Place, news, olds}
+use Rattle.hindsight.specs.LeapStage.{Leap-stage}
+use Rattle.hindsight.specs.LeapCases.{leap-worth}
+use Rattle.hindsight.specs.Shifts.{Shifts-at, shift-top, shifts-step}
+use Rattle.hindsight.specs.Step.{Fixed, split-either, lift}
+use Rattle.hindsight.specs.LeapMade.{Leap-made, Segment-start, held-later, made-from}
+
+-- along a chain no weight above a fixed measure gets lost
+pub chain-lift : (r : Round) (g b : ℕ) (κ : Row → ℕ) → Fixed κ → (p h : Row) (ds : List Place) →
+    Chain r g b p h ds →
+    news (lift κ) ds + lift κ p + olds (λ x. x .weight) ds + h .weight ≤ olds (lift κ) ds + lift κ h + news (λ x. x .weight) ds + p .weight
+chain-lift r g b κ fx p h [] q = omega (arith, ap (lift κ) q, ap (λ (x : Row). x .weight) q)
+chain-lift r g b κ fx p h (d ∷ ds) q =
+    omega (
+      arith,
+      chain-lift r g b κ fx p (d .old) ds (q .2),
+      link (κ (d .new)) (κ h) (d .new .weight) (h .weight) (fx (d .new) h (q .0 .ticket) (q .0 .kind)) (heavier-new (q .0)),
+    )
+  where
+    link : (a b c h : ℕ) → a ≡ b → h ≤ c → c - a + h ≤ h - b + c
+    link a b c h e l = omega arith
+
+    heavier-new : {o c h : Row} → Link r g o c h → h .weight ≤ c .weight
+    heavier-new k = omega (arith, k .rises)
+
+module _ (r : Round) (f : Fine r) (o : r .slot ≤ r .last) (p s : Row) (b : ℕ) (sp : Segment-start r p b) (fs : List Row) (es : List Entry)
+    (sl : Split r fs (held es)) (gd : Good r (suc (r .slot)) es)
+    (out : (w : ℕ) → 1 ≤ w → w ≤ most-weight → s .weight < w → All (λ y. w ≤ y .weight → y .due < b) (outside r))
+    (top : All (λ y. y .due ≤ tight-after r (plan r) (s .due) → y .weight ≤ p .weight) (plan r)) where
+  -- with the chain at hand
+  leap-along : In s (r .rows) → b ≤ s .due → (n : in-plan s (plan r) ≡ false) → (e g : ℕ) → e ≡ tight-after r (plan r) (p .due) → g ≡ tight-after r (plan r) (s .due) →
+      Ends r p s e g → (ys : List Row) → ((μ : Row → ℕ) → sum μ ys + μ s ≡ sum μ fs) → (xs : List Row) → xs ≡ shifted (suc (r .last)) r (plan r) e g (r .rows) →
+      Shifts-at r f p b g e g xs → Leap-made r p s fs es
+  unfolding replaced row mark
+  leap-along j hs n e g ee ge en ys pu xs xe q =
+      let oo = all-in (Row-fine r) s (r .rows) (f .fine) j in
+      let c = at-its-mark r s in
+      let hk = q .hole in
+      let stage : Leap-stage r f p s hk c b g (q .places) fs ys es = record {
+        time = o;
+        p-from = sp .start .by;
+        p-limit = all-in (λ x. (x .weight ≤ most-weight) × (x .due < suc (r .last))) p (plan r) (plan-weights r f) (sp .inside) .0;
+        low = sp .low;
+        edge = sp .start .edge;
+        after = hs;
+        next = en .last;
+        out = out;
+        less = λ w v a. pu (box w v (suc (r .last)));
+        stands = λ a. row-outside r s j n;
+        mark-s = outside-heavy r f s j n;
+        same = refl;
+        comes = refl;
+        final = record {
+          inside = q .inside;
+          waits = q .waits;
+          low = omega (arith, q .from, sp .start .low);
+          by = q .by;
+          end = en .last .by;
+          above = mark-least r f (s .due) hk (q .inside) (omega (arith, q .by));
+          limit = all-in (λ x. (x .weight ≤ most-weight) × (x .due < suc (r .last))) hk (plan r) (plan-weights r f) (q .inside) .0;
+          under = outside-heavy r f s j n;
+          marks = λ v a l. reach r f (s .due) v (oo .1) a (omega arith);
+          adjust = λ w v. omega arith;
+        };
+        chain = q .chain;
+        begin = q .from;
+        split = sl;
+        good = gd;
+        present = λ x ip ir. omega (arith, sl .whole (like x), pu (like x), seen x (r .rows) ir, other x ip);
+        lates = held-later r f fs es sl gd;
+        top = subst (λ (z : ℕ). All (λ y. y .due ≤ z → y .weight ≤ p .weight) (plan r)) (sym ge) top;
+      } in
+      let l = leap-worth r f p s hk c b g (q .places) fs ys es stage in
+      let u = l .walk in
+      let fs′ : First s xs = q .kept .others s j (λ y a b d. not-in-plan s (plan r) n y a (sym d)) in
+      let fp : First p (changed (s .ticket) c xs) = changed-first (s .ticket) c p (not-in-plan s (plan r) n p (sp .inside)) refl xs
+      (q .kept .others p (sp .waits) (λ y a t d. omega (arith, en .first .from, t, ap (λ (x : Row). x .due) (same-member r f y p a (sp .waits) d)))) in
+      let rows-are : shifted (suc (r .last)) r (plan r) (tight-after r (plan r) (p .due)) (tight-after r (plan r) (s .due)) (r .rows) ≡ xs = sym
+      (xe ∙ ap (λ (z : ℕ). shifted (suc (r .last)) r (plan r) z g (r .rows)) ee
+      ∙ ap (λ (z : ℕ). shifted (suc (r .last)) r (plan r) (tight-after r (plan r) (p .due)) z (r .rows)) ge) in
+      let rows-after : (μ : Row → ℕ) → sum μ (After-leap r p s) + μ s + olds μ (q .places) + μ hk ≡ sum μ (r .rows) + news μ (q .places) + μ c = λ μ.
+      rw (rows-are, ne-eqb (s .ticket) 0 (λ z. omega (arith, rising-above 1 (r .next) s (r .rows) (f .rising) j)))
+      (omega (arith, q .sums μ, changed-sum μ s c xs fs′, without-sum μ p (changed (s .ticket) c xs) fp)) in
+      made-from r f p s hk c b (q .places) fs ys es sp l (l .xs)
+      (λ μ. omega (arith, rows-after μ, u .swap μ, l .olds-are μ, l .news-are μ, pu μ, sl .whole μ)) (omega arith)
+      (λ κ fx. omega (
+        arith,
+        rows-after (lift κ),
+        u .rises,
+        l .olds-are (λ x. x .weight),
+        l .news-are (λ x. x .weight),
+        fx c s refl refl,
+        outside-heavy r f s j n,
+        chain-lift r g b κ fx p hk (q .places) (q .chain),
+      ))
+    where
+      other : (x : Row) → In x (plan r) → like x s ≡ 0
+      other x ip = elim (like? x s) [
+        | inl a ↦ absurd (not-in-plan s (plan r) n x ip (ap (λ (y : Row). y .ticket) (sym (a .1))))
+        | inr a ↦ a
+      ]
+
+      same-member : (r : Round) → Fine r → (h p : Row) → In h (plan r) → In p (r .rows) → h .ticket ≡ p .ticket → h ≡ p
+      same-member r f h p i j e = elim (plan-member r h i) [
+        | inr a ↦ absurd (omega (arith, blank-ticket h (a .0), rising-above 1 (r .next) p (r .rows) (f .rising) j))
+        | inl a ↦ rising-same 1 (r .next) h p (r .rows) (f .rising) a j e
+      ]
+
+  -- THE SUBSTITUTE IS A ROW
+  pub leap-to-row : In s (r .rows) → b ≤ s .due → in-plan s (plan r) ≡ false → Leap-made r p s fs es
+  leap-to-row j hs n =
+      let oo = all-in (Row-fine r) s (r .rows) (f .fine) j in
+      let e = tight-after r (plan r) (p .due) in
+      let g = tight-after r (plan r) (s .due) in
+      let en = ends-of r f p s b (sp .by) (omega (arith, sp .start .low, sp .start .by)) (sp .start) hs (oo .1) in
+      let hv : Heavy-to r g = all-map {Q = λ y. y .due ≤ g → 1 ≤ y .weight}
+      (λ y (a : y .due ≤ g → mark-in r (plan r) (s .due) ≤ y .weight) (c : y .due ≤ g). omega (arith, a c, outside-heavy r f s j n, oo .2))
+      (plan r) (mark-all r (plan r) (s .due)) in
+      let inf : In s fs = elim (split-either r fs (held es) sl s j) [
+        | inl a ↦ a
+        | inr a ↦ absurd (not-in-plan s (plan r) n s (part-in (held es) (plan r) (sl .inside) s a) refl)
+      ] in
+      let pu = pull s fs inf in
+      let q = shift-top r f g (en .last .by) (en .last .tight) hv (Shifts-at r f p b g e)
+      (λ e′ xs h e″ st tp k. shifts-step r f p b g e (en .last .by) (omega (arith, sp .start .low)) e′ xs h e″ st tp k)
+      (suc (r .last)) e (r .rows) (omega (arith, en .start, en .first .from)) (en .order) (omega (arith, en .last .by)) (en .first .tight)
+      (record {
+        hole = p;
+        places = [];
+        chain = refl;
+        next = en .first;
+        inside = sp .inside;
+        waits = sp .waits;
+        by = omega (arith, en .first .from, en .order);
+        from = sp .start .by;
+        top = all-map {Q = λ y. e < y .due → y .due ≤ g → y .weight ≤ p .weight}
+            (λ y (t : y .due ≤ g → y .weight ≤ p .weight) (i : e < y .due) (l : y .due ≤ g). t l) (plan r) top;
+        kept = rows-kept r f e;
+        sums = λ μ. omega arith;
+      }) in
+      leap-along j hs n e g refl refl en (pu .0) (pu .1) (shifted (suc (r .last)) r (plan r) e g (r .rows)) refl q

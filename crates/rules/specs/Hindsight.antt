@@ -120,10 +120,16 @@ Most xs b =
 unfoldable pub Most-reckoned : Type 0
 Most-reckoned = (xs : List Offer) → Most xs (most xs [])
 
--- THE GOLDEN BOUND, of every round from its opening past its last slot, by the calls and replies in between
-unfoldable pub Golden-hindsight : Type 0
-Golden-hindsight =
+-- A CLAIM about every list of calls on a table just opened, with no accepted opening among them: of the bytes afterwards and of what is told
+abbrev pub Of-rounds : (claim : (bytes : List ℕ) → List Told → Type 0) → Type 0
+Of-rounds claim =
     (t : List ℕ) (k l : ℕ) (cs : List Call) → length t ≡ head-size + row-size * k → 1 ≤ k → k ≤ most-rows → l ≤ most-last → No-opening cs →
-    Past (run cs (left (opening l) t)) →
-    let ts = story cs (replies cs (left (opening l) t)) in
-    could-have ts * could-have ts ≤ could-have ts * sent-in ts + sent-in ts * sent-in ts
+    let z = left (opening l) t in claim (run cs z) (story cs (replies cs z))
+
+-- what went out could have: S is at most B
+unfoldable pub Sent-could-have : Type 0
+Sent-could-have = Of-rounds (λ z ts. sent-in ts ≤ could-have ts)
+
+-- THE GOLDEN BOUND: past the last slot B is at most S times the golden ratio
+unfoldable pub Golden-hindsight : Type 0
+Golden-hindsight = Of-rounds (λ z ts. Past z → could-have ts * could-have ts ≤ could-have ts * sent-in ts + sent-in ts * sent-in ts)

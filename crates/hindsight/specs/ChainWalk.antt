@@ -12,7 +12,7 @@ use Rattle.theory.specs.Sum.{sum}
 use Rattle.theory.specs.All.{all-in}
 use Rattle.theory.specs.Full.{Fine}
 use Rattle.theory.specs.Marks.{box-yes}
-use Rattle.hindsight.specs.Boxes.{tail}
+use Rattle.hindsight.specs.Tails.{tail}
 use Rattle.hindsight.specs.Occurs.{like, seen}
 use Rattle.theory.specs.Reach.{mark-falls}
 use Rattle.hindsight.specs.Stash.{Entry, held}

@@ -15,7 +15,7 @@ use Rattle.theory.specs.All.{all-in, all-map}
 use Rattle.theory.specs.Full.{Fine}
 use Rattle.theory.specs.Marks.{box, box-yes, box?}
 use Rattle.theory.specs.Totals.{sum-to-add, sum-to-le}
-use Rattle.hindsight.specs.Boxes.{Latest-by, latest, tail}
+use Rattle.hindsight.specs.Tails.{Latest-by, latest, tail}
 use Rattle.hindsight.specs.Occurs.{found, like, part-all, part-in}
 use Rattle.theory.specs.Reach.{member-mark}
 use Rattle.hindsight.specs.Worth.{rank, rank-ge, worth}

@@ -14,12 +14,11 @@ use Rattle.theory.specs.Tests.{both-ways, leb?}
 use Rattle.theory.specs.Sum.{sum}
 use Rattle.theory.specs.All.{all-in, all-map}
 use Rattle.theory.specs.Full.{Fine, Row-fine, outside}
-use Rattle.theory.specs.Marks.{box, mark-all}
+use Rattle.theory.specs.Marks.{box, box-back, box-lighter, mark-all}
 use Rattle.theory.specs.Change.{changed-sum, rising-first, without-sum}
 use Rattle.theory.specs.Send.{next-by}
 use Rattle.theory.specs.Leap.{After-leap, ends-of, no-shift}
 use Rattle.theory.specs.Totals.{plan-weights, sum-to-le}
-use Rattle.hindsight.specs.Boxes.{box-back, box-lighter}
 use Rattle.hindsight.specs.Occurs.{found, like, like-self, like?, pull, seen}
 use Rattle.theory.specs.Reach.{reach}
 use Rattle.hindsight.specs.Worth.{Split, rank, rank-ge, rank-le, worth}

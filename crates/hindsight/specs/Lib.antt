@@ -1,5 +1,5 @@
 -- rows counted; marks; what rows are worth
-pub mod Boxes
+pub mod Tails
 pub mod Occurs
 pub mod Worth
 pub mod Passing

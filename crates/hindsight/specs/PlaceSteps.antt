@@ -12,7 +12,7 @@ use Rattle.theory.specs.Sum.{sum}
 use Rattle.theory.specs.Full.{Fine}
 use Rattle.theory.specs.Marks.{box}
 use Rattle.theory.specs.Totals.{sum-to-add}
-use Rattle.hindsight.specs.Boxes.{tail}
+use Rattle.hindsight.specs.Tails.{tail}
 use Rattle.hindsight.specs.Occurs.{found, like, like-late, like-some, pull, seen}
 use Rattle.theory.specs.Reach.{mark-falls}
 use Rattle.hindsight.specs.Worth.{up-to?}
@@ -105,7 +105,7 @@ module _ (r : Round) (f : Fine r) (wr : ℕ) (ys : List Row) (es : List Entry) (
     step-stay i n =
         let q = pull o (u .untouched) i in
         let inz : In o (held zs) = found o (held zs) (omega (arith, u .kept (like o), seen o (u .untouched) i)) in
-        let z = trade r o c (k .from) (omega (arith, k .rises, k .falls, k .above)) (suc (r .slot)) zs inz (u .good) in
+        let z = trade r o c (k .from) (omega (arith, k .rises, k .falls, k .above)) (suc (r .slot)) zs (omega arith) inz (u .good) in
         let same : c .weight ≡ h .weight = omega (arith, k .rises, u .under) in (
           z .stash,
           record {

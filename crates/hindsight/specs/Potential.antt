@@ -24,7 +24,7 @@ use Rattle.theory.specs.Full.{Fine, Rising}
 use Rattle.theory.specs.Calls.{Takes, sent-rows, taken-fine, taken-stays}
 use Rattle.theory.specs.Totals.{sum-to-le, sum-to-zero}
 use Rattle.theory.specs.Back.{rising-le}
-use Rattle.hindsight.specs.Boxes.{box-empty}
+use Rattle.theory.specs.Marks.{box-empty}
 use Rattle.hindsight.specs.Worth.{rank, rank-le, worth, worth-more}
 use Rattle.hindsight.specs.Fibonacci.{fib-52, fib-53, fib-54}
 use Rattle.hindsight.specs.Stash.{Entry, Good, Idle, claims, good-stays, held, hold, idle, owe}

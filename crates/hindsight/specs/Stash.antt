@@ -73,85 +73,61 @@ good-stays r z e t s (owe n ∷ es) h m g =
     (omega (arith, g .0), omega (arith, g .1, m s h (g .0)), good-stays r z e t (suc s) es (omega arith) m (g .2))
 good-stays r z e t s (hold x n ∷ es) h m g = (omega (arith, g .0), g .1, g .2, good-stays r z e t (suc s) es (omega arith) m (g .3))
 
--- A HELD ROW GIVEN UP: o for a number q, paid what it weighs above that
-pub record Given-up (r : Round) (o : Row) (q s : ℕ) (es : List Entry) : Type 0 where
+-- A HELD ROW EXCHANGED: o for the rows cs, and the paid part of its weight for what is left, q
+pub record Exchanged (r : Round) (o : Row) (cs : List Row) (q s : ℕ) (es : List Entry) : Type 0 where
   pub stash : List Entry
-  pub sums : (μ : Row → ℕ) → sum μ (held stash) + μ o ≡ sum μ (held es)
+  pub sums : (μ : Row → ℕ) → sum μ (held stash) + μ o ≡ sum μ (held es) + sum μ cs
   pub counts : claims es + q ≤ claims stash + o .weight
   pub good : Good r s stash
   pub keeps : Keeps s es stash
 
--- any held row can be, for at most its weight and the mark of its due slot
+-- any held row can be, where the new entry is good wherever the old one is
+module _ (r : Round) (o : Row) (cs : List Row) (q : ℕ) (new : ℕ → Entry)
+    (fits : (s m : ℕ) (es : List Entry) → r .slot ≤ s → s ≤ r .last → s ≤ o .due → Good r (suc s) es → Good r s (new m ∷ es))
+    (holds : (μ : Row → ℕ) (m : ℕ) (es : List Entry) → sum μ (held (new m ∷ es)) ≡ sum μ cs + sum μ (held es))
+    (counts : (m : ℕ) (es : List Entry) → m ≤ o .weight → m + claims es + q ≤ claims (new m ∷ es) + o .weight) where
+  exchange : (s : ℕ) (es : List Entry) → r .slot ≤ s → In o (held es) → Good r s es → Exchanged r o cs q s es
+  exchange s [] t i g = absurd i
+  exchange s (idle ∷ es) t i g =
+      let z = exchange (suc s) es (omega arith) i (g .1) in
+      record { stash = idle ∷ z .stash; sums = z .sums; counts = z .counts; good = (g .0, z .good); keeps = λ us d. (d .0, z .keeps us (d .1)) }
+  exchange s (owe m ∷ es) t i g =
+      let z = exchange (suc s) es (omega arith) i (g .2) in
+      record {
+        stash = owe m ∷ z .stash;
+        sums = z .sums;
+        counts = omega (arith, z .counts);
+        good = (g .0, g .1, z .good);
+        keeps = λ us d. (d .0, z .keeps us (d .1));
+      }
+  exchange s (hold x m ∷ es) t (inl e) g =
+      record {
+        stash = new m ∷ es;
+        sums = λ μ. omega (arith, holds μ m es, ap μ e);
+        counts = omega (arith, counts m es (omega (arith, g .2, ap (λ (z : Row). z .weight) e)));
+        good = fits s m es t (g .0) (omega (arith, g .1, ap (λ (z : Row). z .due) e)) (g .3);
+        keeps = λ us d. (λ b. hold-idle x m (new m) (d .0 b), d .1);
+      }
+  exchange s (hold x m ∷ es) t (inr i) g =
+      let z = exchange (suc s) es (omega arith) i (g .3) in
+      record {
+        stash = hold x m ∷ z .stash;
+        sums = λ μ. omega (arith, z .sums μ);
+        counts = omega (arith, z .counts);
+        good = (g .0, g .1, g .2, z .good);
+        keeps = λ us d. (d .0, z .keeps us (d .1));
+      }
+
+-- A HELD ROW GIVEN UP for a number owed, at most its weight and the mark of its due slot
 pub give-up : (r : Round) → Fine r → (o : Row) (q : ℕ) → q ≤ mark r (o .due) → q ≤ o .weight → o .due ≤ r .last → (s : ℕ) (es : List Entry) →
-    r .slot ≤ s → In o (held es) → Good r s es → Given-up r o q s es
-give-up r f o q h k l s [] t i g = absurd i
-give-up r f o q h k l s (idle ∷ es) t i g =
-    let z = give-up r f o q h k l (suc s) es (omega arith) i (g .1) in
-    record { stash = idle ∷ z .stash; sums = z .sums; counts = z .counts; good = (g .0, z .good); keeps = λ us d. (d .0, z .keeps us (d .1)) }
-give-up r f o q h k l s (owe m ∷ es) t i g =
-    let z = give-up r f o q h k l (suc s) es (omega arith) i (g .2) in
-    record {
-      stash = owe m ∷ z .stash;
-      sums = z .sums;
-      counts = omega (arith, z .counts);
-      good = (g .0, g .1, z .good);
-      keeps = λ us d. (d .0, z .keeps us (d .1));
-    }
-give-up r f o q h k l s (hold x m ∷ es) t (inl e) g =
-    record {
-      stash = owe (min m q) ∷ es;
-      sums = λ μ. omega (arith, ap μ e);
-      counts = omega (arith, g .2, ap (λ (z : Row). z .weight) e);
-      good = (g .0, omega (arith, h, mark-falls r f s (o .due) t (omega (arith, g .1, ap (λ (z : Row). z .due) e)) l), g .3);
-      keeps = λ us d. (λ b. hold-idle x m (owe (min m q)) (d .0 b), d .1);
-    }
-give-up r f o q h k l s (hold x m ∷ es) t (inr i) g =
-    let z = give-up r f o q h k l (suc s) es (omega arith) i (g .3) in
-    record {
-      stash = hold x m ∷ z .stash;
-      sums = λ μ. omega (arith, z .sums μ);
-      counts = omega (arith, z .counts);
-      good = (g .0, g .1, g .2, z .good);
-      keeps = λ us d. (d .0, z .keeps us (d .1));
-    }
+    r .slot ≤ s → In o (held es) → Good r s es → Exchanged r o [] q s es
+give-up r f o q h k l =
+    exchange r o [] q (λ m. owe (min m q)) (λ s m es t a b g. (a, omega (arith, h, mark-falls r f s (o .due) t b l), g)) (λ μ m es. omega arith)
+    (λ m es a. omega arith)
 
--- A HELD ROW TRADED: o for another that is due no earlier and no heavier
-pub record Traded (r : Round) (o c : Row) (s : ℕ) (es : List Entry) : Type 0 where
-  pub stash : List Entry
-  pub sums : (μ : Row → ℕ) → sum μ (held stash) + μ o ≡ sum μ (held es) + μ c
-  pub counts : claims es + c .weight ≤ claims stash + o .weight
-  pub good : Good r s stash
-  pub keeps : Keeps s es stash
-
--- any held row can be
-pub trade : (r : Round) (o c : Row) → o .due ≤ c .due → c .weight ≤ o .weight → (s : ℕ) (es : List Entry) → In o (held es) → Good r s es → Traded r o c s es
-trade r o c h k s [] i g = absurd i
-trade r o c h k s (idle ∷ es) i g =
-    let z = trade r o c h k (suc s) es i (g .1) in
-    record { stash = idle ∷ z .stash; sums = z .sums; counts = z .counts; good = (g .0, z .good); keeps = λ us d. (d .0, z .keeps us (d .1)) }
-trade r o c h k s (owe m ∷ es) i g =
-    let z = trade r o c h k (suc s) es i (g .2) in
-    record {
-      stash = owe m ∷ z .stash;
-      sums = z .sums;
-      counts = omega (arith, z .counts);
-      good = (g .0, g .1, z .good);
-      keeps = λ us d. (d .0, z .keeps us (d .1));
-    }
-trade r o c h k s (hold x m ∷ es) (inl e) g =
-    record {
-      stash = hold c (min m (c .weight)) ∷ es;
-      sums = λ μ. omega (arith, ap μ e);
-      counts = omega (arith, g .2, ap (λ (z : Row). z .weight) e);
-      good = (g .0, omega (arith, g .1, ap (λ (z : Row). z .due) e), omega arith, g .3);
-      keeps = λ us d. (λ b. hold-idle x m (hold c (min m (c .weight))) (d .0 b), d .1);
-    }
-trade r o c h k s (hold x m ∷ es) (inr i) g =
-    let z = trade r o c h k (suc s) es i (g .3) in
-    record {
-      stash = hold x m ∷ z .stash;
-      sums = λ μ. omega (arith, z .sums μ);
-      counts = omega (arith, z .counts);
-      good = (g .0, g .1, g .2, z .good);
-      keeps = λ us d. (d .0, z .keeps us (d .1));
-    }
+-- A HELD ROW TRADED for another that is due no earlier and no heavier
+pub trade : (r : Round) (o c : Row) → o .due ≤ c .due → c .weight ≤ o .weight → (s : ℕ) (es : List Entry) → r .slot ≤ s → In o (held es) → Good r s es →
+    Exchanged r o (c ∷ []) (c .weight) s es
+trade r o c h k =
+    exchange r o (c ∷ []) (c .weight) (λ m. hold c (min m (c .weight))) (λ s m es t a b g. (a, omega arith, omega arith, g)) (λ μ m es. omega arith)
+    (λ m es a. omega arith)

@@ -11,7 +11,7 @@ use Rattle.rules.specs.Plan.{feasible, blanks-from, plan}
 use Rattle.rules.specs.PlanM.{Member}
 use Rattle.theory.specs.Tests.{leb?, ltb?}
 use Rattle.theory.specs.Sum.{sum, sum-append, sum-sorted, sum-kept, rejected}
-use Rattle.theory.specs.All.{all-in, all-of-in, all-blanks, all-map, all-append, all-sorted, all-kept, falling-append, light-blanks}
+use Rattle.theory.specs.All.{all-in, all-of-in, all-blanks, all-map, all-append, all-sorted, all-kept, falling-append, light-blanks, all-rejected}
 use Rattle.theory.specs.Order.{ordered-sorted, ordered-falling}
 use Rattle.theory.specs.Feas.{below, num, below-yes, below-late, num-mono, num-light, num-early, Feas, feas-made, kept-feas, Edge, run-edge}
 
@@ -55,6 +55,13 @@ plan-members r = plan-all (Member r) r (all-of-in (Member r) (r .rows) (λ x i. 
 
 pub plan-member : (r : Round) (x : Row) → In x (plan r) → Member r x
 plan-member r x i = all-in (Member r) x (plan r) (plan-members r) i
+
+-- and so is what is outside
+pub outside-member : (r : Round) (x : Row) → In x (outside r) → Member r x
+unfolding outside blank
+outside-member r x i =
+    all-in (Member r) x (outside r)
+    (all-rejected (Member r) r (pool r) [] (pool-all (Member r) r (all-of-in (Member r) (r .rows) (λ x i. inl i)) (λ s h k. inr (refl, h, k)))) i
 
 pub member-due : (r : Round) → Fine r → (x : Row) → Member r x → (r .slot ≤ x .due) × (x .due ≤ r .last)
 member-due r g x (inl i) = let h = all-in (Row-fine r) x (r .rows) (g .fine) i in (h .0, h .1)

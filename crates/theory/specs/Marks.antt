@@ -8,7 +8,7 @@ use native.Mathlib.Omega.{arith}
 use Rattle.rules.specs.Rows.{Row, Round, All, In}
 use Rattle.rules.specs.Plan.{due-by, plan, tight, tight-from, tight-after, segment-from, segment-start, least-weight, mark-in, mark}
 use Rattle.theory.specs.Tests.{leb?, ltb?, eqb?}
-use Rattle.theory.specs.Sum.{sum}
+use Rattle.theory.specs.Sum.{sum, sum-le}
 use Rattle.theory.specs.All.{all-map}
 use Rattle.theory.specs.Feas.{below, below?, num, below-yes, below-late, below-mono, below-weight, num-weight, num-early, due-below, Feas}
 use Rattle.theory.specs.Full.{Fine, outside, plan-feas, plan-edge, plan-sum, no-blanks, plan-full}
@@ -232,6 +232,48 @@ pub box-num : (w v e : ℕ) → v ≤ e → (xs : List Row) → sum (box w v e) 
 unfolding box
 box-num w v e h [] = refl
 box-num w v e h (x ∷ xs) = omega (arith, box-num w v e h xs, below-mono w v e h x)
+
+-- a stretch that ends before it begins has no row
+pub box-back : (w v e : ℕ) → e ≤ v → (y : Row) → box w v e y ≡ 0
+unfolding box
+box-back w v e i y = omega (arith, below-mono w e v i y)
+
+-- nor has it any of a list
+pub box-empty : (w v e : ℕ) → e ≤ v → (xs : List Row) → sum (box w v e) xs ≡ 0
+box-empty w v e i [] = refl
+box-empty w v e i (y ∷ ys) = omega (arith, box-empty w v e i ys, box-back w v e i y)
+
+-- a row counts once at most
+pub box-once : (w v e : ℕ) (x : Row) → v ≤ e → box w v e x ≤ 1
+box-once w v e x h = elim (box? w v e x h) [ inl q ↦ omega arith | inr q ↦ omega arith ]
+
+-- a lighter row counts nothing
+pub box-lighter : (w v e : ℕ) (x : Row) → v ≤ e → x .weight < w → box w v e x ≡ 0
+box-lighter w v e x h k = elim (box? w v e x h) [ inl q ↦ absurd (omega arith) | inr q ↦ q ]
+
+-- nor does one due before the stretch
+pub box-early : (w v e : ℕ) (x : Row) → x .due < v → box w v e x ≡ 0
+box-early w v e x h =
+    elim (leb? v e) [
+      | inl j ↦ elim (box? w v e x (j .1)) [ inl z ↦ absurd (omega arith) | inr z ↦ z ]
+      | inr j ↦ box-back w v e (omega arith) x
+    ]
+
+-- nor does one due after it
+pub box-later : (w v e : ℕ) (x : Row) → e ≤ x .due → box w v e x ≡ 0
+box-later w v e x h =
+    elim (leb? v e) [
+      | inl j ↦ elim (box? w v e x (j .1)) [ inl z ↦ absurd (omega arith) | inr z ↦ z ]
+      | inr j ↦ box-back w v e (omega arith) x
+    ]
+
+-- a box of a lesser weight has no fewer rows
+pub box-light : (w z v e : ℕ) → w ≤ z → v ≤ e → (x : Row) → box z v e x ≤ box w v e x
+box-light w z v e h k x = elim (box? z v e x k) [ inl a ↦ omega (arith, box-yes w v e x (omega arith) (a .2) (a .3)) | inr a ↦ omega arith ]
+
+-- nor has it of a list
+pub box-weight : (w z v e : ℕ) → w ≤ z → v ≤ e → (xs : List Row) → sum (box z v e) xs ≤ sum (box w v e) xs
+box-weight w z v e h k xs = sum-le (box z v e) (box w v e) (box-light w z v e h k) xs
 
 -- the plan's rows of weight w fill the slots before e: so do the waiting rows from v on, and c more where the plan leaves c slots before v
 pub filled : (r : Round) → Fine r → (w e v c : ℕ) → 1 ≤ w → r .slot ≤ v → v ≤ e → num w e (plan r) ≡ e - r .slot →

@@ -160,6 +160,14 @@ of-outside r f μ x i =
           tick-once r f n (omega arith),
         )
 
+-- a row outside has no member's ticket
+pub outside-not : (r : Round) → Fine r → (x : Row) → 1 ≤ x .ticket → In x (outside r) → in-plan x (plan r) ≡ false
+outside-not r f x h i =
+    elim (either (in-plan x (plan r))) [
+      | inl e ↦ absurd (omega (arith, of-outside r f (λ y. 1) x i, of-yes (plan r) (λ y. 1) x h e))
+      | inr e ↦ e
+    ]
+
 -- the plan's rows are the waiting rows in it
 pub planned-same : (r : Round) → Fine r → Same (rows-only (plan r)) (planned r)
 unfolding planned

@@ -23,7 +23,7 @@ use Rattle.hindsight.specs.Stash.{Entry, held}
 use Rattle.hindsight.specs.Places.{Place, Walk, news, olds, put, short}
 use Rattle.hindsight.specs.PlaceSteps.{give-up-extra}
 use Rattle.hindsight.specs.ChainEnd.{start-free, start-gone}
-use Rattle.hindsight.specs.ChainWalk.{walk-all, walk-first, walk-none}
+use Rattle.hindsight.specs.ChainWalk.{Walked, walk-all, walk-first, walk-none}
 use Rattle.hindsight.specs.LeapStage.{Leap-stage, gone-above, gone-above-low, gone-above-sum, rank-none-held, rank-before, rank-above, rank-up-to, Blocked, Useful, blocked?, useful-past}
 
 -- WHAT A LEAP IS WORTH: where the walk ends, and that the free rows then are worth no less than before, up to what was gained and lost
@@ -162,56 +162,61 @@ module _ (r : Round) (f : Fine r) (p s h c : Row) (b g : ℕ) (ds : List Place) 
         | inr i ↦ absurd (omega (arith, k .present h (k .final .inside) (k .final .waits), hn h (k .begin) (k .final .by)))
       ]
 
-  -- THE LATEST ROW HELD by g is in the stretch
-  held-in-stretch : (x : Row) → In x (held es) → In x (plan r) → b ≤ x .due → x .due ≤ g → r .slot ≤ x .due → Latest-by g (x .due) (held es) →
+  -- A WALK along the chain, rows of the stretch given up on it; d is where the latest row held by g is due
+  walk-worth : (d : ℕ) → Latest-by g d (held es) → (xs₀ : List Row) (u : Walked r f (s .weight) ys es (short r h c) b p xs₀ (put h c ∷ []) ds) →
+      ((w v : ℕ) → 1 ≤ w → w ≤ s .weight → suc (r .slot) ≤ v → v ≤ suc (r .last) →
+      tail w v (suc (r .last)) fs ≤ tail w v (suc (r .last)) (u .xs) + one-if (leb v g)) →
+      ((w v : ℕ) → 1 ≤ w → w ≤ s .weight → suc (r .slot) ≤ v → v ≤ suc (r .last) → v ≤ d →
+      tail w v (suc (r .last)) fs ≤ tail w v (suc (r .last)) (u .xs)) → Leap-worth r f p s h c ds fs ys es
+  walk-worth d lat xs₀ u low early =
+      leap-worth-of (u .mh) (u .gs) (u .xs) (u .zs) (u .done) (u .walk)
+      (λ w a l. elim (ltb? (s .weight) w) [
+        | inl q ↦ rank-above r f p s h c b g ds fs ys es k (u .mh) (u .gs) (u .xs) (u .zs) (u .done) (u .walk) (u .from)
+            (gone-due (u .mh) (u .gs) (u .xs) (u .zs) (u .done) (u .walk)) w a l (q .1)
+        | inr q ↦ omega (
+          arith,
+          gone-above-low (s .weight) (u .gs) w (q .1),
+          rank-up-to r f p s h c b g ds fs ys es k d (u .xs) lat w a (q .1) (λ v i j. low w v a (q .1) i j) (λ v i j y. early w v a (q .1) i j y),
+        )
+      ])
+      (λ μ. omega (arith, u .olds-are μ)) (λ μ. omega (arith, u .news-are μ))
+
+  -- THE LATEST ROW HELD by g is in the stretch, and the last place is free
+  stretch-free : (x : Row) → In x (held es) → In x (plan r) → b ≤ x .due → x .due ≤ g → r .slot ≤ x .due → Latest-by g (x .due) (held es) → In h ys →
       Leap-worth r f p s h c ds fs ys es
-  held-in-stretch x ih ip xb xg xl lat =
+  stretch-free x ih ip xb xg xl lat i =
       let e = suc (r .last) in
       let xe : x .due ≤ r .last = all-in (λ x. (suc (r .slot) ≤ x .due) × (x .due ≤ r .last)) x (held es) (k .lates) ih .1 in
       let wm : (v : ℕ) → r .slot ≤ v → v ≤ g → s .weight ≤ mark r v = λ v i j. omega (arith, k .final .marks v i j, k .final .under) in
       let mx = member-mark r f x ip xe in
+      let t = start-free r f (s .weight) ys es (short r h c) g h c (k .final) (k .good) i in
+      let z = walk-first r f (s .weight) ys es (short r h c) g b p h (c .weight) (c ∷ t .0) es (put h c ∷ []) ds (k .present) (k .chain) (k .final .by) wm
+      x ip xl xg xe xb (omega (arith, wm (x .due) xl xg, mx)) mx (all-in (λ y. y .due ≤ g → y .weight ≤ p .weight) x (plan r) (k .top) ip xg)
+      (k .final .limit) (k .final .marks (x .due) xl xg) (t .1) (subst (λ (l : List Row). In x l) (sym (t .4)) ih) (t .3) in
+      let base : (w v : ℕ) → 1 ≤ w → w ≤ s .weight → suc (r .slot) ≤ v → v ≤ e → tail w v e fs ≤ tail w v e (c ∷ t .0) + one-if (leb v g) = λ w v a l i j.
+      omega (arith, k .less w v a, t .2 (box w v e), same-to-weight w v a l j, last-place-late w v j) in
+      walk-worth (x .due) lat (c ∷ t .0) (z .0)
+      (λ w v a l i j. omega (arith, base w v a l i j, z .0 .mono w v a l i j))
+      (λ w v a l i j y. omega (arith, base w v a l i j, one-most v, z .1 w v a l i j y))
+
+  -- or held itself
+  stretch-held : (d : ℕ) → Latest-by g d (held es) → In h (held es) → Leap-worth r f p s h c ds fs ys es
+  stretch-held d lat i =
+      let e = suc (r .last) in
+      let t = start-gone r f (s .weight) ys es (short r h c) g h c (k .final) (k .good) i in
+      let u = walk-all r f (s .weight) ys es (short r h c) g b p h (c .weight) (h ∷ []) (c ∷ ys) (t .0) (put h c ∷ []) ds (k .present) (k .chain)
+      (k .begin, tt) (t .1) in
+      let base : (w v : ℕ) → 1 ≤ w → w ≤ s .weight → suc (r .slot) ≤ v → v ≤ e → tail w v e fs ≤ tail w v e (u .xs) = λ w v a l i j.
+      omega (arith, k .less w v a, same-to-weight w v a l j, u .mono w v a l i j) in
+      walk-worth d lat (c ∷ ys) u (λ w v a l i j. omega (arith, base w v a l i j)) (λ w v a l i j y. base w v a l i j)
+
+  -- in either case
+  held-in-stretch : (x : Row) → In x (held es) → In x (plan r) → b ≤ x .due → x .due ≤ g → r .slot ≤ x .due → Latest-by g (x .due) (held es) →
+      Leap-worth r f p s h c ds fs ys es
+  held-in-stretch x ih ip xb xg xl lat =
       elim (leb? 1 (sum (like h) ys)) [
-        | inl i ↦
-            let t = start-free r f (s .weight) ys es (short r h c) g h c (k .final) (k .good) (found h ys (i .1)) in
-            let z = walk-first r f (s .weight) ys es (short r h c) g b p h (c .weight) (c ∷ t .0) es (put h c ∷ []) ds (k .present) (k .chain) (k .final .by) wm
-            x ip xl xg xe xb (omega (arith, wm (x .due) xl xg, mx)) mx (all-in (λ y. y .due ≤ g → y .weight ≤ p .weight) x (plan r) (k .top) ip xg)
-            (k .final .limit) (k .final .marks (x .due) xl xg) (t .1) (subst (λ (l : List Row). In x l) (sym (t .4)) ih) (t .3) in
-            let u = z .0 in
-            let base : (w v : ℕ) → 1 ≤ w → w ≤ s .weight → suc (r .slot) ≤ v → v ≤ e → tail w v e fs ≤ tail w v e (c ∷ t .0) + one-if (leb v g) = λ w v a l i j.
-            omega (arith, k .less w v a, t .2 (box w v e), same-to-weight w v a l j, last-place-late w v j) in
-            leap-worth-of (u .mh) (u .gs) (u .xs) (u .zs) (u .done) (u .walk)
-            (λ w a l. elim (ltb? (s .weight) w) [
-              | inl q ↦ rank-above r f p s h c b g ds fs ys es k (u .mh) (u .gs) (u .xs) (u .zs) (u .done) (u .walk) (u .from)
-                  (gone-due (u .mh) (u .gs) (u .xs) (u .zs) (u .done) (u .walk)) w a l (q .1)
-              | inr q ↦ omega (
-                arith,
-                gone-above-low (s .weight) (u .gs) w (q .1),
-                rank-up-to r f p s h c b g ds fs ys es k (x .due) (u .xs) lat w a (q .1)
-                    (λ v i j. omega (arith, base w v a (q .1) i j, u .mono w v a (q .1) i j))
-                    (λ v i j y. omega (arith, base w v a (q .1) i j, one-most v, z .1 w v a (q .1) i j y)),
-              )
-            ])
-            (λ μ. omega (arith, u .olds-are μ)) (λ μ. omega (arith, u .news-are μ))
-        | inr i ↦
-            let t = start-gone r f (s .weight) ys es (short r h c) g h c (k .final) (k .good)
-            (found h (held es) (omega (arith, k .present h (k .final .inside) (k .final .waits)))) in
-            let u = walk-all r f (s .weight) ys es (short r h c) g b p h (c .weight) (h ∷ []) (c ∷ ys) (t .0) (put h c ∷ []) ds (k .present) (k .chain)
-            (k .begin, tt) (t .1) in
-            let base : (w v : ℕ) → 1 ≤ w → w ≤ s .weight → suc (r .slot) ≤ v → v ≤ e → tail w v e fs ≤ tail w v e (c ∷ ys) = λ w v a l i j.
-            omega (arith, k .less w v a, same-to-weight w v a l j) in
-            leap-worth-of (u .mh) (u .gs) (u .xs) (u .zs) (u .done) (u .walk)
-            (λ w a l. elim (ltb? (s .weight) w) [
-              | inl q ↦ rank-above r f p s h c b g ds fs ys es k (u .mh) (u .gs) (u .xs) (u .zs) (u .done) (u .walk) (u .from)
-                  (gone-due (u .mh) (u .gs) (u .xs) (u .zs) (u .done) (u .walk)) w a l (q .1)
-              | inr q ↦ omega (
-                arith,
-                gone-above-low (s .weight) (u .gs) w (q .1),
-                rank-up-to r f p s h c b g ds fs ys es k (x .due) (u .xs) lat w a (q .1)
-                    (λ v i j. omega (arith, base w v a (q .1) i j, u .mono w v a (q .1) i j))
-                    (λ v i j y. omega (arith, base w v a (q .1) i j, u .mono w v a (q .1) i j)),
-              )
-            ])
-            (λ μ. omega (arith, u .olds-are μ)) (λ μ. omega (arith, u .news-are μ))
+        | inl i ↦ stretch-free x ih ip xb xg xl lat (found h ys (i .1))
+        | inr i ↦ stretch-held (x .due) lat (found h (held es) (omega (arith, k .present h (k .final .inside) (k .final .waits))))
       ]
 
   -- with nothing held by g the substitute is blocked

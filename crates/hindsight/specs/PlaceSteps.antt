@@ -11,13 +11,13 @@ use Rattle.theory.specs.Tests.{leb?}
 use Rattle.theory.specs.Sum.{sum}
 use Rattle.theory.specs.Full.{Fine}
 use Rattle.theory.specs.Marks.{box}
-use Rattle.theory.specs.Totals.{sum-to-add}
+use Rattle.theory.specs.Totals.{sum-to, sum-to-add}
 use Rattle.hindsight.specs.Tails.{tail}
 use Rattle.hindsight.specs.Occurs.{found, like, like-late, like-some, pull, seen}
 use Rattle.theory.specs.Reach.{mark-falls}
 use Rattle.hindsight.specs.Worth.{up-to?}
 use Rattle.hindsight.specs.Stash.{Entry, give-up, held, trade}
-use Rattle.hindsight.specs.Places.{Link, Place, Unpaid, Walk, box-fall, fall, fall-sum, put}
+use Rattle.hindsight.specs.Places.{Link, Place, Unpaid, Walk, box-fall, fall, fall-sum, olds, put}
 
 module _ (r : Round) (f : Fine r) (wr : ℕ) (ys : List Row) (es : List Entry) (adj : ℕ → ℕ → ℕ) where
   module _ (g : ℕ) (o c h : Row) (mh : ℕ) (gs xs : List Row) (zs : List Entry) (done : List Place) (k : Link r g o c h)
@@ -40,6 +40,27 @@ module _ (r : Round) (f : Fine r) (wr : ℕ) (ys : List Row) (es : List Entry) (
     mark-grows : mh ≤ mark r (c .due)
     mark-grows = u .marks (c .due) (omega (arith, k .low, k .from)) (omega (arith, k .after))
 
+    -- rows due before this place are due before the last one
+    no-stayed : (x : Row) → x .due < o .due → sum (like x) (u .stayed) ≡ 0
+    no-stayed x a = u .stayed-late x (omega (arith, k .from, k .after))
+
+    -- and left no place yet
+    no-done : (x : Row) → x .due < o .due → like x o + olds (like x) done ≡ 0
+    no-done x a = omega (arith, u .done-late x (omega (arith, k .from, k .after)), like-late x o a)
+
+    -- what the place misses for each weight, and in all
+    place-fall : (w v : ℕ) → v ≤ suc (r .last) → box w v (suc (r .last)) o ≤ box w v (suc (r .last)) c + fall (o .weight) (c .weight) w
+    place-fall w v d = box-fall w v (suc (r .last)) o c d (k .from) (omega (arith, k .after, k .by))
+
+    place-lost : sum-to most-weight (λ w. u .lost w + fall (o .weight) (c .weight) w) ≡ u .given + (o .weight - c .weight)
+    place-lost =
+        omega (
+          arith,
+          u .lost-sum,
+          sum-to-add most-weight (u .lost) (fall (o .weight) (c .weight)),
+          fall-sum (o .weight) (c .weight) (omega (arith, k .rises, k .falls, k .above)) (k .limit),
+        )
+
     -- THE PLACE IS FREE: the row that comes is free
     pub step-free : In o xs → (xs′ : List Row) × (u′ : Walk r f wr ys es adj o (mark r (c .due)) gs xs′ zs (put o c ∷ done))
         × ((w v : ℕ) → 1 ≤ w → w ≤ wr → suc (r .slot) ≤ v → v ≤ suc (r .last) → tail w v (suc (r .last)) xs ≤ tail w v (suc (r .last)) xs′)
@@ -58,25 +79,15 @@ module _ (r : Round) (f : Fine r) (wr : ℕ) (ys : List Row) (es : List Entry) (
             lost = λ w. u .lost w + fall (o .weight) (c .weight) w;
             untouched = u .untouched;
             stayed = u .stayed;
-            change = λ w v a b d. omega (
-              arith,
-              u .change w v a b d,
-              p .1 (box w v e),
-              box-fall w v e o c d (k .from) (omega (arith, k .after, k .by)),
-            );
-            lost-sum = omega (
-              arith,
-              u .lost-sum,
-              sum-to-add most-weight (u .lost) (fall (o .weight) (c .weight)),
-              fall-sum (o .weight) (c .weight) (omega (arith, k .rises, k .falls, k .above)) (k .limit),
-            );
+            change = λ w v a b d. omega (arith, u .change w v a b d, p .1 (box w v e), place-fall w v d);
+            lost-sum = place-lost;
             balance = omega (arith, u .balance, k .rises, k .falls, k .above);
             gone-all = u .gone-all;
             gone-in = u .gone-in;
             kept = u .kept;
-            stayed-late = λ x a. u .stayed-late x (omega (arith, k .from, k .after));
+            stayed-late = no-stayed;
             stayed-some = u .stayed-some;
-            done-late = λ x a. omega (arith, u .done-late x (omega (arith, k .from, k .after)), like-late x o a);
+            done-late = no-done;
             anchored = u .anchored;
             rise-most = u .rise-most;
             under = omega (arith, u .under, k .falls);
@@ -89,7 +100,7 @@ module _ (r : Round) (f : Fine r) (wr : ℕ) (ys : List Row) (es : List Entry) (
             good = u .good;
             keeps = u .keeps;
           },
-          λ w v a l b d. omega (arith, p .1 (box w v e), box-fall w v e o c d (k .from) (omega (arith, k .after, k .by)), low w l),
+          λ w v a l b d. omega (arith, p .1 (box w v e), place-fall w v d, low w l),
           λ z. z,
           refl,
         )
@@ -124,9 +135,9 @@ module _ (r : Round) (f : Fine r) (wr : ℕ) (ys : List Row) (es : List Entry) (
             gone-all = u .gone-all;
             gone-in = λ μ. omega (arith, u .gone-in μ, q .1 μ);
             kept = λ μ. omega (arith, u .kept μ, q .1 μ, z .sums μ);
-            stayed-late = λ x a. omega (arith, u .stayed-late x (omega (arith, k .from, k .after)), like-late x c (omega (arith, k .from)));
+            stayed-late = λ x a. omega (arith, no-stayed x a, like-late x c (omega (arith, k .from)));
             stayed-some = λ x a. omega (arith, u .stayed-some x a, like-some x c a (omega (arith, u .under)));
-            done-late = λ x a. omega (arith, u .done-late x (omega (arith, k .from, k .after)), like-late x o a);
+            done-late = no-done;
             anchored = omega (arith, u .anchored, u .under, k .falls);
             rise-most = u .rise-most;
             under = omega arith;
@@ -146,7 +157,6 @@ module _ (r : Round) (f : Fine r) (wr : ℕ) (ys : List Row) (es : List Entry) (
         (zs′ : List Entry) × Walk r f wr ys es adj o (mark r (c .due)) (o ∷ gs) (c ∷ xs) zs′ (put o c ∷ done)
     step-gone i n =
         let q = pull o (u .untouched) i in
-        let e = suc (r .last) in
         let inz : In o (held zs) = found o (held zs) (omega (arith, u .kept (like o), seen o (u .untouched) i)) in
         let z = give-up r f o (mark r (c .due)) (marks-back (o .due) (k .low) (omega arith)) (k .above) (omega (arith, k .from, k .after, k .by))
         (suc (r .slot)) zs (omega arith) inz (u .good) in (
@@ -161,24 +171,15 @@ module _ (r : Round) (f : Fine r) (wr : ℕ) (ys : List Row) (es : List Entry) (
             lost = λ w. u .lost w + fall (o .weight) (c .weight) w;
             untouched = q .0;
             stayed = u .stayed;
-            change = λ w v a b d. omega (
-              arith,
-              u .change w v a b d,
-              box-fall w v e o c d (k .from) (omega (arith, k .after, k .by)),
-            );
-            lost-sum = omega (
-              arith,
-              u .lost-sum,
-              sum-to-add most-weight (u .lost) (fall (o .weight) (c .weight)),
-              fall-sum (o .weight) (c .weight) (omega (arith, k .rises, k .falls, k .above)) (k .limit),
-            );
+            change = λ w v a b d. omega (arith, u .change w v a b d, place-fall w v d);
+            lost-sum = place-lost;
             balance = omega (arith, u .balance, k .rises, k .falls, k .above, u .anchored);
             gone-all = ((omega (arith, u .anchored, u .under, k .falls), k .limit), u .gone-all);
             gone-in = λ μ. omega (arith, u .gone-in μ, q .1 μ);
             kept = λ μ. omega (arith, u .kept μ, q .1 μ, z .sums μ);
-            stayed-late = λ x a. u .stayed-late x (omega (arith, k .from, k .after));
+            stayed-late = no-stayed;
             stayed-some = u .stayed-some;
-            done-late = λ x a. omega (arith, u .done-late x (omega (arith, k .from, k .after)), like-late x o a);
+            done-late = no-done;
             anchored = omega (arith, u .anchored, u .pending-most, mark-grows, u .mark-under, u .under, k .rises, k .above);
             rise-most = omega (arith, u .rise-most, u .anchored, u .pending-most, mark-grows, u .mark-under, u .under, k .rises);
             under = omega arith;

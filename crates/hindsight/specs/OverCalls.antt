@@ -6,14 +6,14 @@ use mathlib.Core.Option.{none, some}
 use Prim.Native.Nat.{ℕ, _+_, _*_, _≤_, _<_}
 use native.Mathlib.Omega.{arith}
 use lib.Dec.{leb, eqb}
-use borrow.Author.Tests.{leb-true, lt-ltb, eqb-true, eqb-false, ne-eqb}
+use borrow.Author.Tests.{leb-true, lt-ltb, eqb-true}
 use Rattle.rules.specs.Limits.{most-last}
 use Rattle.rules.specs.Rows.{Round, round}
 use Rattle.rules.specs.Plan.{best, plan}
 use Rattle.rules.specs.Steps.{is-ordinary, sent, taken}
-use Rattle.rules.specs.Calls.{Call, after, leap, leaves, marking, next-round, number-of, open-refusal, opening, ordinary, out-of, refused, round-refusal, says, sending, step, taking, totalling}
+use Rattle.rules.specs.Calls.{Call, after, leap, leaves, marking, next-round, open-refusal, opening, ordinary, out-of, refused, round-refusal, says, sending, step, taking, totalling}
 use Rattle.rules.specs.Demands.{No-opening, member}
-use Rattle.rules.specs.Hindsight.{Choice, Told, earned, gained, kept-to, nothing, offer, offers, story, ticket-of, told, took, went, went-out}
+use Rattle.rules.specs.Hindsight.{Choice, Told, earned, gained, kept-to, nothing, offer, offers, story, told, took, took-in, went, went-out}
 use Rattle.theory.specs.Tests.{and-true, not-true′}
 use Rattle.theory.specs.Full.{Fine}
 use Rattle.theory.specs.Calls.{Takes, sends, sent-fine, taken-fine, takes}
@@ -81,26 +81,25 @@ sending-told r = either-step (is-ordinary r)
     either-step false = refl
 
 -- A REFUSED CALL tells nothing
-pub refused-untold : (c : Call) (n : ℕ) → (n ≡ 0 → ⊥) → told c (refused n) ≡ nothing
-unfolding told went-out number-of
-refused-untold (opening l) n h = refl
-refused-untold (taking d w) n h = rw (ne-eqb n 0 h) refl
-refused-untold sending n h = refl
-refused-untold (marking u) n h = refl
-refused-untold totalling n h = refl
+pub refused-untold : (c : Call) (n : ℕ) → told c (refused n) ≡ nothing
+unfolding told took-in went-out
+refused-untold (opening l) n = refl
+refused-untold (taking d w) n = refl
+refused-untold sending n = refl
+refused-untold (marking u) n = refl
+refused-untold totalling n = refl
 
 -- ONE CALL and those after it: accepted, or refused
 pub one-call : (c : Call) (cs : List Call) (r : Round) →
     (round-refusal c r ≡ 0 → Bound r (after cs (leaves c r)) (told c (says c r) ∷ tale cs (leaves c r))) → Bound r (after cs r) (tale cs r) →
     Bound r (after (c ∷ cs) r) (tale (c ∷ cs) r)
 unfolding after next-round story model-replies model-reply
-one-call c cs r g h = by-refusal (eqb (round-refusal c r) 0) (λ e. g (eqb-true (round-refusal c r) 0 e)) (λ e. eqb-false (round-refusal c r) 0 e)
+one-call c cs r g h = by-refusal (eqb (round-refusal c r) 0) (λ e. g (eqb-true (round-refusal c r) 0 e))
   where
     by-refusal : (b : Bool) → (b ≡ true → Bound r (after cs (leaves c r)) (told c (says c r) ∷ tale cs (leaves c r))) →
-        (b ≡ false → round-refusal c r ≡ 0 → ⊥) →
         Bound r (after cs (cond b (leaves c r) r)) (told c (cond b (says c r) (refused (round-refusal c r))) ∷ tale cs (cond b (leaves c r) r))
-    by-refusal true i j = i refl
-    by-refusal false i j = rw (refused-untold c (round-refusal c r) (j refl)) (untold r (after cs r) (tale cs r) h)
+    by-refusal true i = i refl
+    by-refusal false i = rw (refused-untold c (round-refusal c r)) (untold r (after cs r) (tale cs r) h)
 
 -- an opening past the last slot allowed is refused
 pub opening-refused : (l : ℕ) (r : Round) → most-last < l → round-refusal (opening l) r ≡ 0 → ⊥
@@ -109,7 +108,7 @@ opening-refused l r h e = omega (arith, rw (lt-ltb most-last l h) at e)
 
 -- ALL CALLS, with no accepted opening among them
 pub bound-over : (cs : List Call) (r : Round) → Fine r → No-opening cs → Bound r (after cs r) (tale cs r)
-unfolding No-opening after story model-replies round-refusal leaves told says number-of ticket-of
+unfolding No-opening after story model-replies round-refusal leaves told took-in says
 bound-over [] r f n = none-left r f
 bound-over (opening l ∷ cs) r f n = one-call (opening l) cs r (λ e. absurd (opening-refused l r (n .0) e)) (bound-over cs r f (n .1))
 bound-over (taking d w ∷ cs) r f n =

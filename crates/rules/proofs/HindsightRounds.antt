@@ -9,10 +9,10 @@ use Rattle.rules.specs.Rows.{row, blank, round, slots-left, heavier, can
 use Rattle.rules.specs.Plan.{due-by, fits-from, feasible, kept, blanks-from, plan, total-weight, total, tight, tight-from, tight-after, segment-from, segment-start, first-end, least-weight, mark-in, mark, same-row, in-plan, lightest-by, heaviest-outside, substitute, beats-golden, golden-more, sends-before, best-from, best}
 use Rattle.rules.specs.Steps.{opened, taken, changed, without, heaviest-between, shifted, replaced, leapt, still-due, is-ordinary, sent}
 use Rattle.rules.specs.Table.{low, value, field, row-bytes, rows-bytes, table, rows-in, rows-of, round-in, length-good, rows-good, round-good, same, table-refusal}
-use Rattle.rules.specs.Calls.{Call, opening, taking, sending, marking, totalling, silence, frame, kept-blank, number-of, first, open-refusal, take-refusal, send-refusal, mark-refusal, round-refusal, out-of, says, leaves, table-first, refusal, answer, left, run, replies}
+use Rattle.rules.specs.Calls.{Call, opening, taking, sending, marking, totalling, silence, frame, kept-blank, first, open-refusal, take-refusal, send-refusal, mark-refusal, round-refusal, out-of, says, leaves, table-first, refusal, answer, left, run, replies}
 use Rattle.rules.specs.Demands.{member}
 use Rattle.rules.specs.Conditions.{Past}
-use Rattle.rules.specs.Hindsight.{Told, nothing, took, went, ticket-of, went-out, told, story, counts-for, noted, earned, sent-in, Offer, Choice, offer, offers, kept-to, gained, top-of, most, could-have}
+use Rattle.rules.specs.Hindsight.{Told, nothing, took, went, took-in, went-out, told, story, counts-for, noted, earned, sent-in, Offer, Choice, offer, offers, kept-to, gained, top-of, most, could-have}
 use Rattle.rules.proofs.Played.{found}
 
 -- A ROUND PLAYED OUT: its last slot and its calls, what is told of each call, then S and B
@@ -116,8 +116,8 @@ pub told-by-hand : map told-of rounds ≡ map (λ (x : Played-out). x .tells) ro
 unfolding row blank round slots-left heavier canonical into sorted due-by fits-from feasible kept blanks-from plan total-weight total tight tight-from
     tight-after segment-from segment-start first-end least-weight mark-in mark same-row in-plan lightest-by heaviest-outside substitute beats-golden
     golden-more sends-before best-from best opened taken changed without heaviest-between shifted replaced leapt still-due is-ordinary sent low value
-    field row-bytes rows-bytes table rows-in rows-of round-in length-good rows-good round-good same table-refusal number-of first open-refusal
-    take-refusal send-refusal mark-refusal round-refusal out-of says leaves table-first refusal answer left replies ticket-of went-out told story
+    field row-bytes rows-bytes table rows-in rows-of round-in length-good rows-good round-good same table-refusal first open-refusal
+    take-refusal send-refusal mark-refusal round-refusal out-of says leaves table-first refusal answer left replies took-in went-out told story
 told-by-hand = refl
 
 -- S
@@ -135,7 +135,7 @@ pub p2-past : Past (run (p2 .calls) (left (opening (p2 .last)) found))
 unfolding row blank round slots-left heavier canonical into sorted due-by fits-from feasible kept blanks-from plan total-weight total tight tight-from
     tight-after segment-from segment-start first-end least-weight mark-in mark same-row in-plan lightest-by heaviest-outside substitute beats-golden
     golden-more sends-before best-from best opened taken changed without heaviest-between shifted replaced leapt still-due is-ordinary sent low value
-    field row-bytes rows-bytes table rows-in rows-of round-in length-good rows-good round-good same table-refusal number-of first open-refusal
+    field row-bytes rows-bytes table rows-in rows-of round-in length-good rows-good round-good same table-refusal first open-refusal
     take-refusal send-refusal mark-refusal round-refusal out-of says leaves table-first refusal answer left run
 p2-past = omega arith
 

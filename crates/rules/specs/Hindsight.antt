@@ -8,7 +8,7 @@ use Prim.Native.Nat.{ℕ, zero, suc, _+_, _*_, _-_, _≤_, max}
 use lib.Dec.{leb, eqb}
 use lib.ListN.{length}
 use Rattle.rules.specs.Limits.{head-size, row-size, most-rows, most-last}
-use Rattle.rules.specs.Calls.{Call, opening, taking, sending, marking, totalling, Out, silence, frame, kept-blank, ordinary, leap, Reply, refused, done, ticket, step, amount, blank-due, number-of, left, run, replies}
+use Rattle.rules.specs.Calls.{Call, opening, taking, sending, marking, totalling, Out, silence, frame, kept-blank, ordinary, leap, Reply, refused, done, ticket, step, amount, blank-due, left, run, replies}
 use Rattle.rules.specs.Conditions.{Past}
 use Rattle.rules.specs.Demands.{member, No-opening}
 
@@ -18,13 +18,13 @@ pub data Told : Type 0 where
   took : (ticket due weight : ℕ) → Told
   went : Out → Told
 
-unfoldable pub ticket-of : Reply → ℕ
-ticket-of (refused n) = 0
-ticket-of done = 0
-ticket-of (ticket k) = k
-ticket-of (step s) = 0
-ticket-of (amount n) = 0
-ticket-of (blank-due s) = 0
+unfoldable pub took-in : (due weight : ℕ) → Reply → Told
+took-in d w (refused n) = nothing
+took-in d w done = nothing
+took-in d w (ticket k) = took k d w
+took-in d w (step s) = nothing
+took-in d w (amount n) = nothing
+took-in d w (blank-due s) = nothing
 
 unfoldable pub went-out : Reply → Told
 went-out (refused n) = nothing
@@ -37,7 +37,7 @@ went-out (blank-due s) = nothing
 
 unfoldable pub told : Call → Reply → Told
 told (opening l) a = nothing
-told (taking d w) a = cond (eqb (number-of a) 0) (took (ticket-of a) d w) nothing
+told (taking d w) a = took-in d w a
 told sending a = went-out a
 told (marking s) a = nothing
 told totalling a = nothing

@@ -72,6 +72,12 @@ KINDS = [
     ("a word that gathers seven bytes", "round/seven_bytes_gathered round/first_byte_not_gathered rules/number_of_seven_bytes"),
     ("the last word of a row left out", "round/last_word_left_out"),
     ("one byte gathered twice and another not", "round/byte_gathered_twice numbers/neighbour_not_gathered"),
+    ("a kept blank that counts as sent", "rules/kept_blank_counted"),
+    ("a sending that ends no slot", "rules/sending_ends_no_slot"),
+    ("a rival's frame before the slot of its taking", "rules/frame_before_its_taking"),
+    ("two of a rival's frames in one slot", "rules/slot_used_twice rules/most_with_a_slot_twice"),
+    ("the most reckoned without a frame, or with one that was refused", "rules/frame_left_out_of_the_most rules/refused_frame_offered"),
+    ("the most reckoned without due slots", "rules/due_slot_not_used"),
 ]
 
 # What the edits of a crate aim at.

@@ -1,5 +1,5 @@
 -- THE GOLDEN BOUND, proved: golden-hindsight. Assumes nothing.
-use mathlib.Core.Path.{_≡_, ap, _∙_, subst}
+use mathlib.Core.Path.{_≡_, ap, subst}
 use mathlib.Core.Bool.{true}
 use mathlib.Core.List.{List, []}
 use Prim.Native.Nat.{ℕ, _+_, _*_, _≤_, _<_}
@@ -8,16 +8,16 @@ use Rattle.rules.specs.Limits.{most-last, most-rows}
 use Rattle.rules.specs.Rows.{Round, round}
 use Rattle.rules.specs.Steps.{opened}
 use Rattle.rules.specs.Table.{round-in, table}
-use Rattle.rules.specs.Calls.{Call, at, left, opening, replies}
+use Rattle.rules.specs.Calls.{Call, at}
 use Rattle.rules.specs.Conditions.{Past}
 use Rattle.rules.specs.Demands.{No-opening}
-use Rattle.rules.specs.Hindsight.{Choice, Golden-hindsight, Most, Most-reckoned, could-have, gained, kept-to, most, offers, sent-in, story}
+use Rattle.rules.specs.Hindsight.{Choice, Golden-hindsight, Most, Most-reckoned, could-have, gained, kept-to, most, offers, sent-in}
 use Rattle.theory.specs.Back.{read-back}
-use Rattle.theory.specs.Sane.{Sane, model-replies, replies-is}
-use Rattle.theory.specs.Third.{at-sane, opened-sane, opening-leaves, run-at}
+use Rattle.theory.specs.Sane.{Sane}
+use Rattle.theory.specs.Third.{at-sane, opened-sane, run-at}
 use Rattle.hindsight.specs.Fibonacci.{even-26, fib-52, fib-53, golden-end}
 use Rattle.hindsight.specs.Potential.{opened-account}
-use Rattle.hindsight.specs.OverCalls.{bound-over, tale}
+use Rattle.hindsight.specs.OverCalls.{bound-over, opened-replies, tale}
 use Rattle.hindsight.specs.Most.{most-reckoned}
 
 -- B × B is at most B × S + S × S
@@ -51,6 +51,5 @@ module _ (l k : ℕ) (cs : List Call) (h : l ≤ most-last) (i : 1 ≤ k) (j : k
 pub golden-hindsight : Golden-hindsight
 unfolding Golden-hindsight
 golden-hindsight t k l cs e i j h n p =
-    let q : replies cs (left (opening l) t) ≡ model-replies cs (opened l k) =
-    ap (replies cs) (opening-leaves t k l e i j h) ∙ replies-is cs (opened l k) (opened-sane l k h i j) in
-    rw q (golden-round l k cs h i j n (past-round (at k l cs) (at-sane t k l e i j h cs) (rw (run-at t k l e i j h cs) at p)))
+    rw (opened-replies t k l cs e i j h)
+    (golden-round l k cs h i j n (past-round (at k l cs) (at-sane t k l e i j h cs) (rw (run-at t k l e i j h cs) at p)))

@@ -31,4 +31,7 @@ pub mod Booking
 pub mod Potential
 pub mod OverCalls
 pub mod Most
+pub mod Waiting
+pub mod FramesLeft
+pub mod SentCould
 pub mod GoldenBound

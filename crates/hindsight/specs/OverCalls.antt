@@ -1,29 +1,36 @@
--- Over a list of calls: what any choice of the rival gains, against what went out. Assumes nothing.
-use mathlib.Core.Path.{_≡_, refl}
+-- Over a list of calls: a claim that all that is told keeps; and what any choice of the rival gains, against what went out. Assumes nothing.
+use mathlib.Core.Path.{_≡_, refl, ap, _∙_}
 use mathlib.Core.Bool.{Bool, true, false, _&&_, not, cond}
 use mathlib.Core.List.{List, [], _∷_}
 use mathlib.Core.Option.{none, some}
 use Prim.Native.Nat.{ℕ, _+_, _*_, _≤_, _<_}
 use native.Mathlib.Omega.{arith}
 use lib.Dec.{leb, eqb}
+use lib.ListN.{length}
 use borrow.Author.Tests.{leb-true, lt-ltb, eqb-true}
-use Rattle.rules.specs.Limits.{most-last}
+use Rattle.rules.specs.Limits.{head-size, most-last, most-rows, row-size}
 use Rattle.rules.specs.Rows.{Round, round}
 use Rattle.rules.specs.Plan.{best, plan}
-use Rattle.rules.specs.Steps.{is-ordinary, sent, taken}
-use Rattle.rules.specs.Calls.{Call, after, leap, leaves, marking, next-round, open-refusal, opening, ordinary, out-of, refused, round-refusal, says, sending, step, taking, totalling}
+use Rattle.rules.specs.Steps.{is-ordinary, opened, sent, taken}
+use Rattle.rules.specs.Calls.{Call, after, leap, leaves, left, marking, next-round, open-refusal, opening, ordinary, out-of, refused, replies, round-refusal, says, sending, step, taking, totalling}
 use Rattle.rules.specs.Demands.{No-opening, member}
 use Rattle.rules.specs.Hindsight.{Choice, Told, earned, gained, kept-to, nothing, offer, offers, story, told, took, took-in, went, went-out}
 use Rattle.theory.specs.Tests.{and-true, not-true′}
 use Rattle.theory.specs.Full.{Fine}
 use Rattle.theory.specs.Calls.{Takes, sends, sent-fine, taken-fine, takes}
-use Rattle.theory.specs.Sane.{model-replies, model-reply}
+use Rattle.theory.specs.Sane.{model-replies, model-reply, replies-is}
+use Rattle.theory.specs.Third.{opened-sane, opening-leaves}
 use Rattle.hindsight.specs.Fibonacci.{fib-53, fib-54}
 use Rattle.hindsight.specs.Potential.{Account, at-end, counted, send-on, take-booked, take-left}
 
 -- what the calls and the model's replies tell
 abbrev pub tale : List Call → Round → List Told
 tale cs r = story cs (model-replies cs r)
+
+-- on bytes the replies after an opening are the model's
+pub opened-replies : (t : List ℕ) (k l : ℕ) (cs : List Call) → length t ≡ head-size + row-size * k → 1 ≤ k → k ≤ most-rows → l ≤ most-last →
+    replies cs (left (opening l) t) ≡ model-replies cs (opened l k)
+opened-replies t k l cs e i j h = ap (replies cs) (opening-leaves t k l e i j h) ∙ replies-is cs (opened l k) (opened-sane l k h i j)
 
 -- THE BOUND from a round on to the round at the end, by what is told: gained so far and by any choice of what is to come, against what went out
 abbrev pub Bound : (r end : Round) → List Told → Type 0
@@ -89,41 +96,53 @@ refused-untold sending n = refl
 refused-untold (marking u) n = refl
 refused-untold totalling n = refl
 
--- ONE CALL and those after it: accepted, or refused
-pub one-call : (c : Call) (cs : List Call) (r : Round) →
-    (round-refusal c r ≡ 0 → Bound r (after cs (leaves c r)) (told c (says c r) ∷ tale cs (leaves c r))) → Bound r (after cs r) (tale cs r) →
-    Bound r (after (c ∷ cs) r) (tale (c ∷ cs) r)
-unfolding after next-round story model-replies model-reply
-one-call c cs r g h = by-refusal (eqb (round-refusal c r) 0) (λ e. g (eqb-true (round-refusal c r) 0 e))
-  where
-    by-refusal : (b : Bool) → (b ≡ true → Bound r (after cs (leaves c r)) (told c (says c r) ∷ tale cs (leaves c r))) →
-        Bound r (after cs (cond b (leaves c r) r)) (told c (cond b (says c r) (refused (round-refusal c r))) ∷ tale cs (cond b (leaves c r) r))
-    by-refusal true i = i refl
-    by-refusal false i = rw (refused-untold c (round-refusal c r)) (untold r (after cs r) (tale cs r) h)
-
 -- an opening past the last slot allowed is refused
 pub opening-refused : (l : ℕ) (r : Round) → most-last < l → round-refusal (opening l) r ≡ 0 → ⊥
 unfolding round-refusal open-refusal
 opening-refused l r h e = omega (arith, rw (lt-ltb most-last l h) at e)
 
--- ALL CALLS, with no accepted opening among them
+-- A CLAIM BY WHAT IS TOLD, of a round, the round at the end and what is told between: it holds of all calls where each thing told keeps it
+module _
+    (P : (r end : Round) → List Told → Type 0)
+    (keep-nothing : (r z : Round) (ts : List Told) → P r z ts → P r z (nothing ∷ ts))
+    (keep-end : (r : Round) → Fine r → P r r [])
+    (keep-took : (r z : Round) → Fine r → (d w : ℕ) → Takes r d w → (ts : List Told) → P (taken r d w) z ts → P r z (took (r .next) d w ∷ ts))
+    (keep-went : (r z : Round) → Fine r → r .slot ≤ r .last → (ts : List Told) → P (sent r) z ts → P r z (went (out-of (best r (plan r))) ∷ ts)) where
+  -- ONE CALL and those after it: accepted, or refused
+  pub one-call : (c : Call) (cs : List Call) (r : Round) →
+      (round-refusal c r ≡ 0 → P r (after cs (leaves c r)) (told c (says c r) ∷ tale cs (leaves c r))) → P r (after cs r) (tale cs r) →
+      P r (after (c ∷ cs) r) (tale (c ∷ cs) r)
+  unfolding after next-round story model-replies model-reply
+  one-call c cs r g h = by-refusal (eqb (round-refusal c r) 0) (λ e. g (eqb-true (round-refusal c r) 0 e))
+    where
+      by-refusal : (b : Bool) → (b ≡ true → P r (after cs (leaves c r)) (told c (says c r) ∷ tale cs (leaves c r))) →
+          P r (after cs (cond b (leaves c r) r)) (told c (cond b (says c r) (refused (round-refusal c r))) ∷ tale cs (cond b (leaves c r) r))
+      by-refusal true i = i refl
+      by-refusal false i = rw (refused-untold c (round-refusal c r)) (keep-nothing r (after cs r) (tale cs r) h)
+
+  -- ALL CALLS, with no accepted opening among them
+  pub over-calls : (cs : List Call) (r : Round) → Fine r → No-opening cs → P r (after cs r) (tale cs r)
+  unfolding No-opening after story model-replies round-refusal leaves told took-in says
+  over-calls [] r f n = keep-end r f
+  over-calls (opening l ∷ cs) r f n =
+      one-call (opening l) cs r (λ e. absurd (opening-refused l r (n .0) e)) (over-calls cs r f (n .1))
+  over-calls (taking d w ∷ cs) r f n =
+      one-call (taking d w) cs r
+      (λ e.
+      let k = takes r d w e in
+      keep-took r (after cs (taken r d w)) f d w k (tale cs (taken r d w)) (over-calls cs (taken r d w) (taken-fine r f d w k) n))
+      (over-calls cs r f n)
+  over-calls (sending ∷ cs) r f n =
+      one-call sending cs r
+      (λ e.
+      let t = sends r e in
+      rw (sending-told r) (keep-went r (after cs (sent r)) f t (tale cs (sent r)) (over-calls cs (sent r) (sent-fine r f t) n)))
+      (over-calls cs r f n)
+  over-calls (marking u ∷ cs) r f n =
+      one-call (marking u) cs r (λ e. keep-nothing r (after cs r) (tale cs r) (over-calls cs r f n)) (over-calls cs r f n)
+  over-calls (totalling ∷ cs) r f n =
+      one-call totalling cs r (λ e. keep-nothing r (after cs r) (tale cs r) (over-calls cs r f n)) (over-calls cs r f n)
+
+-- THE BOUND over all calls
 pub bound-over : (cs : List Call) (r : Round) → Fine r → No-opening cs → Bound r (after cs r) (tale cs r)
-unfolding No-opening after story model-replies round-refusal leaves told took-in says
-bound-over [] r f n = none-left r f
-bound-over (opening l ∷ cs) r f n = one-call (opening l) cs r (λ e. absurd (opening-refused l r (n .0) e)) (bound-over cs r f (n .1))
-bound-over (taking d w ∷ cs) r f n =
-    one-call (taking d w) cs r
-    (λ e.
-    let k = takes r d w e in
-    taken-bound r (after cs (taken r d w)) f d w k (tale cs (taken r d w)) (bound-over cs (taken r d w) (taken-fine r f d w k) n))
-    (bound-over cs r f n)
-bound-over (sending ∷ cs) r f n =
-    one-call sending cs r
-    (λ e.
-    let t = sends r e in
-    rw (sending-told r) (sent-bound r (after cs (sent r)) f t (tale cs (sent r)) (bound-over cs (sent r) (sent-fine r f t) n)))
-    (bound-over cs r f n)
-bound-over (marking u ∷ cs) r f n =
-    one-call (marking u) cs r (λ e. untold r (after cs r) (tale cs r) (bound-over cs r f n)) (bound-over cs r f n)
-bound-over (totalling ∷ cs) r f n =
-    one-call totalling cs r (λ e. untold r (after cs r) (tale cs r) (bound-over cs r f n)) (bound-over cs r f n)
+bound-over = over-calls Bound untold none-left taken-bound sent-bound

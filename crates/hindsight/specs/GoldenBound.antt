@@ -1,24 +1,69 @@
--- THE GOLDEN BOUND, proved: golden-hindsight. Assumes nothing.
+-- THE GOLDEN BOUND, proved: golden-hindsight. What any choice of the rival gains, against what went out, over all calls. Assumes nothing.
 use mathlib.Core.Path.{_≡_, ap, subst}
-use mathlib.Core.Bool.{true}
-use mathlib.Core.List.{List, []}
+use mathlib.Core.Bool.{true, _&&_, not}
+use mathlib.Core.List.{List, [], _∷_}
+use mathlib.Core.Option.{none, some}
 use Prim.Native.Nat.{ℕ, _+_, _*_, _≤_, _<_}
 use native.Mathlib.Omega.{arith}
+use lib.Dec.{leb}
+use borrow.Author.Tests.{leb-true}
 use Rattle.rules.specs.Limits.{most-last, most-rows}
 use Rattle.rules.specs.Rows.{Round, round}
-use Rattle.rules.specs.Steps.{opened}
+use Rattle.rules.specs.Plan.{best, plan}
+use Rattle.rules.specs.Steps.{opened, sent, taken}
 use Rattle.rules.specs.Table.{round-in, table}
-use Rattle.rules.specs.Calls.{Call, at}
+use Rattle.rules.specs.Calls.{Call, after, at, out-of}
 use Rattle.rules.specs.Conditions.{Past}
-use Rattle.rules.specs.Demands.{No-opening}
-use Rattle.rules.specs.Hindsight.{Choice, Golden-hindsight, Most, Most-reckoned, could-have, gained, kept-to, most, offers, sent-in}
+use Rattle.rules.specs.Demands.{No-opening, member}
+use Rattle.rules.specs.Hindsight.{Choice, Golden-hindsight, Most, Most-reckoned, Told, could-have, earned, gained, kept-to, most, nothing, offer, offers, sent-in, took, went}
+use Rattle.theory.specs.Tests.{and-true, not-true′}
+use Rattle.theory.specs.Full.{Fine}
+use Rattle.theory.specs.Calls.{Takes}
 use Rattle.theory.specs.Back.{read-back}
 use Rattle.theory.specs.Sane.{Sane}
 use Rattle.theory.specs.Third.{at-sane, opened-sane, run-at}
-use Rattle.hindsight.specs.Fibonacci.{even-26, fib-52, fib-53, golden-end}
-use Rattle.hindsight.specs.Potential.{opened-account}
-use Rattle.hindsight.specs.OverCalls.{bound-over, opened-replies, tale}
-use Rattle.hindsight.specs.Most.{most-reckoned}
+use Rattle.hindsight.specs.Fibonacci.{even-26, fib-52, fib-53, fib-54, golden-end}
+use Rattle.hindsight.specs.Potential.{Account, at-end, counted, opened-account, send-on, take-booked, take-left}
+use Rattle.hindsight.specs.OverCalls.{opened-replies, over-calls, tale}
+use Rattle.hindsight.specs.Most.{most-reckoned, none-gained, none-kept}
+
+-- THE BOUND from a round on to the round at the end, by what is told: gained so far and by any choice of what is to come, against what went out
+abbrev pub Bound : (r end : Round) → List Told → Type 0
+Bound r z ts =
+    (cs : Choice) (f : ℕ → ℕ) (us : List ℕ) (s o : ℕ) → Account r f us s o → z .last < z .slot → kept-to (offers ts (r .slot)) cs us ≡ true →
+    fib-53 * (o + gained (offers ts (r .slot)) cs) ≤ fib-54 * earned ts f s
+
+-- NO CALL is left
+pub none-left : (r : Round) → Fine r → Bound r r []
+unfolding offers kept-to gained earned
+none-left r f cs g us s o y p v = omega (arith, at-end r f p g us s o y)
+
+-- NOTHING is told
+pub untold : (r z : Round) (ts : List Told) → Bound r z ts → Bound r z (nothing ∷ ts)
+unfolding offers earned
+untold r z ts b = b
+
+-- A FRAME IS TAKEN: the rival leaves it, or books a slot for it
+pub taken-bound : (r z : Round) → Fine r → (d w : ℕ) → Takes r d w → (ts : List Told) → Bound (taken r d w) z ts → Bound r z (took (r .next) d w ∷ ts)
+unfolding taken round offer offers kept-to gained earned
+taken-bound r z f d w k ts b [] g us s o y p v =
+    omega (arith, b [] _ us s o (take-left r f g us s o d w k y) p (none-kept (offers ts (r .slot)) us), none-gained (offers ts (r .slot)))
+taken-bound r z f d w k ts b (none ∷ cs) g us s o y p v = b cs _ us s o (take-left r f g us s o d w k y) p v
+taken-bound r z f d w k ts b (some u ∷ cs) g us s o y p v =
+    let a = and-true ((leb (r .slot) u && leb u d) && not (member u us)) (kept-to (offers ts (r .slot)) cs (u ∷ us)) v in
+    let c = and-true (leb (r .slot) u && leb u d) (not (member u us)) (a .0) in
+    let i = and-true (leb (r .slot) u) (leb u d) (c .0) in
+    let q = take-booked r f g us s o d w k y u (leb-true (r .slot) u (i .0)) (leb-true u d (i .1)) (not-true′ (member u us) (c .1)) in
+    omega (arith, b cs _ (u ∷ us) s (o + w) q p (a .1))
+
+-- A SLOT IS SENT
+pub sent-bound : (r z : Round) → Fine r → r .slot ≤ r .last → (ts : List Told) → Bound (sent r) z ts → Bound r z (went (out-of (best r (plan r))) ∷ ts)
+unfolding sent round offers earned counted
+sent-bound r z f t ts b cs g us s o y p v = b cs g us (s + counted g (best r (plan r))) o (send-on r f t g us s o y) p v
+
+-- THE BOUND over all calls
+pub bound-over : (cs : List Call) (r : Round) → Fine r → No-opening cs → Bound r (after cs r) (tale cs r)
+bound-over = over-calls Bound untold none-left taken-bound sent-bound
 
 -- B × B is at most B × S + S × S
 abbrev pub Within-golden : (b s : ℕ) → Type 0

@@ -1,4 +1,4 @@
--- rows counted; marks; what rows are worth
+-- rows counted, and what they are worth
 pub mod Tails
 pub mod Occurs
 pub mod Worth
@@ -26,12 +26,13 @@ pub mod LeapMade
 pub mod LeapToRow
 pub mod LeapToBlank
 pub mod LeapStep
--- a round
-pub mod Booking
-pub mod Potential
+-- a round: B is the most, and within the golden ratio of S
 pub mod OverCalls
 pub mod Most
+pub mod Booking
+pub mod Potential
+pub mod GoldenBound
+-- and S is no more than B
 pub mod Waiting
 pub mod FramesLeft
 pub mod SentCould
-pub mod GoldenBound

@@ -1,4 +1,4 @@
--- MOST-RECKONED: what is reckoned as the most is the most: some choice that can be kept gains it, and none gains more. Assumes nothing.
+-- MOST-RECKONED, proved: what is reckoned as the most is the most: some choice that can be kept gains it, and none gains more. Assumes nothing.
 use mathlib.Core.Path.{_≡_, refl}
 use mathlib.Core.Logic.{inl, inr}
 use mathlib.Core.Bool.{true, false, _&&_, not, cond}
@@ -11,6 +11,18 @@ use borrow.Author.Tests.{leb-true, le-leb}
 use Rattle.rules.specs.Demands.{member}
 use Rattle.rules.specs.Hindsight.{Offer, Choice, kept-to, gained, top-of, most, Most, Most-reckoned}
 use Rattle.theory.specs.Tests.{and-true, either, leb?, ltb?, not-true′}
+
+-- a choice that leaves all offers can be kept
+pub none-kept : (xs : List Offer) (us : List ℕ) → kept-to xs [] us ≡ true
+unfolding kept-to
+none-kept [] us = refl
+none-kept (x ∷ xs) us = refl
+
+-- and gains nothing
+pub none-gained : (xs : List Offer) → gained xs [] ≡ 0
+unfolding gained
+none-gained [] = refl
+none-gained (x ∷ xs) = refl
 
 -- no slot has more than the top
 pub top-above : (n s : ℕ) (g : ℕ → ℕ) (v : ℕ) → s ≤ v → v < s + n → g v ≤ top-of n s g

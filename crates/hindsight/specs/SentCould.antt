@@ -18,7 +18,7 @@ use Rattle.theory.specs.Full.{Fine, Row-fine}
 use Rattle.theory.specs.Third.{opened-sane}
 use Rattle.hindsight.specs.OverCalls.{opened-replies, over-calls, tale}
 use Rattle.hindsight.specs.Most.{most-reckoned}
-use Rattle.hindsight.specs.Waiting.{Each, Goes, Kept-from, Some, Waits, before, before-more, can-keep, each-map, each-more, each-without, kept-sooner, leaves-all, put, put-gains, put-kept, some-each, some-more, some-without, without-it}
+use Rattle.hindsight.specs.Waiting.{Each, Goes, Kept-from, Some, Waits, before, before-more, can-keep, each-map, each-more, each-without, kept-sooner, leaves-all, with-it, with-gains, with-kept, some-each, some-more, some-without, without-it}
 use Rattle.hindsight.specs.FramesLeft.{counts?, was}
 
 -- a row waits as it was offered: due no later than then
@@ -142,9 +142,9 @@ module _ (r : Round) (f : Fine r) (o : r .slot ≤ r .last) (g : ℕ → ℕ) (e
       }) in
       let ys = offers ts (suc t) in
       record {
-        choice = put t (p .ticket) w es h (q .choice);
-        keeps = put-kept t (p .ticket) w es h ys (q .choice) [] refl (q .keeps);
-        enough = omega (arith, q .enough, put-gains t (p .ticket) w es h ys (q .choice));
+        choice = with-it t (p .ticket) w es h (q .choice);
+        keeps = with-kept t (p .ticket) w es h ys (q .choice) [] refl (q .keeps);
+        enough = omega (arith, q .enough, with-gains t (p .ticket) w es h ys (q .choice));
       }
 
 -- whatever goes

@@ -1,4 +1,4 @@
--- Frames that wait, as they were offered, and choices that put one of them in a slot: no model, offers alone. Assumes nothing.
+-- Frames that wait, as they were offered, and choices that with-it one of them in a slot: no model, offers alone. Assumes nothing.
 use mathlib.Core.Path.{_≡_, refl, ap}
 use mathlib.Core.Logic.{_⊎_, inl, inr}
 use mathlib.Core.Bool.{true, false}
@@ -11,7 +11,7 @@ use borrow.Author.Tests.{le-leb, ne-eqb}
 use Rattle.rules.specs.Demands.{member}
 use Rattle.rules.specs.Hindsight.{Choice, Offer, gained, kept-to}
 use Rattle.theory.specs.Calls.{or-false}
-use Rattle.hindsight.specs.OverCalls.{none-gained}
+use Rattle.hindsight.specs.Most.{none-gained}
 
 -- A FRAME THAT WAITS: its ticket, and as what it was offered
 pub record Waits : Type 0 where
@@ -117,11 +117,11 @@ module _ (s k w : ℕ) where
   without-it (e ∷ es) (inr h) = e ∷ without-it es h
 
   -- the choice with slot s for it
-  abbrev pub put : (es : List Waits) → Some (Goes s k w) es → Choice → Choice
-  put [] h cs = []
-  put (e ∷ es) (inl g) cs = some s ∷ cs
-  put (e ∷ es) (inr h) [] = none ∷ put es h []
-  put (e ∷ es) (inr h) (c ∷ cs) = c ∷ put es h cs
+  abbrev pub with-it : (es : List Waits) → Some (Goes s k w) es → Choice → Choice
+  with-it [] h cs = []
+  with-it (e ∷ es) (inl g) cs = some s ∷ cs
+  with-it (e ∷ es) (inr h) [] = none ∷ with-it es h []
+  with-it (e ∷ es) (inr h) (c ∷ cs) = c ∷ with-it es h cs
 
   -- what each has, each that still waits has
   pub each-without : (P : Waits → Type 0) (es : List Waits) (h : Some (Goes s k w) es) → Each P es → Each P (without-it es h)
@@ -139,28 +139,28 @@ module _ (s k w : ℕ) where
   some-without P n (e ∷ es) (inr h) (inr b) = inr (some-without P n es h b)
 
   -- it gains the frame's weight
-  pub put-gains : (es : List Waits) (h : Some (Goes s k w) es) (ys : List Offer) (cs : Choice) →
-      gained (before es ys) (put es h cs) ≡ w + gained (before (without-it es h) ys) cs
+  pub with-gains : (es : List Waits) (h : Some (Goes s k w) es) (ys : List Offer) (cs : Choice) →
+      gained (before es ys) (with-it es h cs) ≡ w + gained (before (without-it es h) ys) cs
   unfolding gained
-  put-gains [] h ys cs = absurd h
-  put-gains (e ∷ es) (inl g) ys cs = omega (arith, g .3)
-  put-gains (e ∷ es) (inr h) ys [] = omega (arith, put-gains es h ys [], none-gained (before (without-it es h) ys))
-  put-gains (e ∷ es) (inr h) ys (none ∷ cs) = put-gains es h ys cs
-  put-gains (e ∷ es) (inr h) ys (some v ∷ cs) = omega (arith, put-gains es h ys cs)
+  with-gains [] h ys cs = absurd h
+  with-gains (e ∷ es) (inl g) ys cs = omega (arith, g .3)
+  with-gains (e ∷ es) (inr h) ys [] = omega (arith, with-gains es h ys [], none-gained (before (without-it es h) ys))
+  with-gains (e ∷ es) (inr h) ys (none ∷ cs) = with-gains es h ys cs
+  with-gains (e ∷ es) (inr h) ys (some v ∷ cs) = omega (arith, with-gains es h ys cs)
 
   -- IT IS KEPT, where the choice of the rest is kept from the next slot on
-  pub put-kept : (es : List Waits) (h : Some (Goes s k w) es) (ys : List Offer) (cs : Choice) (us : List ℕ) → member s us ≡ false →
-      Kept-from (suc s) (before (without-it es h) ys) cs us → Kept-from s (before es ys) (put es h cs) us
+  pub with-kept : (es : List Waits) (h : Some (Goes s k w) es) (ys : List Offer) (cs : Choice) (us : List ℕ) → member s us ≡ false →
+      Kept-from (suc s) (before (without-it es h) ys) cs us → Kept-from s (before es ys) (with-it es h cs) us
   unfolding member
-  put-kept [] h ys cs us n d = absurd h
-  put-kept (e ∷ es) (inl g) ys cs us n d =
+  with-kept [] h ys cs us n d = absurd h
+  with-kept (e ∷ es) (inl g) ys cs us n d =
       (g .1, g .2, omega arith, n, kept-sooner s (before es ys) cs us (s ∷ us) (free-next s us) d)
-  put-kept (e ∷ es) (inr h) ys [] us n d = put-kept es h ys [] us n (leaves-all (suc s) (before (without-it es h) ys) us)
-  put-kept (e ∷ es) (inr h) ys (none ∷ cs) us n d = put-kept es h ys cs us n d
-  put-kept (e ∷ es) (inr h) ys (some v ∷ cs) us n d = (
+  with-kept (e ∷ es) (inr h) ys [] us n d = with-kept es h ys [] us n (leaves-all (suc s) (before (without-it es h) ys) us)
+  with-kept (e ∷ es) (inr h) ys (none ∷ cs) us n d = with-kept es h ys cs us n d
+  with-kept (e ∷ es) (inr h) ys (some v ∷ cs) us n d = (
     d .0,
     d .1,
     omega (arith, d .2),
     d .3,
-    put-kept es h ys cs (v ∷ us) (rw (ne-eqb v s (λ z. omega (arith, d .2)), n)) (d .4),
+    with-kept es h ys cs (v ∷ us) (rw (ne-eqb v s (λ z. omega (arith, d .2)), n)) (d .4),
   )

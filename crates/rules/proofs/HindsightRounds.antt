@@ -9,7 +9,7 @@ use Rattle.rules.specs.Rows.{row, blank, round, slots-left, heavier, can
 use Rattle.rules.specs.Plan.{due-by, fits-from, feasible, kept, blanks-from, plan, total-weight, total, tight, tight-from, tight-after, segment-from, segment-start, first-end, least-weight, mark-in, mark, same-row, in-plan, lightest-by, heaviest-outside, substitute, beats-golden, golden-more, sends-before, best-from, best}
 use Rattle.rules.specs.Steps.{opened, taken, changed, without, heaviest-between, shifted, replaced, leapt, still-due, is-ordinary, sent}
 use Rattle.rules.specs.Table.{low, value, field, row-bytes, rows-bytes, table, rows-in, rows-of, round-in, length-good, rows-good, round-good, same, table-refusal}
-use Rattle.rules.specs.Calls.{Call, opening, taking, sending, marking, totalling, silence, frame, kept-blank, first, open-refusal, take-refusal, send-refusal, mark-refusal, round-refusal, out-of, says, leaves, table-first, refusal, answer, left, run, replies}
+use Rattle.rules.specs.Calls.{Call, opening, taking, sending, marking, totalling, silence, frame, kept-blank, ordinary, leap, Reply, refused, done, ticket, step, amount, blank-due, first, open-refusal, take-refusal, send-refusal, mark-refusal, round-refusal, out-of, says, leaves, table-first, refusal, answer, left, run, replies}
 use Rattle.rules.specs.Demands.{member}
 use Rattle.rules.specs.Conditions.{Past}
 use Rattle.rules.specs.Hindsight.{Told, nothing, took, went, took-in, went-out, told, story, counts-for, noted, earned, sent-in, Offer, Choice, offer, offers, kept-to, gained, top-of, most, could-have}
@@ -129,6 +129,25 @@ sent-by-hand = refl
 pub could-by-hand : map (λ (x : Played-out). could-have (x .tells)) rounds ≡ map (λ (x : Played-out). x .could) rounds
 unfolding member offer offers top-of most could-have
 could-by-hand = refl
+
+-- one reply of each sort, and what each call tells with it: a taking with a ticket, a sending with a step, and no other
+abbrev pub sorts : List Reply
+sorts = refused 7 ∷ done ∷ ticket 2 ∷ step (ordinary (frame 3)) ∷ step (leap (kept-blank 4)) ∷ amount 5 ∷ blank-due 6 ∷ []
+
+abbrev pub none-of : List Told
+none-of = nothing ∷ nothing ∷ nothing ∷ nothing ∷ nothing ∷ nothing ∷ nothing ∷ []
+
+pub took-by-hand : map (told (taking 8 9)) sorts ≡ nothing ∷ nothing ∷ took 2 8 9 ∷ nothing ∷ nothing ∷ nothing ∷ nothing ∷ []
+unfolding took-in told
+took-by-hand = refl
+
+pub went-by-hand : map (told sending) sorts ≡ nothing ∷ nothing ∷ nothing ∷ went (frame 3) ∷ went (kept-blank 4) ∷ nothing ∷ nothing ∷ []
+unfolding went-out told
+went-by-hand = refl
+
+pub nothing-by-hand : map (λ (c : Call). map (told c) sorts) (opening 1 ∷ marking 1 ∷ totalling ∷ []) ≡ none-of ∷ none-of ∷ none-of ∷ []
+unfolding told
+nothing-by-hand = refl
 
 -- the second is past its last slot afterwards
 pub p2-past : Past (run (p2 .calls) (left (opening (p2 .last)) found))

@@ -15,15 +15,16 @@ use Rattle.theory.specs.All.{all-in, all-map}
 use Rattle.theory.specs.Full.{Fine}
 use Rattle.theory.specs.Marks.{box, box-yes, box?}
 use Rattle.theory.specs.Totals.{sum-to-add, sum-to-le}
+use Rattle.theory.specs.Reach.{member-mark}
 use Rattle.hindsight.specs.Tails.{Latest-by, latest, tail}
 use Rattle.hindsight.specs.Occurs.{found, like, part-all, part-in}
-use Rattle.theory.specs.Reach.{member-mark}
 use Rattle.hindsight.specs.Worth.{rank, rank-ge, worth}
 use Rattle.hindsight.specs.Stash.{Entry, held}
 use Rattle.hindsight.specs.Places.{Place, Walk, news, olds, put, short}
 use Rattle.hindsight.specs.PlaceSteps.{give-up-extra}
 use Rattle.hindsight.specs.ChainEnd.{start-free, start-gone}
-use Rattle.hindsight.specs.ChainWalk.{Walked, walk-all, walk-first, walk-none}
+use Rattle.hindsight.specs.ChainWalk.{Walked, walk-all, walk-none}
+use Rattle.hindsight.specs.ChainGives.{walk-gives}
 use Rattle.hindsight.specs.LeapStage.{Leap-stage, gone-above, gone-above-low, gone-above-sum, rank-none-held, rank-before, rank-above, rank-up-to, Blocked, Useful, blocked?, useful-past}
 
 -- WHAT A LEAP IS WORTH: where the walk ends, and that the free rows then are worth no less than before, up to what was gained and lost
@@ -190,14 +191,22 @@ module _ (r : Round) (f : Fine r) (p s h c : Row) (b g : ℕ) (ds : List Place) 
       let wm : (v : ℕ) → r .slot ≤ v → v ≤ g → s .weight ≤ mark r v = λ v i j. omega (arith, k .final .marks v i j, k .final .under) in
       let mx = member-mark r f x ip xe in
       let t = start-free r f (s .weight) ys es (short r h c) g h c (k .final) (k .good) i in
-      let z = walk-first r f (s .weight) ys es (short r h c) g b p h (c .weight) (c ∷ t .0) es (put h c ∷ []) ds (k .present) (k .chain) (k .final .by) wm
-      x ip xl xg xe xb (omega (arith, wm (x .due) xl xg, mx)) mx (all-in (λ y. y .due ≤ g → y .weight ≤ p .weight) x (plan r) (k .top) ip xg)
-      (k .final .limit) (k .final .marks (x .due) xl xg) (t .1) (subst (λ (l : List Row). In x l) (sym (t .4)) ih) (t .3) in
+      let z = walk-gives r f (s .weight) ys es (short r h c) (k .present) g b p x (record {
+        inside = ip;
+        low = xl;
+        by = xg;
+        end = xe;
+        from = xb;
+        over = omega (arith, wm (x .due) xl xg, mx);
+        marked = mx;
+        under = all-in (λ y. y .due ≤ g → y .weight ≤ p .weight) x (plan r) (k .top) ip xg;
+      }) wm h (c .weight) (c ∷ t .0) es (put h c ∷ []) ds (k .chain) (k .final .by) (k .final .limit) (k .final .marks (x .due) xl xg)
+      (t .1) (subst (λ (l : List Row). In x l) (sym (t .4)) ih) (t .3) in
       let base : (w v : ℕ) → 1 ≤ w → w ≤ s .weight → suc (r .slot) ≤ v → v ≤ e → tail w v e fs ≤ tail w v e (c ∷ t .0) + one-if (leb v g) = λ w v a l i j.
       omega (arith, k .less w v a, t .2 (box w v e), same-to-weight w v a l j, last-place-late w v j) in
-      walk-worth (x .due) lat (c ∷ t .0) (z .0)
-      (λ w v a l i j. omega (arith, base w v a l i j, z .0 .mono w v a l i j))
-      (λ w v a l i j y. omega (arith, base w v a l i j, one-most v, z .1 w v a l i j y))
+      walk-worth (x .due) lat (c ∷ t .0) (z .walked)
+      (λ w v a l i j. omega (arith, base w v a l i j, z .walked .mono w v a l i j))
+      (λ w v a l i j y. omega (arith, base w v a l i j, one-most v, z .more w v a l i j y))
 
   -- or held itself
   stretch-held : (d : ℕ) → Latest-by g d (held es) → In h (held es) → Leap-worth r f p s h c ds fs ys es

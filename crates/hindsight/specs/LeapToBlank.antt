@@ -19,8 +19,8 @@ use Rattle.theory.specs.Change.{changed-sum, rising-first, without-sum}
 use Rattle.theory.specs.Send.{next-by}
 use Rattle.theory.specs.Leap.{After-leap, ends-of, no-shift}
 use Rattle.theory.specs.Totals.{plan-weights, sum-to-le}
-use Rattle.hindsight.specs.Occurs.{found, like, like-self, like?, pull, seen}
 use Rattle.theory.specs.Reach.{reach}
+use Rattle.hindsight.specs.Occurs.{found, like, like-self, like?, pull, seen}
 use Rattle.hindsight.specs.Worth.{Split, rank, rank-ge, rank-le, worth}
 use Rattle.hindsight.specs.Stash.{Entry, Good, held}
 use Rattle.hindsight.specs.LeapStage.{Leap-stage}

@@ -18,11 +18,12 @@ use Rattle.theory.specs.Change.{First, changed-first, changed-sum, not-in-plan,
 use Rattle.theory.specs.Leap.{After-leap, Ends, Heavy-to, at-its-mark, ends-of, outside-heavy, rows-kept}
 use Rattle.theory.specs.Totals.{plan-weights}
 use Rattle.theory.specs.Picks.{mark-least}
-use Rattle.hindsight.specs.Occurs.{like, like?, part-in, pull, seen}
 use Rattle.theory.specs.Reach.{reach}
+use Rattle.hindsight.specs.Occurs.{like, like?, part-in, pull, seen}
 use Rattle.hindsight.specs.Worth.{Split}
 use Rattle.hindsight.specs.Stash.{Entry, Good, held}
-use Rattle.hindsight.specs.Places.{Chain, Link, Place, news, olds}
+use Rattle.hindsight.specs.Places.{Chain, Link, Place, news, olds, short}
+use Rattle.hindsight.specs.ChainEnd.{Last}
 use Rattle.hindsight.specs.LeapStage.{Leap-stage}
 use Rattle.hindsight.specs.LeapCases.{leap-worth}
 use Rattle.hindsight.specs.Shifts.{Shifts-at, shift-top, shifts-step}
@@ -51,84 +52,105 @@ module _ (r : Round) (f : Fine r) (o : r .slot ≤ r .last) (p s : Row) (b : ℕ
     (sl : Split r fs (held es)) (gd : Good r (suc (r .slot)) es)
     (out : (w : ℕ) → 1 ≤ w → w ≤ most-weight → s .weight < w → All (λ y. w ≤ y .weight → y .due < b) (outside r))
     (top : All (λ y. y .due ≤ tight-after r (plan r) (s .due) → y .weight ≤ p .weight) (plan r)) where
-  -- with the chain at hand
-  leap-along : In s (r .rows) → b ≤ s .due → (n : in-plan s (plan r) ≡ false) → (e g : ℕ) → e ≡ tight-after r (plan r) (p .due) → g ≡ tight-after r (plan r) (s .due) →
-      Ends r p s e g → (ys : List Row) → ((μ : Row → ℕ) → sum μ ys + μ s ≡ sum μ fs) → (xs : List Row) → xs ≡ shifted (suc (r .last)) r (plan r) e g (r .rows) →
-      Shifts-at r f p b g e g xs → Leap-made r p s fs es
-  unfolding replaced row mark
-  leap-along j hs n e g ee ge en ys pu xs xe q =
-      let oo = all-in (Row-fine r) s (r .rows) (f .fine) j in
-      let c = at-its-mark r s in
-      let hk = q .hole in
-      let stage : Leap-stage r f p s hk c b g (q .places) fs ys es = record {
-        time = o;
-        p-from = sp .start .by;
-        p-limit = all-in (λ x. (x .weight ≤ most-weight) × (x .due < suc (r .last))) p (plan r) (plan-weights r f) (sp .inside) .0;
-        low = sp .low;
-        edge = sp .start .edge;
-        after = hs;
-        next = en .last;
-        out = out;
-        less = λ w v a. pu (box w v (suc (r .last)));
-        stands = λ a. row-outside r s j n;
-        mark-s = outside-heavy r f s j n;
-        same = refl;
-        comes = refl;
-        final = record {
+  -- a row of the round that is a member's is that member
+  same-member : (y : Row) → In y (plan r) → y .ticket ≡ p .ticket → y ≡ p
+  same-member y i e =
+      elim (plan-member r y i) [
+        | inl a ↦ rising-same 1 (r .next) y p (r .rows) (f .rising) a (sp .waits) e
+        | inr a ↦ absurd (omega (arith, blank-ticket y (a .0), rising-above 1 (r .next) p (r .rows) (f .rising) (sp .waits)))
+      ]
+
+  -- WITH THE CHAIN at hand: e and g end the segments of p and s, ys are the free rows without s, xs the rows after the shifts
+  module _ (j : In s (r .rows)) (hs : b ≤ s .due) (n : in-plan s (plan r) ≡ false) (e g : ℕ) (ee : e ≡ tight-after r (plan r) (p .due))
+      (ge : g ≡ tight-after r (plan r) (s .due)) (en : Ends r p s e g) (ys : List Row) (pu : (μ : Row → ℕ) → sum μ ys + μ s ≡ sum μ fs) (xs : List Row)
+      (xe : xs ≡ shifted (suc (r .last)) r (plan r) e g (r .rows)) (q : Shifts-at r f p b g e g xs) where
+    -- the substitute is no member
+    no-member : (x : Row) → In x (plan r) → like x s ≡ 0
+    no-member x ip =
+        elim (like? x s) [
+          | inl a ↦ absurd (not-in-plan s (plan r) n x ip (ap (λ (y : Row). y .ticket) (sym (a .1))))
+          | inr a ↦ a
+        ]
+
+    -- the last place of the chain, to which it comes
+    last-place : Last r (s .weight) (short r (q .hole) (at-its-mark r s)) g (q .hole) (at-its-mark r s)
+    unfolding row mark
+    last-place =
+        record {
           inside = q .inside;
           waits = q .waits;
           low = omega (arith, q .from, sp .start .low);
           by = q .by;
           end = en .last .by;
-          above = mark-least r f (s .due) hk (q .inside) (omega (arith, q .by));
-          limit = all-in (λ x. (x .weight ≤ most-weight) × (x .due < suc (r .last))) hk (plan r) (plan-weights r f) (q .inside) .0;
+          above = mark-least r f (s .due) (q .hole) (q .inside) (omega (arith, q .by));
+          limit = all-in (λ x. (x .weight ≤ most-weight) × (x .due < suc (r .last))) (q .hole) (plan r) (plan-weights r f) (q .inside) .0;
           under = outside-heavy r f s j n;
-          marks = λ v a l. reach r f (s .due) v (oo .1) a (omega arith);
+          marks = λ v a l. reach r f (s .due) v (all-in (Row-fine r) s (r .rows) (f .fine) j .1) a (omega arith);
           adjust = λ w v. omega arith;
-        };
-        chain = q .chain;
-        begin = q .from;
-        split = sl;
-        good = gd;
-        present = λ x ip ir. omega (arith, sl .whole (like x), pu (like x), seen x (r .rows) ir, other x ip);
-        lates = held-later r f fs es sl gd;
-        top = subst (λ (z : ℕ). All (λ y. y .due ≤ z → y .weight ≤ p .weight) (plan r)) (sym ge) top;
-      } in
-      let l = leap-worth r f p s hk c b g (q .places) fs ys es stage in
-      let u = l .walk in
-      let fs′ : First s xs = q .kept .others s j (λ y a b d. not-in-plan s (plan r) n y a (sym d)) in
-      let fp : First p (changed (s .ticket) c xs) = changed-first (s .ticket) c p (not-in-plan s (plan r) n p (sp .inside)) refl xs
-      (q .kept .others p (sp .waits) (λ y a t d. omega (arith, en .first .from, t, ap (λ (x : Row). x .due) (same-member r f y p a (sp .waits) d)))) in
-      let rows-are : shifted (suc (r .last)) r (plan r) (tight-after r (plan r) (p .due)) (tight-after r (plan r) (s .due)) (r .rows) ≡ xs = sym
-      (xe ∙ ap (λ (z : ℕ). shifted (suc (r .last)) r (plan r) z g (r .rows)) ee
-      ∙ ap (λ (z : ℕ). shifted (suc (r .last)) r (plan r) (tight-after r (plan r) (p .due)) z (r .rows)) ge) in
-      let rows-after : (μ : Row → ℕ) → sum μ (After-leap r p s) + μ s + olds μ (q .places) + μ hk ≡ sum μ (r .rows) + news μ (q .places) + μ c = λ μ.
-      rw (rows-are, ne-eqb (s .ticket) 0 (λ z. omega (arith, rising-above 1 (r .next) s (r .rows) (f .rising) j)))
-      (omega (arith, q .sums μ, changed-sum μ s c xs fs′, without-sum μ p (changed (s .ticket) c xs) fp)) in
-      made-from r f p s hk c b (q .places) fs ys es sp l (l .xs)
-      (λ μ. omega (arith, rows-after μ, u .swap μ, l .olds-are μ, l .news-are μ, pu μ, sl .whole μ)) (omega arith)
-      (λ κ fx. omega (
-        arith,
-        rows-after (lift κ),
-        u .rises,
-        l .olds-are (λ x. x .weight),
-        l .news-are (λ x. x .weight),
-        fx c s refl refl,
-        outside-heavy r f s j n,
-        chain-lift r g b κ fx p hk (q .places) (q .chain),
-      ))
-    where
-      other : (x : Row) → In x (plan r) → like x s ≡ 0
-      other x ip = elim (like? x s) [
-        | inl a ↦ absurd (not-in-plan s (plan r) n x ip (ap (λ (y : Row). y .ticket) (sym (a .1))))
-        | inr a ↦ a
-      ]
+        }
 
-      same-member : (r : Round) → Fine r → (h p : Row) → In h (plan r) → In p (r .rows) → h .ticket ≡ p .ticket → h ≡ p
-      same-member r f h p i j e = elim (plan-member r h i) [
-        | inr a ↦ absurd (omega (arith, blank-ticket h (a .0), rising-above 1 (r .next) p (r .rows) (f .rising) j))
-        | inl a ↦ rising-same 1 (r .next) h p (r .rows) (f .rising) a j e
-      ]
+    -- the stage of the leap
+    row-stage : Leap-stage r f p s (q .hole) (at-its-mark r s) b g (q .places) fs ys es
+    unfolding row mark
+    row-stage =
+        record {
+          time = o;
+          p-from = sp .start .by;
+          p-limit = all-in (λ x. (x .weight ≤ most-weight) × (x .due < suc (r .last))) p (plan r) (plan-weights r f) (sp .inside) .0;
+          low = sp .low;
+          edge = sp .start .edge;
+          after = hs;
+          next = en .last;
+          out = out;
+          less = λ w v a. pu (box w v (suc (r .last)));
+          stands = λ a. row-outside r s j n;
+          mark-s = outside-heavy r f s j n;
+          same = refl;
+          comes = refl;
+          final = last-place;
+          chain = q .chain;
+          begin = q .from;
+          split = sl;
+          good = gd;
+          present = λ x ip ir. omega (arith, sl .whole (like x), pu (like x), seen x (r .rows) ir, no-member x ip);
+          lates = held-later r f fs es sl gd;
+          top = subst (λ (z : ℕ). All (λ y. y .due ≤ z → y .weight ≤ p .weight) (plan r)) (sym ge) top;
+        }
+
+    -- the rows after the leap
+    rows-after : (μ : Row → ℕ) → sum μ (After-leap r p s) + μ s + olds μ (q .places) + μ (q .hole) ≡ sum μ (r .rows) + news μ (q .places) + μ (at-its-mark r s)
+    unfolding replaced row
+    rows-after μ =
+        let c = at-its-mark r s in
+        let fs′ : First s xs = q .kept .others s j (λ y a b d. not-in-plan s (plan r) n y a (sym d)) in
+        let fp : First p (changed (s .ticket) c xs) = changed-first (s .ticket) c p (not-in-plan s (plan r) n p (sp .inside)) refl xs
+        (q .kept .others p (sp .waits) (λ y a t d. omega (arith, en .first .from, t, ap (λ (x : Row). x .due) (same-member y a d)))) in
+        let rows-are : shifted (suc (r .last)) r (plan r) (tight-after r (plan r) (p .due)) (tight-after r (plan r) (s .due)) (r .rows) ≡ xs = sym
+        (xe ∙ ap (λ (z : ℕ). shifted (suc (r .last)) r (plan r) z g (r .rows)) ee
+        ∙ ap (λ (z : ℕ). shifted (suc (r .last)) r (plan r) (tight-after r (plan r) (p .due)) z (r .rows)) ge) in
+        rw (rows-are, ne-eqb (s .ticket) 0 (λ z. omega (arith, rising-above 1 (r .next) s (r .rows) (f .rising) j)))
+        (omega (arith, q .sums μ, changed-sum μ s c xs fs′, without-sum μ p (changed (s .ticket) c xs) fp))
+
+    -- the leap made
+    leap-along : Leap-made r p s fs es
+    unfolding row mark
+    leap-along =
+        let hk = q .hole in
+        let c = at-its-mark r s in
+        let l = leap-worth r f p s hk c b g (q .places) fs ys es row-stage in
+        let u = l .walk in
+        made-from r f p s hk c b (q .places) fs ys es sp l (l .xs)
+        (λ μ. omega (arith, rows-after μ, u .swap μ, l .olds-are μ, l .news-are μ, pu μ, sl .whole μ)) (omega arith)
+        (λ κ fx. omega (
+          arith,
+          rows-after (lift κ),
+          u .rises,
+          l .olds-are (λ x. x .weight),
+          l .news-are (λ x. x .weight),
+          fx c s refl refl,
+          outside-heavy r f s j n,
+          chain-lift r g b κ fx p hk (q .places) (q .chain),
+        ))
 
   -- THE SUBSTITUTE IS A ROW
   pub leap-to-row : In s (r .rows) → b ≤ s .due → in-plan s (plan r) ≡ false → Leap-made r p s fs es

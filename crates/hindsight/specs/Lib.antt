@@ -16,6 +16,7 @@ pub mod Places
 pub mod PlaceSteps
 pub mod ChainEnd
 pub mod ChainWalk
+pub mod ChainGives
 pub mod LeapStage
 pub mod LeapCases
 pub mod Shifts

@@ -19,9 +19,9 @@ use Rattle.theory.specs.Totals.{sum-to-add, sum-to-le}
 use Rattle.theory.specs.Score.{Bounded, plan-bounded}
 use Rattle.theory.specs.Substitute.{first-weight}
 use Rattle.theory.specs.Picks.{best-picked}
+use Rattle.theory.specs.Reach.{first-mark, reach}
 use Rattle.hindsight.specs.Tails.{Latest-by, latest, none-by, none-past}
 use Rattle.hindsight.specs.Occurs.{part-in, pull}
-use Rattle.theory.specs.Reach.{first-mark, reach}
 use Rattle.hindsight.specs.Worth.{rank, up-to, up-to-sum, worth}
 use Rattle.hindsight.specs.Passing.{rank-ordinary, rank-ordinary-held}
 use Rattle.hindsight.specs.Fibonacci.{fib-51, fib-52, fib-53, fib-54}

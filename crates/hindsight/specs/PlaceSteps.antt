@@ -12,9 +12,9 @@ use Rattle.theory.specs.Sum.{sum}
 use Rattle.theory.specs.Full.{Fine}
 use Rattle.theory.specs.Marks.{box}
 use Rattle.theory.specs.Totals.{sum-to, sum-to-add}
+use Rattle.theory.specs.Reach.{mark-falls}
 use Rattle.hindsight.specs.Tails.{tail}
 use Rattle.hindsight.specs.Occurs.{found, like, like-late, like-some, pull, seen}
-use Rattle.theory.specs.Reach.{mark-falls}
 use Rattle.hindsight.specs.Worth.{up-to?}
 use Rattle.hindsight.specs.Stash.{Entry, give-up, held, trade}
 use Rattle.hindsight.specs.Places.{Link, Place, Unpaid, Walk, box-fall, fall, fall-sum, olds, put}
@@ -61,6 +61,14 @@ module _ (r : Round) (f : Fine r) (wr : ℕ) (ys : List Row) (es : List Entry) (
           fall-sum (o .weight) (c .weight) (omega (arith, k .rises, k .falls, k .above)) (k .limit),
         )
 
+    -- nothing up to the substitute's weight
+    no-fall : (w : ℕ) → w ≤ wr → fall (o .weight) (c .weight) w ≡ 0
+    no-fall w a =
+        elim (up-to? (c .weight) w) [
+          | inl q ↦ elim (up-to? (o .weight) w) [ inl s ↦ omega arith | inr s ↦ omega arith ]
+          | inr q ↦ absurd (omega (arith, k .rises, u .under, u .anchored))
+        ]
+
     -- THE PLACE IS FREE: the row that comes is free
     pub step-free : In o xs → (xs′ : List Row) × (u′ : Walk r f wr ys es adj o (mark r (c .due)) gs xs′ zs (put o c ∷ done))
         × ((w v : ℕ) → 1 ≤ w → w ≤ wr → suc (r .slot) ≤ v → v ≤ suc (r .last) → tail w v (suc (r .last)) xs ≤ tail w v (suc (r .last)) xs′)
@@ -100,16 +108,10 @@ module _ (r : Round) (f : Fine r) (wr : ℕ) (ys : List Row) (es : List Entry) (
             good = u .good;
             keeps = u .keeps;
           },
-          λ w v a l b d. omega (arith, p .1 (box w v e), place-fall w v d, low w l),
+          λ w v a l b d. omega (arith, p .1 (box w v e), place-fall w v d, no-fall w l),
           λ z. z,
           refl,
         )
-      where
-        low : (w : ℕ) → w ≤ wr → fall (o .weight) (c .weight) w ≡ 0
-        low w a = elim (up-to? (c .weight) w) [
-          | inl q ↦ elim (up-to? (o .weight) w) [ inl s ↦ omega arith | inr s ↦ omega arith ]
-          | inr q ↦ absurd (omega (arith, k .rises, u .under, u .anchored))
-        ]
 
     -- HELD, and the mark is below the anchor: its entry takes the row that comes
     pub step-stay : In o (u .untouched) → mark r (c .due) < u .anchor → (zs′ : List Entry) × Walk r f wr ys es adj o (mark r (c .due)) gs xs zs′ (put o c ∷ done)

@@ -15,8 +15,8 @@ use Rattle.theory.specs.Full.{Fine, Row-fine, outside, plan-sum}
 use Rattle.theory.specs.Change.{rising-above}
 use Rattle.theory.specs.Leap.{outside-heavy}
 use Rattle.theory.specs.Same.{of-outside, of-plan, of-yes, sum-none}
-use Rattle.hindsight.specs.Occurs.{Part, part-all}
 use Rattle.theory.specs.Reach.{mark-falls}
+use Rattle.hindsight.specs.Occurs.{Part, part-all}
 use Rattle.hindsight.specs.Worth.{Split}
 use Rattle.hindsight.specs.Stash.{Entry, Good, Keeps, claims, held, hold, hold-idle, idle, owe}
 

@@ -3,7 +3,7 @@ use mathlib.Core.Path.{_≡_, refl}
 use mathlib.Core.Bool.{true, false}
 use mathlib.Core.List.{List, [], _∷_, map}
 use mathlib.Core.Option.{none, some}
-use Prim.Native.Nat.{ℕ, _+_}
+use Prim.Native.Nat.{ℕ, _+_, _*_, _≤_}
 use native.Mathlib.Omega.{arith}
 use Rattle.rules.specs.Rows.{row, blank, round, slots-left, heavier, canonical, into, sorted}
 use Rattle.rules.specs.Plan.{due-by, fits-from, feasible, kept, blanks-from, plan, total-weight, total, tight, tight-from, tight-after, segment-from, segment-start, first-end, least-weight, mark-in, mark, same-row, in-plan, lightest-by, heaviest-outside, substitute, beats-golden, golden-more, sends-before, best-from, best}
@@ -148,6 +148,10 @@ went-by-hand = refl
 pub nothing-by-hand : map (λ (c : Call). map (told c) sorts) (opening 1 ∷ marking 1 ∷ totalling ∷ []) ≡ none-of ∷ none-of ∷ none-of ∷ []
 unfolding told
 nothing-by-hand = refl
+
+-- the bound leaves no room: in the last of them one more would break it
+pub no-room : (climbing .could + 1) * (climbing .could + 1) ≤ (climbing .could + 1) * climbing .sent + climbing .sent * climbing .sent → ⊥
+no-room h = omega arith
 
 -- the second is past its last slot afterwards
 pub p2-past : Past (run (p2 .calls) (left (opening (p2 .last)) found))

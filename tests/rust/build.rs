@@ -1,5 +1,6 @@
-//! Links the library's archive into `compare` and `soak` when LIRVEDD_ARCHIVE names it.
-//! Without it everything still builds, and `compare` has only itself.
+//! Links the library's archive into `compare`, `hindsight` and `soak` when LIRVEDD_ARCHIVE
+//! names it.
+//! Without it everything still builds, and these have only the second implementation.
 
 use std::env;
 use std::path::Path;
@@ -20,7 +21,7 @@ fn main() {
     let full = full.display();
     println!("cargo:rerun-if-changed={full}");
     println!("cargo:rustc-cfg=archive");
-    for bin in ["compare", "soak"] {
+    for bin in ["compare", "hindsight", "soak"] {
         println!("cargo:rustc-link-arg-bin={bin}={full}");
     }
 }

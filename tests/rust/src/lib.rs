@@ -13,6 +13,7 @@ pub mod counts;
 pub mod ending;
 pub mod golden;
 pub mod hand;
+pub mod hindsight;
 pub mod kind;
 pub mod leap;
 pub mod listing;

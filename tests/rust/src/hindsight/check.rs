@@ -1,0 +1,40 @@
+//! The check of one round, played by a library and by the second
+//! implementation.
+
+use crate::calls::Second;
+use crate::compare::library::Library;
+use crate::hindsight::account::Account;
+use crate::hindsight::gain::{Claim, Gain};
+use crate::hindsight::script::{Asked, Script};
+
+/// A round of which every claim holds.
+#[derive(Debug)]
+pub struct Checked {
+    pub asked: Vec<Asked>,
+    pub gain: Gain,
+}
+
+/// What is wrong with a round as this library plays it, if anything is.
+pub fn check(library: &dyn Library, script: &Script) -> Result<Checked, String> {
+    let asked = script.play(library);
+    let own = Account::of(&asked)?;
+    let other = Account::of(&script.play(&Second::PLAIN))?;
+    let (gain, others) = (Gain::of(&own), Gain::of(&other));
+    let claims = [
+        (own.is_over(), "the round is not over"),
+        (own.is_in_time(), "a frame went twice or out of its time"),
+        (own.offers == other.offers, "other frames were accepted"),
+        (own.sent == other.sent, "other frames were sent"),
+        (gain.sent == others.sent, "another S"),
+        (gain.best == others.best, "another B"),
+    ];
+    if let Some((_, broken)) = claims.iter().find(|(holds, _)| !holds) {
+        return Err(format!("{broken}: {gain}, the second's {others}"));
+    }
+    for claim in [Claim::Possible, Claim::Golden] {
+        if gain.breaks(claim) {
+            return Err(format!("{claim}: {gain}"));
+        }
+    }
+    Ok(Checked { asked, gain })
+}

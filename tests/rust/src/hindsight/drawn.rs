@@ -22,7 +22,7 @@ pub fn small(draw: &mut Draw, _: u64) -> Script {
 
 /// A round of many rows and slots.
 pub fn large(draw: &mut Draw, _: u64) -> Script {
-    let rows = draw.between(64, 160);
+    let rows = *draw.pick(&[64, 65, 100, 160, 1_024]);
     let last = draw.between(20, 99);
     let most = draw.between(2, 6);
     let round = Drawn::new(draw, last, most);
@@ -34,7 +34,8 @@ pub fn large(draw: &mut Draw, _: u64) -> Script {
 /// blanks are kept).
 pub fn rising(draw: &mut Draw, _: u64) -> Script {
     let rows = draw.between(2, 8);
-    let last = draw.between(1, 7);
+    let most = *draw.pick(&[7, 7, 7, 20]);
+    let last = draw.between(1, most);
     let mut round = Drawn::new(draw, last, 1);
     round.weights = Weights::Rising {
         first: *draw.pick(&[1, 2, 5, 21, 4_181]),
@@ -67,9 +68,11 @@ struct Drawn {
     reach: u32,
     /// The most takings in a slot.
     most: u32,
+    /// The last slot with takings; what waits then is all that can go.
+    until: u32,
     weights: Weights,
     /// Once in so many takings something else is asked or refused.
-    else_once_in: u64,
+    other_once_in: u64,
 }
 
 impl Drawn {
@@ -84,8 +87,9 @@ impl Drawn {
             last,
             reach: *draw.pick(&[0, 1, 1, 2, 3, last]),
             most,
+            until: *draw.pick(&[last, last / 2, 1]),
             weights,
-            else_once_in: *draw.pick(&[2, 5, 1_000]),
+            other_once_in: *draw.pick(&[2, 5, 1_000]),
         }
     }
 
@@ -99,7 +103,7 @@ impl Drawn {
             let weight = self.weight(draw, slot, later);
             let due = slot + later;
             calls.push(Call::Take { due, weight });
-            if draw.once_in(self.else_once_in) {
+            if draw.once_in(self.other_once_in) {
                 calls.push(self.other(draw, slot));
             }
         }
@@ -153,7 +157,7 @@ impl Drawn {
             },
             4 => Call::Total,
             5 => Call::Substitute {
-                ticket: draw.between(0, 9),
+                ticket: draw.between(0, 3 * slot + 3),
             },
             _ => Call::Mark {
                 slot: draw.between(0, self.last + 1),
@@ -210,7 +214,9 @@ fn script(draw: &mut Draw, rows: u32, round: &Drawn) -> Script {
 fn played(draw: &mut Draw, round: &Drawn, end: u32, calls: &mut Vec<Call>) {
     calls.push(Call::Open { last: round.last });
     for slot in 0..end {
-        round.takings(draw, slot, calls);
+        if slot <= round.until {
+            round.takings(draw, slot, calls);
+        }
         calls.push(Call::Send);
     }
 }

@@ -14,8 +14,8 @@ use crate::mutation::Mutation;
 use crate::table::decode;
 
 pub enum Fault {
-    /// Played in the library's place, it breaks the bound.
-    Planner(Mutation),
+    /// Played in the library's place, it breaks this claim.
+    Planner(Mutation, Claim),
     /// Played in the library's place, it differs from the second implementation.
     Library(Mutation),
     /// S is counted so, and is then above B.
@@ -27,8 +27,16 @@ pub enum Fault {
 }
 
 pub const FAULTS: &[Fault] = &[
-    Fault::Planner(Mutation::SubstituteNotCounted),
-    Fault::Planner(Mutation::EarliestDueSent),
+    Fault::Planner(Mutation::SubstituteNotCounted, Claim::Golden),
+    Fault::Planner(Mutation::EarliestDueSent, Claim::Golden),
+    Fault::Planner(Mutation::PhiLeftOut, Claim::Golden),
+    Fault::Planner(Mutation::PhiOnOwnWeight, Claim::Golden),
+    Fault::Planner(Mutation::SubstituteFromAnywhere, Claim::Golden),
+    Fault::Planner(Mutation::SubstituteAlwaysBlank, Claim::Golden),
+    Fault::Planner(Mutation::HSetToMark, Claim::Golden),
+    Fault::Planner(Mutation::MarksAfterShift, Claim::Golden),
+    Fault::Planner(Mutation::KeptBlankAsFrame, Claim::Possible),
+    Fault::Planner(Mutation::KeptBlankSentAsFrame, Claim::Possible),
     Fault::Library(Mutation::RNotRaised),
     Fault::Library(Mutation::GreatestWeightRefused),
     Fault::Sum("S counts kept blanks, by their tickets", with_kept_blanks),
@@ -36,11 +44,9 @@ pub const FAULTS: &[Fault] = &[
     Fault::Best("B leaves a frame out", Claim::Possible, |offers| {
         best(offers.get(1..).unwrap_or_default())
     }),
-    Fault::Best(
-        "B has frames go before their taking",
-        Claim::Golden,
-        |offers| best(&changed(offers, |offer| offer.from = Slot(0))),
-    ),
+    Fault::Best("B has frames go too early", Claim::Golden, |offers| {
+        best(&changed(offers, |offer| offer.from = Slot(0)))
+    }),
     Fault::Best("B has frames go a slot late", Claim::Golden, |offers| {
         best(&changed(offers, |offer| offer.to.0 += 1))
     }),
@@ -55,42 +61,46 @@ pub const FAULTS: &[Fault] = &[
 impl Fault {
     pub fn says(&self) -> &'static str {
         match self {
-            Fault::Planner(mutation) | Fault::Library(mutation) => mutation.says(),
+            Fault::Planner(mutation, _) | Fault::Library(mutation) => mutation.says(),
             Fault::Sum(says, _) | Fault::OtherSum(says, _) | Fault::Best(says, ..) => says,
         }
     }
 
     /// How this round shows the fault, where it does.
     pub fn shown(&self, library: &dyn Library, script: &Script) -> Option<String> {
-        let right = |library| {
-            let account = Account::of(&script.play(library)).expect("an account");
-            (Gain::of(&account), account.offers)
-        };
-        let (claim, gain) = match *self {
-            Fault::Library(mutation) => return check(&Second { mutation }, script).err(),
-            Fault::OtherSum(_, sum) => {
-                let (sent, second) = (sum(library, script), right(&Second::PLAIN).0.sent);
-                return (sent != second).then(|| format!("S {sent}, the second's {second}"));
+        match *self {
+            Fault::Planner(mutation, claim) => {
+                let (gain, _) = right(&Second { mutation }, script);
+                broken(claim, gain)
             }
-            Fault::Planner(mutation) => (Claim::Golden, right(&Second { mutation }).0),
+            Fault::Library(mutation) => check(&Second { mutation }, script).err(),
             Fault::Sum(_, sum) => {
+                let (mut gain, _) = right(library, script);
+                gain.sent = sum(library, script);
+                broken(Claim::Possible, gain)
+            }
+            Fault::OtherSum(_, sum) => {
                 let sent = sum(library, script);
-                (
-                    Claim::Possible,
-                    Gain {
-                        sent,
-                        ..right(library).0
-                    },
-                )
+                let second = right(&Second::PLAIN, script).0.sent;
+                (sent != second).then(|| format!("another S: {sent}, the second's {second}"))
             }
             Fault::Best(_, claim, most) => {
-                let (gain, offers) = right(library);
-                let best = most(&offers);
-                (claim, Gain { best, ..gain })
+                let (mut gain, offers) = right(library, script);
+                gain.best = most(&offers);
+                broken(claim, gain)
             }
-        };
-        gain.breaks(claim).then(|| format!("{claim}: {gain}"))
+        }
     }
+}
+
+/// S and B counted as they should be, and the offers.
+fn right(library: &dyn Library, script: &Script) -> (Gain, Vec<Offer>) {
+    let account = Account::of(&script.play(library)).expect("an account");
+    (Gain::of(&account), account.offers)
+}
+
+fn broken(claim: Claim, gain: Gain) -> Option<String> {
+    gain.breaks(claim).then(|| format!("{claim}: {gain}"))
 }
 
 /// The offers, each changed.

@@ -3,8 +3,10 @@
 
 pub mod account;
 pub mod best;
+pub mod changes;
 pub mod check;
 pub mod drawn;
+pub mod family;
 pub mod fault;
 pub mod gain;
 pub mod kinds;

@@ -7,7 +7,7 @@ use crate::hindsight::script::Script;
 use crate::table::row_at;
 use std::fmt;
 
-/// The recorded rounds, after a line that begins with `#`.
+/// The recorded rounds; lines that begin with `#` say what they are.
 const TEXT: &str = include_str!("../../hindsight_best.txt");
 
 #[derive(Clone, Copy, PartialEq, Eq, Debug)]

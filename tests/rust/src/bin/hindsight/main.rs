@@ -1,62 +1,75 @@
 //! Plays rounds through the library's archive and checks what hindsight could
-//! have gained: hindsight [--self] [--mutations | --search [SECONDS]].
+//! have gained.
 
 #[path = "../compare/archive.rs"]
 mod archive;
 mod run;
+mod seen;
 
 use second::calls::Second;
 use second::compare::library::Library;
 use second::ending::{told, Ended};
-use second::hindsight::search::{longest_family, played, search};
+use second::hindsight::family::longest;
+use second::hindsight::recorded;
+use second::hindsight::search::{played, search};
+use second::mutation::Mutation;
 use second::settings::seed;
 use std::env;
 use std::process::ExitCode;
 use std::time::Duration;
 
-const USAGE: &str = "hindsight [--self] [--mutations | --search [SECONDS]]
---self: the second implementation in the archive's place
+const USAGE: &str = "hindsight [--self | --mutation NAME] [--mutations | --search [SECONDS]]
+--self, --mutation: the second implementation, with that fault, in the archive's place
 LIRVEDD_FACTOR: how many times as many (1); LIRVEDD_SEED: the drawn numbers' seed (1)";
 
 fn main() -> ExitCode {
     let words: Vec<String> = env::args().skip(1).collect();
-    let mut words: Vec<&str> = words.iter().map(String::as_str).collect();
-    let itself = words.first() == Some(&"--self");
-    if itself {
-        words.remove(0);
-    }
-    let library: Box<dyn Library> = match archive::linked() {
-        _ if itself => Box::new(Second::PLAIN),
-        Some(archive) => archive,
-        None => {
-            eprintln!("hindsight: no archive is linked: set LIRVEDD_ARCHIVE, or use --self");
-            return ExitCode::from(2);
-        }
-    };
-    match job(&words, library.as_ref()) {
-        Some(ended) => told(ended),
-        None => {
-            eprintln!("{USAGE}");
+    let words: Vec<&str> = words.iter().map(String::as_str).collect();
+    match library(&words).and_then(|(library, words)| job(words, library.as_ref())) {
+        Ok(ended) => told(ended),
+        Err(said) => {
+            eprintln!("{said}");
             ExitCode::from(2)
         }
     }
 }
 
-fn job(words: &[&str], library: &dyn Library) -> Option<Ended> {
+/// What is played, and the words that are left.
+fn library<'a>(words: &'a [&'a str]) -> Result<(Box<dyn Library>, &'a [&'a str]), String> {
+    let (mutation, words) = match words {
+        ["--self", rest @ ..] => (Mutation::None, rest),
+        ["--mutation", name, rest @ ..] => {
+            let mutation = Mutation::named(name).ok_or(format!("no mutation {name}"))?;
+            (mutation, rest)
+        }
+        _ => {
+            let linked = archive::linked();
+            let told = "no archive is linked: set LIRVEDD_ARCHIVE, or use --self";
+            return Ok((linked.ok_or(told)?, words));
+        }
+    };
+    Ok((Box::new(Second { mutation }), words))
+}
+
+fn job(words: &[&str], library: &dyn Library) -> Result<Ended, String> {
     match words {
-        [] => Some(run::compare(library)),
-        ["--mutations"] => Some(run::mutations(library)),
-        ["--search"] => Some(searched(library, 60)),
-        ["--search", seconds] => Some(searched(library, seconds.parse().ok()?)),
-        _ => None,
+        [] => Ok(run::compare(library)),
+        ["--mutations"] => Ok(run::mutations(library)),
+        ["--search"] => Ok(searched(library, 60)),
+        ["--search", seconds] => {
+            let seconds = seconds.parse().map_err(|_| USAGE)?;
+            Ok(searched(library, seconds))
+        }
+        _ => Err(USAGE.to_string()),
     }
 }
 
 /// The best round found for each number of slots and the longest of the
 /// family, each as a line that is read back.
 fn searched(library: &dyn Library, seconds: u64) -> Ended {
-    let mut best = search(library, seed()?, Duration::from_secs(seconds))?;
-    best.push(played(library, longest_family())?);
+    let time = Duration::from_secs(seconds);
+    let mut best = search(library, recorded::all()?, seed()?, time)?;
+    best.push(played(library, longest())?);
     best.iter().for_each(|one| println!("{one}"));
     Ok(format!("hindsight: searched for {seconds} seconds"))
 }

@@ -1,0 +1,107 @@
+//! What was seen of the rounds played, and whether that is enough.
+
+use second::call::CallName;
+use second::compare::tally::{Outcome, Tally};
+use second::ending::{enough, Ended};
+use second::hindsight::check::Checked;
+use second::hindsight::gain::Gain;
+
+/// How often at least something was met, over all rounds.
+const LEAST: &[(CallName, Outcome, usize)] = &[
+    (CallName::Open, Outcome::Accepted, 250_000),
+    (CallName::Open, Outcome::Refused(4), 30_000),
+    (CallName::Take, Outcome::Accepted, 800_000),
+    (CallName::Take, Outcome::Refused(5), 50_000),
+    (CallName::Take, Outcome::Refused(6), 10_000),
+    (CallName::Take, Outcome::Refused(7), 20_000),
+    (CallName::Take, Outcome::Refused(9), 50_000),
+    (CallName::Send, Outcome::Sent(0, false), 200_000),
+    (CallName::Send, Outcome::Sent(1, false), 200_000),
+    (CallName::Send, Outcome::Sent(1, true), 100_000),
+    (CallName::Send, Outcome::Sent(2, false), 10_000),
+    (CallName::Mark, Outcome::Accepted, 10_000),
+    (CallName::Total, Outcome::Accepted, 10_000),
+    (CallName::Substitute, Outcome::Accepted, 1_000),
+];
+
+/// In how many rounds at least hindsight gains.
+const GAINS: usize = 40_000;
+
+/// The rounds of one kind.
+struct Seen {
+    kind: &'static str,
+    rounds: usize,
+    gains: usize,
+    largest: Gain,
+}
+
+impl Seen {
+    fn new(kind: &'static str) -> Seen {
+        Seen {
+            kind,
+            rounds: 0,
+            gains: 0,
+            largest: Gain { sent: 1, best: 1 },
+        }
+    }
+
+    fn add(&mut self, gain: Gain) {
+        self.rounds += 1;
+        self.gains += usize::from(gain.best > gain.sent);
+        if gain.is_above(self.largest) {
+            self.largest = gain;
+        }
+    }
+
+    fn told(&self) -> String {
+        let Seen { rounds, gains, .. } = self;
+        let ratio = self.largest.ratio();
+        format!("{rounds} rounds, B above S in {gains}, the largest B / S {ratio:.7}")
+    }
+}
+
+pub struct All {
+    all: Seen,
+    kinds: Vec<Seen>,
+    tally: Tally,
+}
+
+impl All {
+    pub fn new() -> All {
+        All {
+            all: Seen::new("all"),
+            kinds: Vec::new(),
+            tally: Tally::default(),
+        }
+    }
+
+    /// A round of the kind that was added last, or the first of the next.
+    pub fn add(&mut self, kind: &'static str, found: &Checked) {
+        if self.kinds.last().map(|seen| seen.kind) != Some(kind) {
+            self.kinds.push(Seen::new(kind));
+        }
+        for seen in self.kinds.last_mut().into_iter().chain([&mut self.all]) {
+            seen.add(found.gain);
+        }
+        for one in &found.asked {
+            self.tally.add(one.call.name(), one.reply);
+        }
+    }
+
+    /// Tells all of it; the last line, if enough was met.
+    pub fn ended(&self) -> Ended {
+        for line in self.tally.lines() {
+            println!("  {line}");
+        }
+        for (call, outcome, least) in LEAST {
+            let met = self.tally.met(*call, *outcome) as usize;
+            enough("hindsight", &format!("{call:?} {outcome:?}"), met, *least)?;
+        }
+        enough("hindsight", "B above S", self.all.gains, GAINS)?;
+        for seen in &self.kinds {
+            println!("  {}: {}", seen.kind, seen.told());
+        }
+        let largest = self.all.largest;
+        Ok(format!("hindsight: {} ({largest})", self.all.told()))
+    }
+}

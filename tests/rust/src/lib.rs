@@ -1,5 +1,5 @@
-//! A second implementation of the slot planner, written from document 01 and
-//! source document 000 alone. It is kept simple and literal: its worth is that
+//! A second implementation of the slot planner, written from documents 01 and
+//! 02 and source document 000 alone. It is kept simple and literal: its worth is that
 //! it shares nothing with the library it is compared with.
 
 #![forbid(unsafe_code)]

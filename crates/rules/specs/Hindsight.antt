@@ -65,7 +65,7 @@ earned (went o ∷ ts) f u = earned ts f (u + counts-for f o)
 unfoldable pub sent-in : List Told → ℕ
 sent-in ts = earned ts (λ k. 0) 0
 
--- AN OFFER: a frame accepted, from the slot in which it was taken to its first due slot, with its first weight
+-- AN OFFER: a frame accepted, from the slot in which it was taken (the source's release time) to its first due slot, with its first weight
 pub record Offer : Type 0 where
   pub from : ℕ
   pub to : ℕ
@@ -81,7 +81,7 @@ offers (nothing ∷ ts) s = offers ts s
 offers (took k d w ∷ ts) s = offer s d w ∷ offers ts s
 offers (went o ∷ ts) s = offers ts (suc s)
 
--- A RIVAL'S CHOICE: for each offer in turn a slot or none
+-- A RIVAL'S CHOICE, the source's schedule of the adversary: for each offer in turn a slot or none
 abbrev pub Choice : Type 0
 Choice = List (Option ℕ)
 
@@ -98,7 +98,7 @@ gained (x ∷ xs) [] = 0
 gained (x ∷ xs) (none ∷ cs) = gained xs cs
 gained (x ∷ xs) (some s ∷ cs) = x .weight + gained xs cs
 
--- B, THE MOST that could have gone out: each offer is left, or put in any free slot of its time. The most of n slots from s on
+-- B, THE MOST that could have gone out, the source's w(OPT): each offer is left, or put in any free slot of its time. The most of n slots from s on
 unfoldable pub top-of : (n s : ℕ) → (ℕ → ℕ) → ℕ
 top-of zero s g = 0
 top-of (suc n) s g = max (g s) (top-of n (suc s) g)

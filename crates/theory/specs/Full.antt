@@ -56,7 +56,7 @@ plan-members r = plan-all (Member r) r (all-of-in (Member r) (r .rows) (λ x i. 
 pub plan-member : (r : Round) (x : Row) → In x (plan r) → Member r x
 plan-member r x i = all-in (Member r) x (plan r) (plan-members r) i
 
--- and so is what is outside
+-- what is outside is a waiting row or a blank, too
 pub outside-member : (r : Round) (x : Row) → In x (outside r) → Member r x
 unfolding outside blank
 outside-member r x i =

@@ -23,19 +23,29 @@ pub fn told(ended: Ended) -> ExitCode {
     }
 }
 
+/// A fault, by what it does.
+pub trait Named {
+    fn says(&self) -> String;
+}
+
+impl Named for Mutation {
+    fn says(&self) -> String {
+        format!("{self:?}: {}", Mutation::says(*self))
+    }
+}
+
 /// Every fault must be caught; one line each. The place tells where it is.
-pub fn caught(name: &str, all: &[Mutation], place: impl Fn(Mutation) -> Option<String>) -> Ended {
+pub fn caught<T: Named>(name: &str, all: &[T], place: impl Fn(&T) -> Option<String>) -> Ended {
     let mut caught = 0;
-    for mutation in all.iter().copied() {
-        let found = place(mutation);
-        let says = mutation.says();
+    for fault in all {
+        let found = place(fault);
         match &found {
-            Some(place) => println!("caught {mutation:?} ({place}): {says}"),
-            None => println!("NOT CAUGHT {mutation:?}: {says}"),
+            Some(place) => println!("caught ({place}): {}", fault.says()),
+            None => println!("NOT CAUGHT: {}", fault.says()),
         }
         caught += usize::from(found.is_some());
     }
-    let line = format!("{name}: {caught} of {} mutations caught", all.len());
+    let line = format!("{name}: {caught} of {} faults caught", all.len());
     match caught == all.len() {
         true => Ok(line),
         false => Err(line),

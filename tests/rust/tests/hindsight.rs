@@ -2,6 +2,7 @@
 //! implementation, and notices each fault.
 
 use second::calls::Second;
+use second::ending::Named;
 use second::hindsight::check::check;
 use second::hindsight::fault::FAULTS;
 use second::hindsight::kinds::rounds;

@@ -186,7 +186,7 @@ fn mutations(program: &Path) -> Ended {
     let runs = runs(program)?;
     let mut all = Mutation::shown(SHOWN_BY);
     all.retain(|mutation| !HIDDEN.contains(mutation));
-    caught("streams", &all, |mutation| {
+    caught("streams", &all, |&mutation| {
         let second = Second { mutation };
         let differs = |run: &&Run| printed(second, &run.file).as_bytes() != run.output;
         let found = runs.iter().find(differs)?;

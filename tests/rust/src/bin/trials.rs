@@ -137,7 +137,7 @@ fn least(tried: &[Tried]) -> Result<(), String> {
 /// Every fault in the calls that trial makes.
 fn mutations(program: &Path) -> Ended {
     let tried = tried(program)?;
-    caught("trials", &Mutation::shown(SHOWN_BY), |mutation| {
+    caught("trials", &Mutation::shown(SHOWN_BY), |&mutation| {
         let second = Second { mutation };
         let differs = |one: &&Tried| one.request.outcome(second) != one.outcome;
         let found = tried.iter().find(differs)?;

@@ -5,6 +5,7 @@ use crate::call::Call;
 use crate::calls::Second;
 use crate::compare::library::Library;
 use crate::counts::{Slot, Ticket};
+use crate::ending::Named;
 use crate::hindsight::account::{Account, Offer};
 use crate::hindsight::best::best;
 use crate::hindsight::check::check;
@@ -58,14 +59,18 @@ pub const FAULTS: &[Fault] = &[
     }),
 ];
 
-impl Fault {
-    pub fn says(&self) -> &'static str {
+impl Named for Fault {
+    fn says(&self) -> String {
         match self {
-            Fault::Planner(mutation, _) | Fault::Library(mutation) => mutation.says(),
-            Fault::Sum(says, _) | Fault::OtherSum(says, _) | Fault::Best(says, ..) => says,
+            Fault::Planner(mutation, _) | Fault::Library(mutation) => Named::says(mutation),
+            Fault::Sum(says, _) | Fault::OtherSum(says, _) | Fault::Best(says, ..) => {
+                says.to_string()
+            }
         }
     }
+}
 
+impl Fault {
     /// How this round shows the fault, where it does.
     pub fn shown(&self, library: &dyn Library, script: &Script) -> Option<String> {
         match *self {

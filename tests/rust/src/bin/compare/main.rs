@@ -21,7 +21,7 @@ fn main() -> ExitCode {
     };
     told(match options.job {
         Job::Compare(mutation) => compare(&options, mutation),
-        Job::Mutations => caught("compare", &Mutation::shown(CallName::ALL), |mutation| {
+        Job::Mutations => caught("compare", &Mutation::shown(CallName::ALL), |&mutation| {
             caught_at(&options, mutation)
         }),
     })

@@ -2,9 +2,9 @@
 
 use crate::seen::All;
 use second::compare::library::Library;
-use second::ending::Ended;
+use second::ending::{caught, Ended};
 use second::hindsight::check::{check, Checked};
-use second::hindsight::fault::{Fault, FAULTS};
+use second::hindsight::fault::FAULTS;
 use second::hindsight::kinds::rounds;
 use second::hindsight::recorded::{self, Recorded};
 use second::hindsight::script::Script;
@@ -42,30 +42,14 @@ fn replayed(library: &dyn Library, one: &Recorded) -> Result<Checked, String> {
     found.map_err(|wrong| difference(library, &script, &place, &wrong))
 }
 
-/// Every fault must be seen on some drawn round; one line each.
+/// Every fault must be seen on some drawn round.
 pub fn mutations(library: &dyn Library) -> Ended {
-    let mut caught = 0;
-    for fault in FAULTS {
-        let found = first(library, fault)?;
-        let says = fault.says();
-        match &found {
-            Some(place) => println!("caught ({place}): {says}"),
-            None => println!("NOT CAUGHT: {says}"),
-        }
-        caught += usize::from(found.is_some());
-    }
-    let line = format!("hindsight: {caught} of {} faults caught", FAULTS.len());
-    match caught == FAULTS.len() {
-        true => Ok(line),
-        false => Err(line),
-    }
-}
-
-/// The first drawn round that shows a fault, and how.
-fn first(library: &dyn Library, fault: &Fault) -> Result<Option<String>, String> {
-    let mut drawn = rounds(seed()?, factor()?).filter(|round| round.is_drawn);
-    Ok(drawn.find_map(|round| {
-        let wrong = fault.shown(library, &round.script)?;
-        Some(format!("{} {}: {wrong}", round.kind, round.number))
-    }))
+    let (seed, factor) = (seed()?, factor()?);
+    caught("hindsight", FAULTS, |fault| {
+        let mut drawn = rounds(seed, factor).filter(|round| round.is_drawn);
+        drawn.find_map(|round| {
+            let wrong = fault.shown(library, &round.script)?;
+            Some(format!("{} {}: {wrong}", round.kind, round.number))
+        })
+    })
 }

@@ -32,7 +32,7 @@ claims (idle ∷ es) = claims es
 claims (owe m ∷ es) = m + claims es
 claims (hold x m ∷ es) = m + claims es
 
--- A GOOD STASH from slot s to the last: a number owed is at most its slot's mark, a row held is due by then and weighs what it counts for
+-- A GOOD STASH from slot s to the last: a number owed is at most its slot's mark, a row held is due then or later and weighs what it counts for
 abbrev pub Good : Round → (s : ℕ) → List Entry → Type 0
 Good r s [] = s ≡ suc (r .last)
 Good r s (idle ∷ es) = (s ≤ r .last) × Good r (suc s) es

@@ -170,15 +170,32 @@ pub offers-by-hand : offers (between .tells) 0 ≡ three
 unfolding offer offers
 offers-by-hand = refl
 
--- choices among them, whether they can be kept: none; 10 and 11; one before its taking, after its due slot, in a slot used twice
+-- choices among them, whether they can be kept: none; 10 and 11; 10 in its due slot; one before its taking, after its due slot, in a slot used twice
 abbrev pub choices : List Choice
-choices = [] ∷ (none ∷ some 0 ∷ some 1 ∷ []) ∷ (none ∷ none ∷ some 0 ∷ []) ∷ (some 1 ∷ none ∷ none ∷ []) ∷ (none ∷ some 1 ∷ some 1 ∷ []) ∷ []
+choices =
+    [] ∷ (none ∷ some 0 ∷ some 1 ∷ []) ∷ (none ∷ some 1 ∷ []) ∷ (none ∷ none ∷ some 0 ∷ []) ∷ (some 1 ∷ none ∷ none ∷ []) ∷ (none ∷ some 1 ∷ some 1 ∷ []) ∷ []
 
-pub kept-by-hand : map (λ (cs : Choice). kept-to three cs []) choices ≡ true ∷ true ∷ false ∷ false ∷ false ∷ []
+pub kept-by-hand : map (λ (cs : Choice). kept-to three cs []) choices ≡ true ∷ true ∷ true ∷ false ∷ false ∷ false ∷ []
 unfolding member offer kept-to
 kept-by-hand = refl
 
 -- and what each would gain
-pub gained-by-hand : map (λ (cs : Choice). gained three cs) choices ≡ 0 ∷ 21 ∷ 11 ∷ 4 ∷ 21 ∷ []
+pub gained-by-hand : map (λ (cs : Choice). gained three cs) choices ≡ 0 ∷ 21 ∷ 10 ∷ 11 ∷ 4 ∷ 21 ∷ []
 unfolding offer gained
 gained-by-hand = refl
+
+-- every slot used so far counts, not the last one alone: three offers of slots 0 to 2
+abbrev pub wide : List Offer
+wide = offer 0 2 1 ∷ offer 0 2 2 ∷ offer 0 2 4 ∷ []
+
+abbrev pub slots-of-wide : List Choice
+slots-of-wide = (some 1 ∷ some 2 ∷ some 0 ∷ []) ∷ (some 1 ∷ some 2 ∷ some 1 ∷ []) ∷ (some 1 ∷ none ∷ some 1 ∷ []) ∷ []
+
+pub used-by-hand : map (λ (cs : Choice). kept-to wide cs []) slots-of-wide ≡ true ∷ false ∷ false ∷ []
+unfolding member offer kept-to
+used-by-hand = refl
+
+-- a frame that no taking was answered with counts nothing
+pub unknown-by-hand : sent-in (took 1 0 4 ∷ went (frame 2) ∷ went (frame 1) ∷ []) ≡ 4
+unfolding counts-for noted earned sent-in
+unknown-by-hand = refl

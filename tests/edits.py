@@ -23,7 +23,7 @@ This page is written by tests/edits.py from the first lines of the edits.
 
 # The nearest is another program, not an edit of this one: it is proved that it sends otherwise.
 PLAYED_OUT = "`played-out-misses`, `canonical-first-differs`, `no-order-serves` in crates/theory/specs/PlayedOut.antt; "
-OVER = " ".join(f"{call}over_in_the_last_slot" for call in ("calls/", "calls/send_", "asking/mark_", "asking/total_")) + " rules/last_slot_over"
+OVER = " ".join(f"{call}over_in_the_last_slot" for call in ("calls/", "calls/send_", "questions/mark_", "questions/total_")) + " rules/last_slot_over"
 TURNED_DOWN = " ".join(f"calls/every_{call}_turned_down" for call in ("opening", "taking", "sending"))
 
 BREAKAGES = [
@@ -48,7 +48,7 @@ KINDS = [
     ("a substitute from before the tight slot", "marks/substitute_from_before_the_tight_slot"),
     ("a sender that forgets to move the slot on", "closing/slot_not_moved_on"),
     ("an expired row left in", "closing/expired_row_left_in"),
-    ("refusals 10 and 11 exchanged", "asking/ten_and_eleven_exchanged rules/ten_and_eleven_exchanged"),
+    ("refusals 10 and 11 exchanged", "questions/ten_and_eleven_exchanged rules/ten_and_eleven_exchanged"),
     ("refusal 5 given in the last slot", OVER),
     ("a listing whose count is not the plan's rows", "listing/list_count_of_all_rows"),
     ("a listing with a count of 0", "listing/list_count_of_0 rules/list_count_of_0"),
@@ -95,7 +95,7 @@ CONTRACTS = {
     "marks": "`mark_at` and `total_of`, equal to `mark` and `total`; `segment_of` (`Spans`), `substitute_at` (`Substitutes`)",
     "order": "`order_of` (`Ordered`): the plan's rows in canonical order",
     "calls": "`open_round`, `take_frame`, `send_slot` (`Says`): reply and bytes",
-    "asking": "`mark_of`, `plan_total` (`Says`); `substitute_of` (`Looks`)",
+    "questions": "`mark_of`, `plan_total` (`Says`); `substitute_of` (`Looks`)",
     "listing": "`list_plan` (`Lists`): reply and entries",
     "station": "each exported call: the packed reply (`pack`) and the bytes (`Exports`, `Exports-look`)",
     "lines": "`read_command` (`read`), `payload` (`Part`), `write_line` (`Writes`), `line_end` (`Ends`), the reply writers (`Replies`)",

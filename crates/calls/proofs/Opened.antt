@@ -1,4 +1,4 @@
--- Opening: refusal 4, and what is owed once all is written. Assumes nothing.
+-- Opening: refusal 4, and what is owed once all is written.
 use mathlib.Core.Path.{_≡_, ap, _∙_}
 use mathlib.Core.Bool.{true}
 use mathlib.Core.List.{List, _++_}

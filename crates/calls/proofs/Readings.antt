@@ -1,4 +1,4 @@
--- The numbers and values that document 01 gives each reply enum forget nothing: equal ones come from equal replies. Assumes nothing.
+-- The numbers and values that document 01 gives each reply enum forget nothing: equal ones come from equal replies.
 use mathlib.Core.Path.{_≡_, refl, ap}
 use Rattle.theory.specs.Tests.{clash}
 use Rattle.round.proofs.Sorts.{ticket-read}

@@ -1,4 +1,4 @@
--- Taking on a sound table by its head: the number, the room there is, and what is owed once all is written. Assumes nothing.
+-- Taking on a sound table by its head: the number, the room there is, and what is owed once all is written.
 use mathlib.Core.Path.{_≡_, ap, _∙_}
 use mathlib.Core.List.{List, _++_}
 use Prim.Native.Nat.{ℕ, _+_, _≤_, _<_}

@@ -1,4 +1,4 @@
--- Refusals 5 to 9 of taking, one condition after another. Assumes nothing.
+-- Refusals 5 to 9 of taking, one condition after another.
 use mathlib.Core.Path.{_≡_}
 use mathlib.Core.Bool.{_||_}
 use Prim.Native.Nat.{ℕ, _≤_, _<_}

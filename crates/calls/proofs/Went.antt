@@ -1,4 +1,4 @@
--- What went out, as document 01's cases. Assumes nothing.
+-- What went out, as document 01's cases.
 use mathlib.Core.Path.{_≡_, sym, ap, _∙_}
 use mathlib.Core.Bool.{Bool, true, false, cond}
 use borrow.Author.Tests.{eq-eqb, ne-eqb}

@@ -1,4 +1,4 @@
--- Each reply enum's number and values of document 01, case by case. Assumes nothing: these are definitions.
+-- Each reply enum's number and values of document 01, case by case.
 use Rattle.rules.specs.Calls.{Reply, refused, done, ticket}
 use Rattle.calls.specs.declared.opening.Opened.{Opened}
 use Rattle.calls.specs.declared.opening.Opened.the-variants as opened

@@ -1,4 +1,4 @@
--- A sending's reply enums: document 01's number and values, case by case. Assumes nothing: these are definitions.
+-- A sending's reply enums: document 01's number and values, case by case.
 use Rattle.rules.specs.Calls.{Reply, refused, step}
 use Rattle.rules.specs.Calls as rules
 use Rattle.calls.specs.declared.sending.Out.{Out}

@@ -1,4 +1,4 @@
--- Taking a frame by a head's numbers: refusals 5 to 9. Assumes nothing: these are definitions.
+-- Taking a frame by a head's numbers: refusals 5 to 9.
 use mathlib.Core.Bool.{_||_, cond}
 use Prim.Native.Nat.{ℕ}
 use lib.Dec.{eqb, ltb, leb}

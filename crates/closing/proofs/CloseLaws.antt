@@ -1,4 +1,4 @@
--- Rows closed up in place, step by step as the code goes. Assumes nothing.
+-- Rows closed up in place, step by step as the code goes.
 use mathlib.Core.Path.{_≡_, refl, sym, ap, ap₂, _∙_, subst}
 use mathlib.Core.Logic.{inl, inr}
 use mathlib.Core.Bool.{true, false, _&&_, not}

@@ -1,4 +1,4 @@
--- Bytes copied within a list to a place that is no later. Assumes nothing.
+-- Bytes copied within a list to a place that is no later.
 use mathlib.Core.Path.{_≡_, sym, ap, ap₂, _∙_}
 use mathlib.Core.List.{List, _++_, append-assoc}
 use Prim.Native.Nat.{ℕ, zero, suc, _+_, _-_, _≤_, _<_}

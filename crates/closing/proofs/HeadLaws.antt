@@ -1,4 +1,4 @@
--- The head's numbers are those of the round that a sound table holds. Assumes nothing.
+-- The head's numbers are those of the round that a sound table holds.
 use mathlib.Core.Path.{_≡_, sym, ap, _∙_}
 use mathlib.Core.List.{List}
 use Prim.Native.Nat.{ℕ, _≤_}

@@ -1,4 +1,4 @@
--- A row's numbers stored in a table. Assumes nothing.
+-- A row's numbers stored in a table.
 use mathlib.Core.Path.{_≡_, ap, _∙_}
 use mathlib.Core.List.{List, [], _∷_, _++_}
 use Prim.Native.Nat.{ℕ, suc, _+_}

@@ -1,4 +1,4 @@
--- Rows closed up in a table, as its bytes tell them. Assumes nothing: these are definitions.
+-- Rows closed up in a table, as its bytes tell them.
 use mathlib.Core.Path.{_≡_}
 use mathlib.Core.Logic.{_⊎_}
 use mathlib.Core.Bool.{Bool, true, false, _&&_, not}

@@ -1,4 +1,4 @@
--- Along a leap's chain with a row of its stretch held: the latest one is given up on the way, or the row of a place before it. Assumes nothing.
+-- Along a leap's chain with a row of its stretch held: the latest one is given up on the way, or the row of a place before it.
 use mathlib.Core.Path.{sym, ap, subst}
 use mathlib.Core.Logic.{inl, inr}
 use mathlib.Core.List.{List, [], _∷_}

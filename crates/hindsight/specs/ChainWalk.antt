@@ -1,4 +1,4 @@
--- Along a leap's chain, from its last place back to the row sent: each place as it is, or all of them free. Assumes nothing.
+-- Along a leap's chain, from its last place back to the row sent: each place as it is, or all of them free.
 use mathlib.Core.Path.{_≡_, _∙_, subst}
 use mathlib.Core.Logic.{inl, inr}
 use mathlib.Core.List.{List, [], _∷_}

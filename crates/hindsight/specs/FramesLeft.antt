@@ -1,4 +1,4 @@
--- The frames that a sending leaves: where each comes from, and that what goes out is a waiting frame or counts nothing. Assumes nothing.
+-- The frames that a sending leaves: where each comes from, and that what goes out is a waiting frame or counts nothing.
 use mathlib.Core.Path.{_≡_, sym, ap, _∙_}
 use mathlib.Core.Logic.{_⊎_, inl, inr}
 use mathlib.Core.List.{List, [], _∷_}

@@ -1,4 +1,4 @@
--- THE GOLDEN BOUND, proved: golden-hindsight. What any choice of the rival gains, against what went out, over all calls. Assumes nothing.
+-- THE GOLDEN BOUND, proved: golden-hindsight. What any choice of the rival gains, against what went out, over all calls.
 use mathlib.Core.Path.{_≡_, ap, subst}
 use mathlib.Core.Bool.{true, _&&_, not}
 use mathlib.Core.List.{List, [], _∷_}

@@ -1,5 +1,5 @@
 -- Which rows of the stash a leap meets: none by the end of its stretch, one in it, or one before. What it is worth in each case.
--- Assumes nothing.
+--
 use mathlib.Core.Path.{_≡_, sym, subst}
 use mathlib.Core.Logic.{inl, inr}
 use mathlib.Core.List.{List, [], _∷_}

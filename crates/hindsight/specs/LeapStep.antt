@@ -1,4 +1,4 @@
--- A leap as a step, and every step. Assumes nothing.
+-- A leap as a step, and every step.
 use mathlib.Core.Path.{_≡_, refl, sym, ap, _∙_, subst}
 use mathlib.Core.Logic.{_⊎_, inl, inr}
 use mathlib.Core.List.{List}

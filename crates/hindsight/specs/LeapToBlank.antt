@@ -1,4 +1,4 @@
--- A leap whose substitute is a blank, at the start of its row's segment: no row is shifted. Assumes nothing.
+-- A leap whose substitute is a blank, at the start of its row's segment: no row is shifted.
 use mathlib.Core.Path.{_≡_, refl, ap}
 use mathlib.Core.Logic.{_⊎_, inl, inr}
 use mathlib.Core.List.{List, [], _∷_}

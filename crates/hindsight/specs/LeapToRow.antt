@@ -1,4 +1,4 @@
--- A leap whose substitute is a row: the shifts make a chain, along which the walk goes. Assumes nothing.
+-- A leap whose substitute is a row: the shifts make a chain, along which the walk goes.
 use mathlib.Core.Path.{_≡_, refl, sym, ap, _∙_, subst}
 use mathlib.Core.Logic.{inl, inr}
 use mathlib.Core.Bool.{false}

@@ -1,4 +1,4 @@
--- MOST-RECKONED, proved: what is reckoned as the most is the most: some choice that can be kept gains it, and none gains more. Assumes nothing.
+-- MOST-RECKONED, proved: what is reckoned as the most is the most: some choice that can be kept gains it, and none gains more.
 use mathlib.Core.Path.{_≡_, refl}
 use mathlib.Core.Logic.{inl, inr}
 use mathlib.Core.Bool.{true, false, _&&_, not, cond}

@@ -1,4 +1,4 @@
--- An ordinary step: the row sent is a blank, held by the rival, or free. Assumes nothing.
+-- An ordinary step: the row sent is a blank, held by the rival, or free.
 use mathlib.Core.Path.{_≡_, refl, ap, _∙_}
 use mathlib.Core.Logic.{inl, inr}
 use mathlib.Core.List.{List, _∷_}

@@ -1,4 +1,4 @@
--- Over a list of calls: a claim holds of all that they tell, where each thing told keeps it. Assumes nothing.
+-- Over a list of calls: a claim holds of all that they tell, where each thing told keeps it.
 use mathlib.Core.Path.{_≡_, refl, ap, _∙_}
 use mathlib.Core.Bool.{Bool, true, false, cond}
 use mathlib.Core.List.{List, [], _∷_}

@@ -1,4 +1,4 @@
--- One place of a leap's chain: it is free, stays held, or is given up. Assumes nothing.
+-- One place of a leap's chain: it is free, stays held, or is given up.
 use mathlib.Core.Path.{_≡_, refl}
 use mathlib.Core.Logic.{_⊎_, inl, inr}
 use mathlib.Core.List.{List, [], _∷_}

@@ -1,4 +1,4 @@
--- The invariant of the analysis, and that taking and sending keep it. Assumes nothing.
+-- The invariant of the analysis, and that taking and sending keep it.
 -- A rival books a slot for each frame that it chooses. Its stash holds such a frame while the plan has it, and is owed a number after
 -- that; what this loses it is paid at once. The potential is what the other waiting rows, the free ones, are worth. Each step that sends a
 -- row of weight p, raises weights by m and pays c keeps c + φ m at most φ p and 1 / φ of what the potential gains, with neighbours in

@@ -1,5 +1,5 @@
 -- WHAT WENT OUT COULD HAVE, proved: sent-could-have. Each row that is a frame waits as it was offered, its due slot no later than at first; what
--- goes out is such a frame, so the choice that puts each frame in the slot in which it went can be kept. Assumes nothing.
+-- goes out is such a frame, so the choice that puts each frame in the slot in which it went can be kept.
 use mathlib.Core.Path.{_≡_, refl, sym, ap, _∙_}
 use mathlib.Core.Logic.{inl, inr}
 use mathlib.Core.List.{List, [], _∷_, _++_}

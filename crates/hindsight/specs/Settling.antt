@@ -1,4 +1,4 @@
--- Settling: a row held that the plan no longer has becomes a number owed; what is left splits the waiting rows. Assumes nothing.
+-- Settling: a row held that the plan no longer has becomes a number owed; what is left splits the waiting rows.
 use mathlib.Core.Path.{_≡_, refl}
 use mathlib.Core.Logic.{inl, inr}
 use mathlib.Core.Bool.{true, cond}

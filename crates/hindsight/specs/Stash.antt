@@ -1,4 +1,4 @@
--- The rival's stash, the source's adversary stash: for each slot ahead nothing yet, a number owed, or a waiting row held with the number it counts for. Assumes nothing.
+-- The rival's stash, the source's adversary stash: for each slot ahead nothing yet, a number owed, or a waiting row held with the number it counts for.
 use mathlib.Core.Path.{_≡_, sym, ap, _∙_, subst}
 use mathlib.Core.Logic.{inl, inr}
 use mathlib.Core.Bool.{false}

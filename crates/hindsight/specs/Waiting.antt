@@ -1,4 +1,4 @@
--- Frames that wait, as they were offered, and choices that put one of them in a slot: no model, offers alone. Assumes nothing.
+-- Frames that wait, as they were offered, and choices that put one of them in a slot: no model, offers alone.
 use mathlib.Core.Path.{_≡_, refl, ap}
 use mathlib.Core.Logic.{_⊎_, inl, inr}
 use mathlib.Core.Bool.{true, false}

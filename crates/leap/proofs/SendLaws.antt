@@ -1,4 +1,4 @@
--- The ways of sending, from what the pick says. Assumes nothing.
+-- The ways of sending, from what the pick says.
 use mathlib.Core.Path.{_≡_, refl, sym, ap, ap₂, _∙_, subst}
 use mathlib.Core.Bool.{Bool, true, false, false≢true}
 use mathlib.Core.List.{List, [], _∷_, _++_}

@@ -1,4 +1,4 @@
--- Tables in between: sound ones of the same head, with other rows. Assumes nothing.
+-- Tables in between: sound ones of the same head, with other rows.
 use mathlib.Core.Path.{_≡_, refl, sym, ap, _∙_}
 use mathlib.Core.Bool.{Bool, true, false, not, cond}
 use mathlib.Core.List.{List, [], _∷_}

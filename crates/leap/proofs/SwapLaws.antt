@@ -1,4 +1,4 @@
--- A leap onto a row left out: where its segment ends, what the pass goes by, and the table in between. Assumes nothing.
+-- A leap onto a row left out: where its segment ends, what the pass goes by, and the table in between.
 use mathlib.Core.Path.{_≡_, refl, sym, ap, ap₂, _∙_, subst}
 use mathlib.Core.Logic.{inl, inr, _≢_}
 use mathlib.Core.Bool.{true, false}

@@ -1,4 +1,4 @@
--- What a sending writes and says. Assumes nothing: these are definitions.
+-- What a sending writes and says.
 use mathlib.Core.Path.{_≡_}
 use mathlib.Core.Bool.{Bool, false, not, cond}
 use mathlib.Core.List.{List}

@@ -1,4 +1,4 @@
--- The numbers and values that the definitions of Cases give forget nothing. Assumes nothing.
+-- The numbers and values that the definitions of Cases give forget nothing.
 use mathlib.Core.Path.{_≡_, refl, ap}
 use Prim.Native.Nat.{ℕ}
 use native.Mathlib.Omega.{arith}

@@ -1,4 +1,4 @@
--- Lines read: when a line is a command, and each way in which it is broken. Assumes nothing.
+-- Lines read: when a line is a command, and each way in which it is broken.
 use mathlib.Core.Path.{_≡_, refl, sym, ap, _∙_}
 use mathlib.Core.Bool.{true, false, false≢true}
 use mathlib.Core.List.{List, [], _∷_}

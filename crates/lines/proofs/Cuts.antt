@@ -1,4 +1,4 @@
--- Where a line of an input ends, and what an input cut there is. Assumes nothing.
+-- Where a line of an input ends, and what an input cut there is.
 use mathlib.Core.Path.{_≡_, ap, _∙_}
 use mathlib.Core.Logic.{inl, inr}
 use mathlib.Core.List.{List, [], _∷_, _++_}

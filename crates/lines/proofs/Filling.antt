@@ -1,4 +1,4 @@
--- A buffer filled from its start, part by part. Assumes nothing.
+-- A buffer filled from its start, part by part.
 use mathlib.Core.Path.{_≡_, refl, sym, _∙_}
 use mathlib.Core.List.{List, [], _∷_, _++_}
 use Prim.Native.Nat.{ℕ, suc, _+_, _≤_, _<_}

@@ -1,4 +1,4 @@
--- The payload's place in its line. Assumes nothing.
+-- The payload's place in its line.
 use mathlib.Core.Path.{_≡_, sym, ap, _∙_}
 use mathlib.Core.Logic.{inl, inr}
 use mathlib.Core.List.{List}

@@ -1,4 +1,4 @@
--- Digits, byte by byte: what a digit's value tells, numbers as a loop reads and writes them. Assumes nothing.
+-- Digits, byte by byte: what a digit's value tells, numbers as a loop reads and writes them.
 use mathlib.Core.Path.{_≡_, refl, sym, ap, _∙_}
 use mathlib.Core.Logic.{inl, inr}
 use mathlib.Core.Bool.{true, false, _&&_}

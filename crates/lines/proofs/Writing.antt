@@ -1,4 +1,4 @@
--- Lines written: what can stand, the front and the payload, the answers; reply lines. Assumes nothing.
+-- Lines written: what can stand, the front and the payload, the answers; reply lines.
 use mathlib.Core.Path.{_≡_, refl, sym, _∙_}
 use mathlib.Core.Bool.{Bool, true, false, _&&_}
 use mathlib.Core.List.{List, _++_}

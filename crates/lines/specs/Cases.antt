@@ -1,4 +1,4 @@
--- Document 01's numbers and values for each case of the enums. Assumes nothing: these are definitions.
+-- Document 01's numbers and values for each case of the enums.
 use Prim.Native.Nat.{ℕ}
 use Rattle.rules.specs.Calls.{Reply, refused, amount, Out, silence, frame, kept-blank}
 use Rattle.rules.specs.Lines as rules

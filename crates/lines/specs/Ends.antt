@@ -1,4 +1,4 @@
--- Where a line of an input ends. Assumes nothing: these are definitions.
+-- Where a line of an input ends.
 use mathlib.Core.Path.{_≡_}
 use mathlib.Core.List.{List}
 use Prim.Native.Nat.{ℕ, _≤_, _<_}

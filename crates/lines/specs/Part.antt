@@ -1,4 +1,4 @@
--- The payload's place in its line, and that part. Assumes nothing: these are definitions.
+-- The payload's place in its line, and that part.
 use mathlib.Core.Path.{_≡_}
 use mathlib.Core.List.{List}
 use Prim.Native.Nat.{ℕ, _+_, _-_}

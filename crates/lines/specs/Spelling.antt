@@ -1,4 +1,4 @@
--- What bytes spell, a line whose number is read, and bytes put into a buffer. Assumes nothing: these are definitions.
+-- What bytes spell, a line whose number is read, and bytes put into a buffer.
 use mathlib.Core.Path.{_≡_}
 use mathlib.Core.Bool.{true, cond}
 use mathlib.Core.List.{List, _++_}

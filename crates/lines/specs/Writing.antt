@@ -1,4 +1,4 @@
--- What the writers answer and leave in the lent buffer. Assumes nothing: these are definitions.
+-- What the writers answer and leave in the lent buffer.
 use mathlib.Core.Path.{_≡_}
 use mathlib.Core.Bool.{Bool, _&&_}
 use mathlib.Core.List.{List, [], _∷_, _++_}

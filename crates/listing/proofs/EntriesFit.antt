@@ -1,4 +1,4 @@
--- Every entry listed still fits: entry i is due in slot current + i or later. Assumes nothing.
+-- Every entry listed still fits: entry i is due in slot current + i or later.
 use mathlib.Core.Path.{_≡_, refl, sym, ap, _∙_}
 use mathlib.Core.Logic.{inl, inr}
 use mathlib.Core.List.{List, [], _∷_, _++_, map}
@@ -9,7 +9,8 @@ use Rattle.rules.specs.Rows.{Row}
 use Rattle.rules.specs.Plan.{listed}
 use Rattle.rules.specs.Table.{round-in, table-refusal}
 use Rattle.rules.specs.Demands.{Listed-fits, Tables-back}
-use Rattle.rules.specs.Calls.{first, refused, amount, list-refusal, list-answer, list-left}
+use Rattle.rules.specs.Calls.{first, refused, amount}
+use Rattle.rules.specs.Looking.{list-refusal, list-answer, list-left}
 use Rattle.theory.specs.Tests.{eqb?}
 use Rattle.theory.specs.Listed.{listed-fits}
 use Rattle.theory.specs.Stays.{tables-back}

@@ -1,4 +1,4 @@
--- Entries written one after another: the first n, then what stood past them. Assumes nothing.
+-- Entries written one after another: the first n, then what stood past them.
 use mathlib.Core.Path.{_≡_, refl, sym, ap, _∙_}
 use mathlib.Core.List.{List, [], _∷_, _++_, map, map-append, append-assoc}
 use Prim.Native.Nat.{ℕ, zero, suc, _+_, _≤_, _<_}

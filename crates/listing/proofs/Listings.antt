@@ -1,4 +1,4 @@
--- What a listing is to do: refused, or the rows in their order. Assumes nothing.
+-- What a listing is to do: refused, or the rows in their order.
 use mathlib.Core.Path.{_≡_, sym, ap, _∙_}
 use mathlib.Core.List.{List}
 use Prim.Native.Nat.{ℕ, _≤_, _<_}
@@ -8,7 +8,8 @@ use lib.ListN.{length, getD}
 use Rattle.rules.specs.Rows.{round}
 use Rattle.rules.specs.Table.{round-in, table-refusal}
 use Rattle.rules.specs.Plan.{listed}
-use Rattle.rules.specs.Calls.{first, send-refusal, list-refusal, list-answer, list-left}
+use Rattle.rules.specs.Calls.{first, send-refusal}
+use Rattle.rules.specs.Looking.{list-refusal, list-answer, list-left}
 use Rattle.round.specs.declared.Round.{Round}
 use Rattle.round.specs.Head.{Head-of}
 use Rattle.tally.specs.Rows.{Ready}

@@ -1,11 +1,12 @@
--- Listing: an entry's numbers, the reply enum's number and values of document 01, and what the call promises. Assumes nothing: these are definitions.
+-- Listing: an entry's numbers, the reply enum's number and values of document 01, and what the call promises.
 use mathlib.Core.Path.{_≡_}
 use mathlib.Core.List.{List}
 use Prim.Native.Nat.{ℕ, _+_, _≤_, _<_}
 use lib.ListN.{length, getD}
 use Rattle.rules.specs.Rows.{Row}
 use Rattle.rules.specs.Table.{round-in}
-use Rattle.rules.specs.Calls.{Reply, refused, amount, list-answer, list-left}
+use Rattle.rules.specs.Calls.{Reply, refused, amount}
+use Rattle.rules.specs.Looking.{list-answer, list-left}
 use Rattle.listing.specs.declared.Entry.{Entry}
 use Rattle.listing.specs.declared.Listed.{Listed}
 use Rattle.listing.specs.declared.Listed.the-variants as listed

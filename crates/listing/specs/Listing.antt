@@ -1,11 +1,11 @@
--- What a listing will do, decided before an entry is written. Assumes nothing: these are definitions.
+-- What a listing will do, decided before an entry is written.
 use mathlib.Core.Path.{_≡_}
 use mathlib.Core.List.{List}
 use Prim.Native.Nat.{ℕ, zero, suc, _+_, _≤_, _<_}
 use lib.ListN.{length, getD, set}
 use Rattle.rules.specs.Limits.{row-size, most-rows}
 use Rattle.rules.specs.Conditions.{row-at}
-use Rattle.rules.specs.Calls.{list-answer, list-left}
+use Rattle.rules.specs.Looking.{list-answer, list-left}
 use Rattle.theory.specs.Soundness.{row-in}
 use Rattle.listing.specs.declared.Entry.{Entry}
 use Rattle.listing.specs.declared.Listing.{Listing}

@@ -1,4 +1,4 @@
--- The way back over counts: rows that wait for an earlier bucket, and where segments begin. Assumes nothing.
+-- The way back over counts: rows that wait for an earlier bucket, and where segments begin.
 use mathlib.Core.Path.{_≡_, sym, ap, subst}
 use mathlib.Core.Logic.{inl, inr}
 use mathlib.Core.List.{List}

@@ -1,4 +1,4 @@
--- Counts of all rows become those of the plan's, row by row. Assumes nothing.
+-- Counts of all rows become those of the plan's, row by row.
 use mathlib.Core.Path.{_≡_, refl, sym, ap, _∙_}
 use mathlib.Core.Logic.{inl, inr}
 use mathlib.Core.Bool.{Bool, true, false, cond}

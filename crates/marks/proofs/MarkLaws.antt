@@ -1,4 +1,4 @@
--- The mark of a slot: 0 far away, else the least weight by the next tight slot. Assumes nothing.
+-- The mark of a slot: 0 far away, else the least weight by the next tight slot.
 use mathlib.Core.Path.{_≡_, sym, ap, _∙_}
 use mathlib.Core.Bool.{Bool, true, false}
 use mathlib.Core.List.{List}

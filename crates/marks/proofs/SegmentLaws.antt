@@ -1,4 +1,4 @@
--- The segment of a slot where the plan is full, by the plan's counts. Assumes nothing.
+-- The segment of a slot where the plan is full, by the plan's counts.
 use mathlib.Core.Path.{_≡_, sym, ap, _∙_}
 use mathlib.Core.List.{List}
 use Prim.Native.Nat.{ℕ, _+_, _-_, _≤_, _<_}

@@ -1,4 +1,4 @@
--- The segment of a slot from counts of the plan's rows around it. Assumes nothing.
+-- The segment of a slot from counts of the plan's rows around it.
 use mathlib.Core.Path.{_≡_, refl, sym, ap, _∙_, subst}
 use mathlib.Core.Logic.{_⊎_, inl, inr}
 use mathlib.Core.Bool.{true, false≢true}

@@ -1,4 +1,4 @@
--- The best offer row by row, and the substitute that it is. Assumes nothing.
+-- The best offer row by row, and the substitute that it is.
 use mathlib.Core.Path.{_≡_, sym, ap, _∙_, subst}
 use mathlib.Core.Logic.{_⊎_, inl, inr}
 use mathlib.Core.Bool.{Bool, true, false, true≢false}

@@ -1,4 +1,4 @@
--- The plan's total row by row. Assumes nothing.
+-- The plan's total row by row.
 use mathlib.Core.Path.{_≡_, sym, ap, _∙_}
 use mathlib.Core.Bool.{cond}
 use mathlib.Core.List.{List}

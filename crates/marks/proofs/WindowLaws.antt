@@ -1,4 +1,4 @@
--- Counts of the plan's rows around a slot, row by row, and their sums. Assumes nothing.
+-- Counts of the plan's rows around a slot, row by row, and their sums.
 use mathlib.Core.Path.{_≡_, sym, ap, _∙_}
 use mathlib.Core.Logic.{inl, inr}
 use mathlib.Core.Bool.{cond}

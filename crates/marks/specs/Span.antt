@@ -1,4 +1,4 @@
--- Where segments begin, by counts alone and in the round. Assumes nothing: these are definitions.
+-- Where segments begin, by counts alone and in the round.
 use mathlib.Core.Path.{_≡_}
 use mathlib.Core.Bool.{cond}
 use mathlib.Core.List.{List}

@@ -1,4 +1,4 @@
--- What the substitute of a row is. Assumes nothing: these are definitions.
+-- What the substitute of a row is.
 use mathlib.Core.Path.{_≡_}
 use mathlib.Core.Bool.{Bool, not, cond}
 use mathlib.Core.List.{List}

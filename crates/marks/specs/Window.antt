@@ -1,4 +1,4 @@
--- The plan's rows due around a slot, by bucket. Assumes nothing: these are definitions.
+-- The plan's rows due around a slot, by bucket.
 use mathlib.Core.Path.{_≡_}
 use mathlib.Core.Bool.{cond}
 use mathlib.Core.List.{List}

@@ -1,4 +1,4 @@
--- Numbers in bytes, as the code reads and writes them. Assumes nothing.
+-- Numbers in bytes, as the code reads and writes them.
 use mathlib.Core.Path.{_≡_, refl}
 use mathlib.Core.List.{List}
 use Prim.Native.Nat.{ℕ, suc, _+_, _*_, _/_, _%_, _≤_, _<_}

@@ -1,4 +1,4 @@
--- The last decision: the first segment's heaviest row goes, or the leader of the others leaps. Assumes nothing.
+-- The last decision: the first segment's heaviest row goes, or the leader of the others leaps.
 use mathlib.Core.Path.{_≡_, refl, sym, subst}
 use mathlib.Core.Logic.{_⊎_, inl, inr}
 use mathlib.Core.List.{List}

@@ -1,4 +1,4 @@
--- The leader: far rows, and segments one by one. Assumes nothing.
+-- The leader: far rows, and segments one by one.
 use mathlib.Core.Path.{_≡_, refl, sym, ap, subst}
 use mathlib.Core.Logic.{_⊎_, inl, inr}
 use mathlib.Core.Bool.{Bool, true, false, cond}

@@ -1,4 +1,4 @@
--- The least weight of the plan's rows due by a slot, row by row. Assumes nothing.
+-- The least weight of the plan's rows due by a slot, row by row.
 use mathlib.Core.Path.{_≡_, refl, sym, ap, _∙_}
 use mathlib.Core.Logic.{_⊎_, inl, inr}
 use mathlib.Core.Bool.{true, false, true≢false}

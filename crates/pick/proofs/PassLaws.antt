@@ -1,4 +1,4 @@
--- The pass over the segments, bucket by bucket. Assumes nothing.
+-- The pass over the segments, bucket by bucket.
 use mathlib.Core.Path.{_≡_, sym, ap, _∙_, subst}
 use mathlib.Core.Logic.{inl, inr, _≢_}
 use mathlib.Core.Bool.{Bool, cond}

@@ -1,4 +1,4 @@
--- Greatest numbers of rows, by place and over places. Assumes nothing.
+-- Greatest numbers of rows, by place and over places.
 use mathlib.Core.Path.{_≡_, refl, ap}
 use mathlib.Core.Logic.{inl, inr}
 use mathlib.Core.List.{List}

@@ -1,4 +1,4 @@
--- Rows by place and key: the heaviest of a stretch, and the heaviest left out. Assumes nothing.
+-- Rows by place and key: the heaviest of a stretch, and the heaviest left out.
 use mathlib.Core.Path.{_≡_, sym, ap, _∙_}
 use mathlib.Core.Logic.{inl, inr}
 use mathlib.Core.Bool.{true, false}

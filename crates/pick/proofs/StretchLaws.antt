@@ -1,4 +1,4 @@
--- The segment of a bucket, walked to over counts. Assumes nothing.
+-- The segment of a bucket, walked to over counts.
 use mathlib.Core.Path.{_≡_, refl, sym, ap, _∙_}
 use mathlib.Core.Logic.{_≢_, inl, inr}
 use mathlib.Core.List.{List}

@@ -1,4 +1,4 @@
--- The pick where nothing is left out. Assumes nothing.
+-- The pick where nothing is left out.
 use mathlib.Core.Path.{_≡_, refl, sym, ap, _∙_, subst}
 use mathlib.Core.Logic.{_⊎_, inl, inr}
 use mathlib.Core.Bool.{true, false, true≢false}

@@ -1,4 +1,4 @@
--- What the pick says. Assumes nothing: these are definitions.
+-- What the pick says.
 use mathlib.Core.Path.{_≡_}
 use mathlib.Core.Bool.{false, cond}
 use mathlib.Core.List.{List}

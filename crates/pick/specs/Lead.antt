@@ -1,4 +1,4 @@
--- Leaders, and the least weight by a slot. Assumes nothing: these are definitions.
+-- Leaders, and the least weight by a slot.
 use mathlib.Core.Path.{_≡_}
 use mathlib.Core.Bool.{Bool, cond}
 use mathlib.Core.List.{List}

@@ -1,4 +1,4 @@
--- The greatest number of the rows placed in a stretch. Assumes nothing: this is a definition.
+-- The greatest number of the rows placed in a stretch.
 use mathlib.Core.Path.{_≡_}
 use Prim.Native.Nat.{ℕ, _≤_, _<_}
 

@@ -1,4 +1,4 @@
--- A segment by counts. Assumes nothing: this is a definition.
+-- A segment by counts.
 use mathlib.Core.Path.{_≡_}
 use mathlib.Core.Logic.{_≢_}
 use mathlib.Core.List.{List}

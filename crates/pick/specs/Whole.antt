@@ -1,4 +1,4 @@
--- Where nothing is left out. Assumes nothing: these are definitions.
+-- Where nothing is left out.
 use mathlib.Core.Path.{_≡_}
 use mathlib.Core.List.{List}
 use Prim.Native.Nat.{ℕ, suc, _-_, _/_, _%_, _≤_, _<_}

@@ -1,4 +1,4 @@
--- How many rows are due before each slot, from what reach_of found. Assumes nothing.
+-- How many rows are due before each slot, from what reach_of found.
 use mathlib.Core.Path.{_≡_, sym, ap, _∙_}
 use mathlib.Core.Logic.{inl, inr}
 use mathlib.Core.Bool.{cond}

@@ -1,4 +1,4 @@
--- Rows past the sweep's edge keep their flags, and the certificate holds of all rows. Assumes nothing.
+-- Rows past the sweep's edge keep their flags, and the certificate holds of all rows.
 use mathlib.Core.Path.{_≡_, refl, sym, ap, _∙_}
 use mathlib.Core.Logic.{inl, inr}
 use mathlib.Core.Bool.{Bool, true, false, cond, true≢false}

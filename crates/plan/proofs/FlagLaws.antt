@@ -1,4 +1,4 @@
--- The sweep's steps on flags alone: a row joins, stays out, or takes the lightest one's place. Assumes nothing.
+-- The sweep's steps on flags alone: a row joins, stays out, or takes the lightest one's place.
 use mathlib.Core.Path.{_≡_, sym, ap, _∙_}
 use mathlib.Core.Logic.{_⊎_, inl, inr}
 use mathlib.Core.Bool.{true, false, true≢false, false≢true}

@@ -1,4 +1,4 @@
--- The sweep on its way, with its heap and its flags: one row more, the next row of a list, the next list. Assumes nothing.
+-- The sweep on its way, with its heap and its flags: one row more, the next row of a list, the next list.
 use mathlib.Core.Path.{_≡_, refl, sym, ap, _∙_}
 use mathlib.Core.Bool.{false}
 use mathlib.Core.List.{List}

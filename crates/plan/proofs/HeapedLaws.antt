@@ -1,4 +1,4 @@
--- The heap of the keys of the rows kept: its top names the lightest, and it follows the sweep's steps. Assumes nothing.
+-- The heap of the keys of the rows kept: its top names the lightest, and it follows the sweep's steps.
 use mathlib.Core.Path.{_≡_, refl, sym, ap, _∙_, subst}
 use mathlib.Core.Logic.{_⊎_, inl, inr}
 use mathlib.Core.Bool.{true, cond}

@@ -1,4 +1,4 @@
--- Keys and distances as the code computes them. Assumes nothing.
+-- Keys and distances as the code computes them.
 use mathlib.Core.Path.{_≡_}
 use Prim.Native.Nat.{ℕ, _+_, _*_, _-_, _%_, _≤_, _<_, min}
 use mathlib.Core.List.{List}

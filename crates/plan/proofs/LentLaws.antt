@@ -1,4 +1,4 @@
--- Flags on the stack: a front part of an array of ones, lent and back. Assumes nothing.
+-- Flags on the stack: a front part of an array of ones, lent and back.
 use mathlib.Core.Path.{_≡_, refl, sym, ap, _∙_}
 use mathlib.Core.List.{List, _∷_, _++_}
 use Prim.Native.Nat.{ℕ, zero, suc, _+_, _≤_}

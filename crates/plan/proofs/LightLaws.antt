@@ -1,4 +1,4 @@
--- A pass over the rows: the greatest key of some of them. Assumes nothing.
+-- A pass over the rows: the greatest key of some of them.
 use mathlib.Core.Path.{_≡_, refl, sym, ap, _∙_}
 use mathlib.Core.Logic.{inl, inr}
 use mathlib.Core.Bool.{Bool, true, false, cond, true≢false}

@@ -1,4 +1,4 @@
--- One row too many: where rows first crowd, and that the lightest before it leaves. Assumes nothing.
+-- One row too many: where rows first crowd, and that the lightest before it leaves.
 use mathlib.Core.Path.{_≡_, refl, sym, ap, _∙_}
 use mathlib.Core.Logic.{inl, inr}
 use mathlib.Core.Bool.{true, false, true≢false}

@@ -1,4 +1,4 @@
--- A sweep's certificate is one for the plan's rows. Assumes nothing.
+-- A sweep's certificate is one for the plan's rows.
 use mathlib.Core.Path.{_≡_, refl, sym, ap, ap₂, _∙_}
 use mathlib.Core.Logic.{inl, inr}
 use mathlib.Core.Bool.{Bool, true, false, cond}

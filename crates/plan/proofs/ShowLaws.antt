@@ -1,4 +1,4 @@
--- What flags show on the way of the sweep, step by step. Assumes nothing.
+-- What flags show on the way of the sweep, step by step.
 use mathlib.Core.Path.{_≡_, sym, ap, _∙_}
 use mathlib.Core.Logic.{inl, inr}
 use mathlib.Core.Bool.{true, false, true≢false}

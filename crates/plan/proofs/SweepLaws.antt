@@ -1,4 +1,4 @@
--- The sweep's steps on flags as the code takes them. Assumes nothing.
+-- The sweep's steps on flags as the code takes them.
 use mathlib.Core.Path.{_≡_, refl, sym, ap, _∙_}
 use mathlib.Core.Logic.{_⊎_, inl, inr}
 use mathlib.Core.Bool.{true, false, true≢false}

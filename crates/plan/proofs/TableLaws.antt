@@ -1,4 +1,4 @@
--- A sound table's rows by their places. Assumes nothing.
+-- A sound table's rows by their places.
 use mathlib.Core.Path.{_≡_, refl, ap, _∙_}
 use mathlib.Core.List.{List}
 use Prim.Native.Nat.{ℕ, _≤_, _<_}

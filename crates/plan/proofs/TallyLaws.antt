@@ -1,4 +1,4 @@
--- Sums over the rows with a flag, and what a flag set or taken away does to them. Assumes nothing.
+-- Sums over the rows with a flag, and what a flag set or taken away does to them.
 use mathlib.Core.Path.{_≡_, refl, ap, _∙_}
 use mathlib.Core.Logic.{_⊎_, inl, inr}
 use mathlib.Core.Bool.{Bool, true, false, cond}

@@ -1,4 +1,4 @@
--- Where rows crowd, and where they do not, by how many are due before each slot. Assumes nothing: these are definitions.
+-- Where rows crowd, and where they do not, by how many are due before each slot.
 use mathlib.Core.List.{List}
 use Prim.Native.Nat.{ℕ, suc, _+_, _-_, _≤_, _<_}
 use lib.ListN.{replicate}

@@ -1,4 +1,4 @@
--- A row's key, and how far ahead it is due. Assumes nothing: these are definitions.
+-- A row's key, and how far ahead it is due.
 use mathlib.Core.List.{List}
 use Prim.Native.Nat.{ℕ, _-_, min}
 use Rattle.rules.specs.Conditions.{slot-in, used-in, due-in, weight-in}

@@ -1,4 +1,4 @@
--- Which rows are kept in the midst of the sweep, and at its end: the certificate. Assumes nothing: these are definitions.
+-- Which rows are kept in the midst of the sweep, and at its end: the certificate.
 use mathlib.Core.Path.{_≡_}
 use mathlib.Core.Logic.{_⊎_}
 use mathlib.Core.Bool.{Bool, true, false, cond}

@@ -1,4 +1,4 @@
--- Refusals 5 and 7 by a head's numbers. Assumes nothing.
+-- Refusals 5 and 7 by a head's numbers.
 use mathlib.Core.Path.{_≡_, _∙_}
 use mathlib.Core.List.{List}
 use Prim.Native.Nat.{ℕ, _≤_, _<_}

@@ -1,4 +1,4 @@
--- The head: its judge as the code tests it, and what a sound table says of it. Assumes nothing.
+-- The head: its judge as the code tests it, and what a sound table says of it.
 use mathlib.Core.Path.{_≡_, sym, ap, _∙_}
 use mathlib.Core.Bool.{_&&_}
 use mathlib.Core.List.{List}

@@ -1,4 +1,4 @@
--- The judge of a whole table. Assumes nothing.
+-- The judge of a whole table.
 use mathlib.Core.Path.{_≡_, sym, _∙_}
 use mathlib.Core.Bool.{Bool, true, false, _&&_}
 use mathlib.Core.List.{List}

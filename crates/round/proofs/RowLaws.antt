@@ -1,4 +1,4 @@
--- The judge of rows, as the code tests them. Assumes nothing.
+-- The judge of rows, as the code tests them.
 use mathlib.Core.Path.{_≡_, refl, sym, ap, ap₂, _∙_}
 use mathlib.Core.Bool.{Bool, true, false, _&&_}
 use mathlib.Core.List.{List}

@@ -1,4 +1,4 @@
--- A slot, a weight or a ticket is its number. Assumes nothing.
+-- A slot, a weight or a ticket is its number.
 use mathlib.Core.Path.{_≡_}
 use Rattle.round.specs.declared.Slot.{Slot}
 use Rattle.round.specs.declared.Weight.{Weight}

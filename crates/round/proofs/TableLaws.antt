@@ -1,4 +1,4 @@
--- Tables opened and taken into, as the writers leave them. Assumes nothing.
+-- Tables opened and taken into, as the writers leave them.
 use mathlib.Core.Path.{_≡_, refl, sym, ap, ap₂, _∙_}
 use mathlib.Core.Bool.{true}
 use mathlib.Core.List.{List, [], _∷_, _++_, append-assoc}

@@ -1,4 +1,4 @@
--- Head and rows written. Assumes nothing.
+-- Head and rows written.
 use mathlib.Core.Path.{_≡_, refl, ap, _∙_}
 use mathlib.Core.List.{List, [], _∷_, _++_}
 use Prim.Native.Nat.{ℕ, zero, suc, _+_, _≤_}

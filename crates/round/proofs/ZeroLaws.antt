@@ -1,4 +1,4 @@
--- Bytes that are zero, as numbers. Assumes nothing.
+-- Bytes that are zero, as numbers.
 use mathlib.Core.Path.{_≡_, refl, sym, ap, _∙_}
 use mathlib.Core.Logic.{inl, inr, _≢_}
 use mathlib.Core.Bool.{Bool, true, false, _&&_}

@@ -1,4 +1,4 @@
--- The head as a value. Assumes nothing: this is a definition.
+-- The head as a value.
 use mathlib.Core.Path.{_≡_}
 use mathlib.Core.List.{List}
 use Prim.Native.Nat.{ℕ}

@@ -1,4 +1,4 @@
--- What the judge of a table says. Assumes nothing: this is a definition.
+-- What the judge of a table says.
 use mathlib.Core.Path.{_≡_}
 use mathlib.Core.List.{List}
 use Prim.Native.Nat.{ℕ}

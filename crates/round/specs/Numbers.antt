@@ -1,4 +1,4 @@
--- The numbers of the head and of a row as bytes, without the zeros behind them. Assumes nothing: these are definitions.
+-- The numbers of the head and of a row as bytes, without the zeros behind them.
 use mathlib.Core.List.{List, [], _∷_, _++_}
 use Prim.Native.Nat.{ℕ}
 use Rattle.rules.specs.Limits.{slot-bytes, wide-bytes}

@@ -1,4 +1,4 @@
--- THE LAYOUT, byte for byte: one table with a value above 255 in every field wider than a byte; and words of eight bytes. Assumes nothing.
+-- THE LAYOUT, byte for byte: one table with a value above 255 in every field wider than a byte; and words of eight bytes.
 use mathlib.Core.Path.{_≡_, refl}
 use mathlib.Core.List.{List, [], _∷_, _++_, map}
 use Prim.Native.Nat.{ℕ, _*_, _-_}

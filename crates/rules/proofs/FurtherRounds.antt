@@ -1,5 +1,5 @@
 -- Further rounds by hand, in the form of Rounds.antt, for what P1 to P10 leave open: each keeps a wrong definition out.
--- Their values are from a model written from document 01 alone; those of the substitutes asked are worked out by hand. Assumes nothing.
+-- Their values are from a model written from document 01 alone; those of the substitutes asked are worked out by hand.
 use mathlib.Core.Path.{_≡_, refl}
 use mathlib.Core.Bool.{true}
 use mathlib.Core.List.{List, [], _∷_}
@@ -8,7 +8,8 @@ use Rattle.rules.specs.Rows.{Row, row, blank, round, slots-left, heavier
 use Rattle.rules.specs.Plan.{due-by, fits-from, feasible, kept, blanks-from, plan, total-weight, total, tight, tight-from, tight-after, segment-from, segment-start, first-end, least-weight, mark-in, mark, same-row, in-plan, lightest-by, heaviest-outside, substitute, beats-golden, golden-more, sends-before, best-from, best, listed}
 use Rattle.rules.specs.Steps.{opened, taken, changed, without, heaviest-between, shifted, replaced, leapt, still-due, is-ordinary, sent}
 use Rattle.rules.specs.Table.{low, value, field, row-bytes, rows-bytes, table, rows-in, rows-of, round-in, length-good, rows-good, round-good, same, table-refusal}
-use Rattle.rules.specs.Calls.{opening, taking, sending, marking, totalling, silence, frame, kept-blank, ordinary, leap, refused, done, ticket, step, amount, blank-due, number-of, first, open-refusal, take-refusal, send-refusal, mark-refusal, round-refusal, out-of, says, leaves, table-first, refusal, answer, left, with-ticket, stand-in, substitute-answer, list-refusal, list-answer, list-left}
+use Rattle.rules.specs.Calls.{opening, taking, sending, marking, totalling, silence, frame, kept-blank, ordinary, leap, refused, done, ticket, step, amount, blank-due, number-of, first, open-refusal, take-refusal, send-refusal, mark-refusal, round-refusal, out-of, says, leaves, table-first, refusal, answer, left}
+use Rattle.rules.specs.Looking.{with-ticket, stand-in, substitute-answer, list-refusal, list-answer, list-left}
 use Rattle.rules.proofs.Played.{waits, keeps, old, turn, listing, substituting, lists, refuses, Hand, found, played}
 
 -- what waits in P4 before its sending

@@ -1,4 +1,4 @@
--- Rounds by hand from their opening past their last slot: what calls and replies tell of each, S and B. Assumes nothing.
+-- Rounds by hand from their opening past their last slot: what calls and replies tell of each, S and B.
 use mathlib.Core.Path.{_≡_, refl}
 use mathlib.Core.Bool.{true, false}
 use mathlib.Core.List.{List, [], _∷_, map}

@@ -1,4 +1,4 @@
--- Lengths by hand: a table's rows, 1 to 1,024, by the refusal of an opening; and stationround's table. Assumes nothing.
+-- Lengths by hand: a table's rows, 1 to 1,024, by the refusal of an opening; and stationround's table.
 use mathlib.Core.Path.{_≡_, refl}
 use mathlib.Core.List.{List, [], _∷_, map}
 use Prim.Native.Nat.{ℕ}

@@ -1,4 +1,4 @@
--- Lines by hand: what the reader reads, where the payload stands, and what the writer leaves in its buffer. Assumes nothing.
+-- Lines by hand: what the reader reads, where the payload stands, and what the writer leaves in its buffer.
 use mathlib.Core.Path.{_≡_, refl}
 use mathlib.Core.List.{List, [], _∷_, _++_}
 use Prim.Native.Nat.{ℕ}

@@ -1,4 +1,4 @@
--- How a round by hand is written, and how the definitions play it on bytes. Assumes nothing.
+-- How a round by hand is written, and how the definitions play it on bytes.
 use mathlib.Core.Bool.{Bool}
 use mathlib.Core.List.{List, [], _∷_, map}
 use Prim.Native.Nat.{ℕ, zero, suc, _+_, _*_}
@@ -7,7 +7,8 @@ use Rattle.rules.specs.Limits.{head-size, row-size}
 use Rattle.rules.specs.Rows.{Row, Round, row, slots-left}
 use Rattle.rules.specs.Plan.{mark, listed}
 use Rattle.rules.specs.Table.{round-in, same}
-use Rattle.rules.specs.Calls.{Call, Reply, number-of, answer, left, substitute-answer, list-answer, list-left}
+use Rattle.rules.specs.Calls.{Call, Reply, number-of, answer, left}
+use Rattle.rules.specs.Looking.{substitute-answer, list-answer, list-left}
 
 -- a waiting frame and a kept blank: ticket, due slot, weight
 abbrev pub waits : (ticket due weight : ℕ) → Row

@@ -1,4 +1,4 @@
--- Inputs cut into reads, by hand: what is written for each read, and what is there afterwards, on a table of two rows that is zero at first. Assumes nothing.
+-- Inputs cut into reads, by hand: what is written for each read, and what is there afterwards, on a table of two rows that is zero at first.
 use mathlib.Core.Path.{_≡_, refl}
 use mathlib.Core.Bool.{Bool, true, false, cond}
 use mathlib.Core.List.{List, [], _∷_, _++_}

@@ -1,11 +1,12 @@
--- Document 01's rounds by hand, P1 to P10, and further rounds as one table, and the one fact that the definitions play each as written. Assumes nothing.
+-- Document 01's rounds by hand, P1 to P10, and further rounds as one table, and the one fact that the definitions play each as written.
 use mathlib.Core.Path.{_≡_, refl}
 use mathlib.Core.List.{List, [], _∷_}
 use Rattle.rules.specs.Rows.{row, blank, round, slots-left, heavier, canonical, into, sorted, rows-only}
 use Rattle.rules.specs.Plan.{due-by, fits-from, feasible, kept, blanks-from, plan, total-weight, total, tight, tight-from, tight-after, segment-from, segment-start, first-end, least-weight, mark-in, mark, same-row, in-plan, lightest-by, heaviest-outside, substitute, beats-golden, golden-more, sends-before, best-from, best, listed}
 use Rattle.rules.specs.Steps.{opened, taken, changed, without, heaviest-between, shifted, replaced, leapt, still-due, is-ordinary, sent}
 use Rattle.rules.specs.Table.{low, value, field, row-bytes, rows-bytes, table, rows-in, rows-of, round-in, length-good, rows-good, round-good, same, table-refusal}
-use Rattle.rules.specs.Calls.{opening, taking, sending, totalling, silence, frame, kept-blank, ordinary, leap, refused, done, ticket, step, amount, blank-due, first, open-refusal, take-refusal, send-refusal, round-refusal, out-of, says, leaves, table-first, refusal, answer, left, with-ticket, stand-in, substitute-answer}
+use Rattle.rules.specs.Calls.{opening, taking, sending, totalling, silence, frame, kept-blank, ordinary, leap, refused, done, ticket, step, amount, blank-due, first, open-refusal, take-refusal, send-refusal, round-refusal, out-of, says, leaves, table-first, refusal, answer, left}
+use Rattle.rules.specs.Looking.{with-ticket, stand-in, substitute-answer}
 use Rattle.rules.proofs.Played.{waits, keeps, turn, listing, Hand, found, played}
 
 -- THE TABLE

@@ -1,4 +1,4 @@
--- What stationround prints, by hand: document 01's sample, its lines that are refused, and further inputs, on a table of two rows that is zero at first. Assumes nothing.
+-- What stationround prints, by hand: document 01's sample, its lines that are refused, and further inputs, on a table of two rows that is zero at first.
 use mathlib.Core.Path.{_≡_, refl}
 use mathlib.Core.List.{List, [], _∷_, map}
 use Prim.Native.Nat.{ℕ, _+_, _*_}

@@ -1,4 +1,4 @@
--- Demand 1 as conditions: what a sound table is, and when each number is given. Assumes nothing: these are definitions.
+-- Demand 1 as conditions: what a sound table is, and when each number is given.
 use mathlib.Core.Path.{_≡_}
 use mathlib.Core.Logic.{_⊎_}
 use mathlib.Core.Bool.{true, false}

@@ -1,4 +1,4 @@
--- The owed statements: each is a type, proved in theory. Assumes nothing: these are definitions.
+-- The owed statements: each is a type, proved in theory.
 use mathlib.Core.Path.{_≡_}
 use mathlib.Core.Bool.{Bool, true, false, _&&_, _||_, not, cond}
 use mathlib.Core.List.{List, [], _∷_, _++_, map}
@@ -10,7 +10,8 @@ use Rattle.rules.specs.Rows.{Row, Round, chosen, slots-left, sorted, hea
 use Rattle.rules.specs.Plan.{plan, total, total-weight, mark, feasible, planned, listed, beats-golden, golden-more}
 use Rattle.rules.specs.Steps.{opened, sent}
 use Rattle.rules.specs.Table.{value, table, round-in, round-good, table-refusal}
-use Rattle.rules.specs.Calls.{Call, opening, taking, sending, marking, totalling, Reply, refused, done, ticket, step, amount, number-of, ordinary, silence, refusal, round-refusal, says, answer, left, run, replies, at, substitute-answer, list-refusal, list-answer, list-left}
+use Rattle.rules.specs.Calls.{Call, opening, taking, sending, marking, totalling, Reply, refused, done, ticket, step, amount, number-of, ordinary, silence, refusal, round-refusal, says, answer, left, run, replies, at}
+use Rattle.rules.specs.Looking.{substitute-answer, list-refusal, list-answer, list-left}
 use Rattle.rules.specs.Lines.{Command, command, text, stands, read, read-refusal, payload-at, Place, payload-place, payload, write-refusal, write-answer, write-left, fresh-table, printed}
 use Rattle.rules.specs.Reads.{complete-from, begun-from, calls-of, Between, written-for, between-after, Some-bytes, joined}
 use Rattle.rules.specs.Conditions.{_⟺_, Bytes, Length-bad, Sound, when, accepted, No-command, refusal-given, substitute-given, list-given, read-given}

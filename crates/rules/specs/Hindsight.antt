@@ -1,5 +1,5 @@
 -- L14, WHAT HINDSIGHT COULD HAVE GAINED: what calls and replies alone tell of a round; S, what went out in it; B, the most that could have;
--- and the owed statements about the two. Assumes nothing: these are definitions.
+-- and the owed statements about the two.
 use mathlib.Core.Path.{_≡_}
 use mathlib.Core.Bool.{Bool, true, _&&_, not, cond}
 use mathlib.Core.List.{List, [], _∷_}

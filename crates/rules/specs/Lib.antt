@@ -4,6 +4,7 @@ pub mod Plan
 pub mod Steps
 pub mod Table
 pub mod Calls
+pub mod Looking
 pub mod Lines
 pub mod Reads
 pub mod Conditions

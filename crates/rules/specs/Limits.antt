@@ -1,4 +1,4 @@
--- Sizes, byte places and limits of document 01, each named once. Assumes nothing: these are definitions.
+-- Sizes, byte places and limits of document 01, each named once.
 use Prim.Native.Nat.{ℕ}
 
 -- the table: a head, then rows

@@ -1,4 +1,4 @@
--- Text lines: their text, the reader, the payload and its place, the writer, and what stationround prints. Assumes nothing: these are definitions.
+-- Text lines: their text, the reader, the payload and its place, the writer, and what stationround prints.
 use mathlib.Core.Bool.{Bool, true, _&&_, _||_, cond}
 use mathlib.Core.List.{List, [], _∷_, _++_}
 use Prim.Native.Nat.{ℕ, zero, suc, _+_, _*_, _-_, _/_, _%_, _^_}

@@ -1,4 +1,4 @@
--- The plan, tight slots, marks, substitutes and the pick: algorithm PlanM's choice. Assumes nothing: these are definitions.
+-- The plan, tight slots, marks, substitutes and the pick: algorithm PlanM's choice.
 use mathlib.Core.Bool.{Bool, true, false, _&&_, _||_, not, cond}
 use mathlib.Core.List.{List, [], _∷_, _++_}
 use Prim.Native.Nat.{ℕ, zero, suc, _+_, _*_, _-_, min}

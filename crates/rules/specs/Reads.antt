@@ -1,4 +1,4 @@
--- Stationround read by read: what it writes for each read of its input, and what it holds between two. Assumes nothing: these are definitions.
+-- Stationround read by read: what it writes for each read of its input, and what it holds between two.
 use mathlib.Core.Bool.{Bool, true, false, _&&_, _||_, not, cond}
 use mathlib.Core.List.{List, [], _∷_, _++_}
 use Prim.Native.Nat.{ℕ, suc, _+_, _≤_}

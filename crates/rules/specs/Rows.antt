@@ -1,4 +1,4 @@
--- Rows, rounds, and the two orders among rows. Assumes nothing: these are definitions.
+-- Rows, rounds, and the two orders among rows.
 use mathlib.Core.Path.{_≡_}
 use mathlib.Core.Logic.{_⊎_}
 use mathlib.Core.Bool.{Bool, _&&_, _||_, cond}

@@ -1,4 +1,4 @@
--- Opening, taking and sending: what each makes of a round. Assumes nothing: these are definitions.
+-- Opening, taking and sending: what each makes of a round.
 use mathlib.Core.Bool.{Bool, _&&_, cond}
 use mathlib.Core.List.{List, [], _∷_, _++_}
 use Prim.Native.Nat.{ℕ, zero, suc, max}

@@ -1,4 +1,4 @@
--- Demand 2 as propositions, beside PlanM: what a sending makes of every row of a round, and what it answers. Assumes nothing: these are definitions.
+-- Demand 2 as propositions, beside PlanM: what a sending makes of every row of a round, and what it answers.
 use mathlib.Core.Path.{_≡_}
 use mathlib.Core.Logic.{_⊎_, _≢_}
 use mathlib.Core.List.{List, [], _∷_}

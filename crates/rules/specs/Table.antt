@@ -1,4 +1,4 @@
--- Rounds as tables of bytes, low byte first, with refusals 2 and 3. Assumes nothing: these are definitions.
+-- Rounds as tables of bytes, low byte first, with refusals 2 and 3.
 use mathlib.Core.Bool.{Bool, true, false, _&&_, not, cond}
 use mathlib.Core.List.{List, [], _∷_, _++_}
 use Prim.Native.Nat.{ℕ, zero, suc, _+_, _*_, _-_, _/_, _%_}

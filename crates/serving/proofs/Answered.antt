@@ -1,4 +1,4 @@
--- The complete lines of an input answered one after another: the whole gives what is there so far, and then what the rest gives. Assumes nothing.
+-- The complete lines of an input answered one after another: the whole gives what is there so far, and then what the rest gives.
 use mathlib.Core.Logic.{inl, inr}
 use mathlib.Core.Path.{_≡_, refl, sym, ap, _∙_}
 use mathlib.Core.Bool.{true, false}

@@ -1,4 +1,4 @@
--- Bytes moved to the front of a buffer, one after another. Assumes nothing.
+-- Bytes moved to the front of a buffer, one after another.
 use mathlib.Core.Path.{_≡_, refl, sym, ap, _∙_}
 use mathlib.Core.List.{List}
 use Prim.Native.Nat.{ℕ, suc, _+_, _-_, _<_}

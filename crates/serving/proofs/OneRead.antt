@@ -1,4 +1,4 @@
--- One read served: the four ways in which it ends. Assumes nothing.
+-- One read served: the four ways in which it ends.
 use mathlib.Core.Logic.{inl, inr}
 use mathlib.Core.Path.{_≡_, sym, ap, _∙_}
 use mathlib.Core.Bool.{Bool, true, false, _&&_, _||_, not, cond}

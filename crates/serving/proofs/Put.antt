@@ -1,4 +1,4 @@
--- A reply's line put behind the bytes written, and how long it is. Assumes nothing.
+-- A reply's line put behind the bytes written, and how long it is.
 use mathlib.Core.Path.{_≡_, sym, ap, _∙_}
 use mathlib.Core.List.{List, [], _++_, append-nil, append-assoc}
 use Prim.Native.Nat.{ℕ, _+_, _-_, _≤_}

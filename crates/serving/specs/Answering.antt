@@ -1,4 +1,4 @@
--- What the complete lines of a buffer are answered with. Assumes nothing: these are definitions.
+-- What the complete lines of a buffer are answered with.
 use mathlib.Core.Path.{_≡_}
 use mathlib.Core.Bool.{false, cond}
 use mathlib.Core.List.{List, [], _∷_, _++_}

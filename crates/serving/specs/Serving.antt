@@ -1,4 +1,4 @@
--- What one read leaves and writes, on lent buffers. Assumes nothing: these are definitions.
+-- What one read leaves and writes, on lent buffers.
 use mathlib.Core.Path.{_≡_}
 use mathlib.Core.Bool.{cond}
 use mathlib.Core.List.{List, [], _++_}

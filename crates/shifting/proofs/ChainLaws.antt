@@ -1,4 +1,4 @@
--- THE PASS BACK along a leap's chain: what it has found and moved at each bucket. Assumes nothing.
+-- THE PASS BACK along a leap's chain: what it has found and moved at each bucket.
 use mathlib.Core.Path.{_≡_, refl, sym, ap, ap₂, _∙_, subst}
 use mathlib.Core.Logic.{_⊎_, inl, inr, _≢_}
 use mathlib.Core.List.{List, [], _∷_, _++_}

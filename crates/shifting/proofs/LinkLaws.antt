@@ -1,4 +1,4 @@
--- Links moved and ends passed, as the code does it. Assumes nothing.
+-- Links moved and ends passed, as the code does it.
 use mathlib.Core.Path.{_≡_, ap, _∙_}
 use mathlib.Core.Logic.{_≢_}
 use mathlib.Core.List.{List, _++_}

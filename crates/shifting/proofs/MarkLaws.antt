@@ -1,4 +1,4 @@
--- Marks by bucket: each row lowers its own, then each those behind it. Assumes nothing.
+-- Marks by bucket: each row lowers its own, then each those behind it.
 use mathlib.Core.Path.{_≡_, refl, sym, ap, _∙_, subst}
 use mathlib.Core.Logic.{inl, inr, _≢_}
 use mathlib.Core.Bool.{true, false, false≢true}

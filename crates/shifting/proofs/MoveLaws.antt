@@ -1,4 +1,4 @@
--- Shifts in any order, and in a table's bytes. Assumes nothing.
+-- Shifts in any order, and in a table's bytes.
 use mathlib.Core.Path.{_≡_, refl, sym, ap, _∙_}
 use mathlib.Core.Logic.{inl, inr, _≢_}
 use mathlib.Core.List.{List, [], _∷_, _++_}

@@ -1,4 +1,4 @@
--- The pass back, as the code makes it on a sound table. Assumes nothing.
+-- The pass back, as the code makes it on a sound table.
 use mathlib.Core.Path.{_≡_, sym, ap, _∙_, subst, ap₂}
 use mathlib.Core.List.{List}
 use Prim.Native.Nat.{ℕ, suc, _+_, _-_, _≤_}

@@ -1,4 +1,4 @@
--- A leap's shifts, as bytes and as the chain that they follow. Assumes nothing: these are definitions.
+-- A leap's shifts, as bytes and as the chain that they follow.
 use mathlib.Core.Path.{_≡_}
 use mathlib.Core.Logic.{_≢_}
 use mathlib.Core.Bool.{cond}

@@ -1,4 +1,4 @@
--- Marks by bucket, the slots from the current one on. Assumes nothing: these are definitions.
+-- Marks by bucket, the slots from the current one on.
 use mathlib.Core.Path.{_≡_}
 use mathlib.Core.Logic.{_⊎_}
 use mathlib.Core.Bool.{true, false, cond}

@@ -1,4 +1,4 @@
--- How large a total and a mark can be. Assumes nothing.
+-- How large a total and a mark can be.
 use mathlib.Core.Logic.{inl, inr}
 use mathlib.Core.List.{List, [], _∷_}
 use Prim.Native.Nat.{ℕ, _*_, _≤_, min}

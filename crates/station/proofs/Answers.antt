@@ -1,4 +1,4 @@
--- What every exported call answers on any table is within the packing's bounds, so it is read back whole. Assumes nothing.
+-- What every exported call answers on any table is within the packing's bounds, so it is read back whole.
 use mathlib.Core.Logic.{inl, inr}
 use mathlib.Core.Bool.{Bool, true, false, _||_, cond}
 use mathlib.Core.List.{List, [], _∷_}
@@ -10,7 +10,8 @@ use Rattle.rules.specs.Rows.{Row, Round, All}
 use Rattle.rules.specs.Plan.{plan, best, substitute, in-plan}
 use Rattle.rules.specs.Steps.{is-ordinary}
 use Rattle.rules.specs.Table.{round-in, table-refusal}
-use Rattle.rules.specs.Calls.{Call, opening, taking, sending, marking, totalling, Out, silence, frame, kept-blank, ordinary, leap, refused, ticket, step, blank-due, first, send-refusal, mark-refusal, table-first, round-refusal, refusal, out-of, says, answer, with-ticket, stand-in, substitute-answer}
+use Rattle.rules.specs.Calls.{Call, opening, taking, sending, marking, totalling, Out, silence, frame, kept-blank, ordinary, leap, refused, ticket, step, blank-due, first, send-refusal, mark-refusal, table-first, round-refusal, refusal, out-of, says, answer}
+use Rattle.rules.specs.Looking.{with-ticket, stand-in, substitute-answer}
 use Rattle.theory.specs.Tests.{eqb?, both-ways, positive}
 use Rattle.theory.specs.All.{all-of-in}
 use Rattle.theory.specs.Sane.{Sane, sound}

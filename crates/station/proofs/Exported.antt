@@ -1,9 +1,10 @@
--- An exported call's promise from that of the call behind it, for arguments that are equal numbers. Assumes nothing.
+-- An exported call's promise from that of the call behind it, for arguments that are equal numbers.
 use mathlib.Core.Path.{_≡_, ap, _∙_}
 use mathlib.Core.List.{List}
 use Prim.Native.Nat.{ℕ, _+_, _*_}
 use native.Mathlib.Omega.{arith}
-use Rattle.rules.specs.Calls.{Call, Reply, opening, taking, marking, frame, kept-blank, substitute-answer, Says, Looks}
+use Rattle.rules.specs.Calls.{Call, Reply, opening, taking, marking, frame, kept-blank, Says}
+use Rattle.rules.specs.Looking.{substitute-answer, Looks}
 use Rattle.station.specs.Packing.{pack-out, pack, Exports, Exports-look}
 
 pub opening-exported : (l m n : ℕ) (a : Reply) (t z : List ℕ) → m ≡ l → n ≡ pack a → Says (opening m) a t z → Exports (opening l) n t z

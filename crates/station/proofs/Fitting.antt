@@ -1,4 +1,4 @@
--- What opening and taking answer is within the packing's bounds. Assumes nothing.
+-- What opening and taking answer is within the packing's bounds.
 use mathlib.Core.Path.{_≡_}
 use mathlib.Core.Logic.{inl, inr}
 use mathlib.Core.Bool.{Bool, true, false, _||_, _&&_, not, cond}

@@ -1,4 +1,4 @@
--- Unpacking undoes packing, for each call's replies within their bounds. Assumes nothing.
+-- Unpacking undoes packing, for each call's replies within their bounds.
 use mathlib.Core.Path.{_≡_, refl, ap, _∙_}
 use Prim.Native.Nat.{ℕ, _+_, _*_, _/_, _%_, _≤_, _<_}
 use native.Mathlib.Omega.{arith}

@@ -1,5 +1,5 @@
 -- The rows of a sound round, its plan, its pick and its substitutes are within the packing's places: tickets of 24 bits, due slots of 16.
--- Assumes nothing.
+--
 use mathlib.Core.List.{List, [], _∷_}
 use Prim.Native.Nat.{ℕ, suc, _≤_, _<_}
 use native.Mathlib.Omega.{arith}

@@ -1,10 +1,11 @@
--- A reply packed into one number, by the rule of docs/REPLIES.md, and read back. Assumes nothing: these are definitions.
+-- A reply packed into one number, by the rule of docs/REPLIES.md, and read back.
 use mathlib.Core.Path.{_≡_}
 use mathlib.Core.Bool.{cond}
 use mathlib.Core.List.{List}
 use Prim.Native.Nat.{ℕ, zero, suc, _+_, _*_, _/_, _%_, _≤_, _<_}
 use lib.Dec.{eqb}
-use Rattle.rules.specs.Calls.{Call, opening, taking, sending, marking, totalling, Out, silence, frame, kept-blank, Step, ordinary, leap, Reply, refused, done, ticket, step, amount, blank-due, answer, left, substitute-answer}
+use Rattle.rules.specs.Calls.{Call, opening, taking, sending, marking, totalling, Out, silence, frame, kept-blank, Step, ordinary, leap, Reply, refused, done, ticket, step, amount, blank-due, answer, left}
+use Rattle.rules.specs.Looking.{substitute-answer}
 
 -- places: the refusal's number below 2^8, a ticket or an amount from there on, what went out from 2^32, a leap at 2^34
 abbrev pub value-place : ℕ

@@ -1,5 +1,6 @@
 // The C boundary: each call over numbers and the lent table, its reply packed into one number by docs/REPLIES.md.
-ghost use Rattle.rules.specs.Calls.{opening, taking, sending, marking, totalling, substitute-answer};
+ghost use Rattle.rules.specs.Calls.{opening, taking, sending, marking, totalling};
+ghost use Rattle.rules.specs.Looking.{substitute-answer};
 ghost use Rattle.station.specs.Packing.{Exports, Exports-look};
 use crate::packing::pack_marked;
 use crate::packing::pack_opened;
@@ -7,12 +8,12 @@ use crate::packing::pack_sent;
 use crate::packing::pack_substituted;
 use crate::packing::pack_taken;
 use crate::packing::pack_totalled;
-use asking::marking::mark_of;
-use asking::substituting::substitute_of;
-use asking::totalling::plan_total;
 use calls::opening::open_round;
 use calls::sending::send_slot;
 use calls::taking::take_frame;
+use questions::marking::mark_of;
+use questions::substituting::substitute_of;
+use questions::totalling::plan_total;
 use round::Slot;
 use round::Ticket;
 use round::Weight;

@@ -4,16 +4,16 @@ ghost use Prim.Native.Nat.{_+_, _*_, _≤_};
 ghost use Rattle.rules.specs.Calls.{step};
 ghost use Rattle.calls.specs.Replies.{of-opened, of-taken};
 ghost use Rattle.calls.specs.Steps.{of-out, of-step, of-sent};
-ghost use Rattle.asking.specs.Asking.{of-marked, of-totalled, of-substituted};
+ghost use Rattle.questions.specs.Questions.{of-marked, of-totalled, of-substituted};
 ghost use Rattle.station.specs.Packing.{pack-out, pack, Small};
-use asking::marking::Marked;
-use asking::substituting::Substituted;
-use asking::totalling::Totalled;
 use calls::opening::Opened;
 use calls::sending::Out;
 use calls::sending::Sent;
 use calls::sending::Step;
 use calls::taking::Taken;
+use questions::marking::Marked;
+use questions::substituting::Substituted;
+use questions::totalling::Totalled;
 use round::Ticket;
 
 // A ticket or an amount stands above the refusal's eight bits.

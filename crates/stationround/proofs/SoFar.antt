@@ -1,4 +1,4 @@
--- The program's loop: its table and the bytes held are those after the reads so far, whatever these were. Assumes nothing.
+-- The program's loop: its table and the bytes held are those after the reads so far, whatever these were.
 use mathlib.Core.Path.{_≡_, sym, ap, _∙_}
 use mathlib.Core.Bool.{false, false≢true}
 use mathlib.Core.Logic.{inl, inr}

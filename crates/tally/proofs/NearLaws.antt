@@ -1,4 +1,4 @@
--- Counts by bucket, and the sweep over them. Assumes nothing.
+-- Counts by bucket, and the sweep over them.
 use mathlib.Core.Path.{_≡_, refl, sym, ap, _∙_}
 use mathlib.Core.Logic.{_⊎_, inl, inr}
 use mathlib.Core.List.{List}

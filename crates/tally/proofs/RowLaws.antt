@@ -1,4 +1,4 @@
--- A sound table's rows by index, as the code reads them. Assumes nothing.
+-- A sound table's rows by index, as the code reads them.
 use mathlib.Core.Path.{_≡_, sym, ap, _∙_}
 use mathlib.Core.List.{List}
 use Prim.Native.Nat.{ℕ, zero, suc, _+_, _≤_, _<_}

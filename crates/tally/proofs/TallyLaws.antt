@@ -1,4 +1,4 @@
--- The tallies row by row. Assumes nothing.
+-- The tallies row by row.
 use mathlib.Core.Path.{_≡_, sym, ap, _∙_}
 use mathlib.Core.Logic.{inl, inr}
 use mathlib.Core.Bool.{true, false, cond}

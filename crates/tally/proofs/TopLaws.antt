@@ -1,4 +1,4 @@
--- The greatest number of the rows at each place, row by row. Assumes nothing.
+-- The greatest number of the rows at each place, row by row.
 use mathlib.Core.Path.{_≡_, refl, sym, ap, _∙_}
 use mathlib.Core.Logic.{inl, inr}
 use mathlib.Core.List.{List}

@@ -1,4 +1,4 @@
--- Counts of rows by bucket, and how far the plan is full. Assumes nothing: these are definitions.
+-- Counts of rows by bucket, and how far the plan is full.
 use mathlib.Core.Path.{_≡_}
 use mathlib.Core.Bool.{true, cond}
 use mathlib.Core.List.{List}

@@ -1,4 +1,4 @@
--- A sound table's rows by index: due slot, weight, key and bucket. Assumes nothing: these are definitions.
+-- A sound table's rows by index: due slot, weight, key and bucket.
 use mathlib.Core.Path.{_≡_}
 use mathlib.Core.List.{List}
 use Prim.Native.Nat.{ℕ, _-_, _≤_, min}

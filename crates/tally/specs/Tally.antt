@@ -1,4 +1,4 @@
--- Greatest keys by bucket. Assumes nothing: these are definitions.
+-- Greatest keys by bucket.
 use mathlib.Core.Path.{_≡_}
 use mathlib.Core.Bool.{false, cond}
 use mathlib.Core.List.{List}

@@ -1,4 +1,4 @@
--- Facts of every row of a list, rows in a list, falling weights. Assumes nothing.
+-- Facts of every row of a list, rows in a list, falling weights.
 use mathlib.Core.Path.{_≡_, refl, sym, ap, subst}
 use mathlib.Core.Logic.{inl, inr}
 use mathlib.Core.Bool.{Bool}

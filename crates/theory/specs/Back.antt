@@ -1,4 +1,4 @@
--- Tables read back. Assumes nothing.
+-- Tables read back.
 use mathlib.Core.Path.{_≡_, refl, ap₂}
 use mathlib.Core.Logic.{inl, inr}
 use mathlib.Core.Bool.{true, _&&_, _||_, not, cond}

@@ -1,4 +1,4 @@
--- Broken lines: a line whose last byte is no 0A, one longer than any command's. Assumes nothing.
+-- Broken lines: a line whose last byte is no 0A, one longer than any command's.
 use mathlib.Core.Path.{_≡_, refl, sym, ap, _∙_}
 use mathlib.Core.List.{List, [], _∷_}
 use Prim.Native.Nat.{ℕ, _+_, _-_, _<_}

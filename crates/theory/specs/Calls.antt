@@ -1,4 +1,4 @@
--- Every round that a list of calls makes is sound; no mark sinks. Assumes nothing.
+-- Every round that a list of calls makes is sound; no mark sinks.
 use mathlib.Core.Path.{_≡_, refl, _∙_}
 use mathlib.Core.Bool.{Bool, true, false, _||_, cond, true≢false}
 use mathlib.Core.List.{List, [], _∷_, _++_}

@@ -1,4 +1,4 @@
--- What sending leaves, as rows closed up and as bytes. Assumes nothing.
+-- What sending leaves, as rows closed up and as bytes.
 use mathlib.Core.Path.{_≡_, refl, sym, ap, ap₂, _∙_, subst}
 use mathlib.Core.Logic.{inl, inr, _≢_}
 use mathlib.Core.Bool.{Bool, true, false, _&&_, not, cond}

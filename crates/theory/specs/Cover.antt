@@ -1,4 +1,4 @@
--- The ways cover every round: what each asks for is always there to be found. Assumes nothing.
+-- The ways cover every round: what each asks for is always there to be found.
 use mathlib.Core.Path.{_≡_, sym, ap, _∙_, subst}
 use mathlib.Core.Logic.{inl, inr}
 use mathlib.Core.Bool.{Bool, true, false}

@@ -1,4 +1,4 @@
--- Digits, and numbers in digits: each is read back from the other. Assumes nothing.
+-- Digits, and numbers in digits: each is read back from the other.
 use mathlib.Core.Path.{_≡_, refl, sym, ap, _∙_}
 use mathlib.Core.Logic.{_⊎_, inl, inr}
 use mathlib.Core.Bool.{true}

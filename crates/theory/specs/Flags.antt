@@ -1,4 +1,4 @@
--- The plan's rows as one flag a row, in bytes: 1 for a row of the plan, 0 for another. Assumes nothing.
+-- The plan's rows as one flag a row, in bytes: 1 for a row of the plan, 0 for another.
 use mathlib.Core.Path.{_≡_, refl, ap}
 use mathlib.Core.Bool.{Bool, true, false}
 use mathlib.Core.List.{List, [], _∷_}

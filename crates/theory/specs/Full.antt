@@ -1,4 +1,4 @@
--- Sound rounds, their plan and what stays outside: the plan fills every slot. Assumes nothing.
+-- Sound rounds, their plan and what stays outside: the plan fills every slot.
 use mathlib.Core.Path.{_≡_, refl}
 use mathlib.Core.Logic.{inl, inr}
 use mathlib.Core.Bool.{true}

@@ -1,4 +1,4 @@
--- One number for the order `heavier`, and one for the pick: keys of rows in ticket order. Assumes nothing.
+-- One number for the order `heavier`, and one for the pick: keys of rows in ticket order.
 use mathlib.Core.Path.{_≡_, refl, sym, ap, _∙_}
 use mathlib.Core.Logic.{inl, inr}
 use mathlib.Core.List.{List, [], _∷_}

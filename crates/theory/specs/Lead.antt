@@ -1,4 +1,4 @@
--- The pick as a pass from the far slots back: the row that leads among those due from a slot on. Assumes nothing.
+-- The pick as a pass from the far slots back: the row that leads among those due from a slot on.
 use mathlib.Core.Path.{_≡_}
 use mathlib.Core.Logic.{_⊎_, inl, inr}
 use mathlib.Core.Bool.{false}

@@ -1,4 +1,4 @@
--- A leap: its shifts, its substitute, and that the rows after fill as far. Assumes nothing.
+-- A leap: its shifts, its substitute, and that the rows after fill as far.
 use mathlib.Core.Path.{_≡_, refl, sym, ap}
 use mathlib.Core.Logic.{_⊎_, inl, inr}
 use mathlib.Core.Bool.{false}

@@ -1,4 +1,4 @@
--- Text lines: a line is read as a command with a payload exactly where it is their text; reader and writer undo each other. Assumes nothing.
+-- Text lines: a line is read as a command with a payload exactly where it is their text; reader and writer undo each other.
 use mathlib.Core.Path.{_≡_, refl, sym, ap, _∙_}
 use mathlib.Core.Logic.{inl, inr}
 use mathlib.Core.Bool.{true, false, _&&_, cond, false≢true}

@@ -1,4 +1,4 @@
--- A LISTING ACCEPTED: the count, the entries of the plan's rows in canonical order, the old entries behind them: listings. Assumes nothing.
+-- A LISTING ACCEPTED: the count, the entries of the plan's rows in canonical order, the old entries behind them: listings.
 use mathlib.Core.Path.{_≡_, ap, _∙_}
 use mathlib.Core.Logic.{inl, inr}
 use mathlib.Core.List.{List, map}
@@ -9,7 +9,8 @@ use lib.Seq.{take-at, drop-at}
 use Rattle.rules.specs.Rows.{Row, Round, sorted, canonical}
 use Rattle.rules.specs.Plan.{planned, listed}
 use Rattle.rules.specs.Table.{round-in, table-refusal}
-use Rattle.rules.specs.Calls.{send-refusal, list-refusal, list-answer, list-left}
+use Rattle.rules.specs.Calls.{send-refusal}
+use Rattle.rules.specs.Looking.{list-refusal, list-answer, list-left}
 use Rattle.rules.specs.Demands.{Listings}
 use Rattle.theory.specs.Tests.{ltb?}
 use Rattle.theory.specs.Sum.{sum-sorted, length-sum}

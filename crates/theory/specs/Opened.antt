@@ -1,4 +1,4 @@
--- P10, for every last slot and room: a round just opened sends silence, in an ordinary step. Assumes nothing.
+-- P10, for every last slot and room: a round just opened sends silence, in an ordinary step.
 use mathlib.Core.Path.{refl}
 use native.Mathlib.Omega.{arith}
 use Rattle.rules.specs.Rows.{blank, round}

@@ -1,4 +1,4 @@
--- What a call owes, from its refusal number and the bytes it wrote. Assumes nothing.
+-- What a call owes, from its refusal number and the bytes it wrote.
 use mathlib.Core.Path.{_≡_, refl, sym, ap, _∙_}
 use mathlib.Core.Bool.{true, false}
 use mathlib.Core.List.{List}

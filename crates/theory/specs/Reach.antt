@@ -1,4 +1,4 @@
--- How far a mark reaches: from a slot back to the current one, and on to the next tight one. Assumes nothing.
+-- How far a mark reaches: from a slot back to the current one, and on to the next tight one.
 use mathlib.Core.Path.{_≡_, refl}
 use Prim.Native.Nat.{ℕ, zero, suc, _≤_}
 use native.Mathlib.Omega.{arith}

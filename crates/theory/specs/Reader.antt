@@ -1,4 +1,4 @@
--- THE READER: refusal 1 just where a line is no command's text, and the payload's place: read-refusals, payload-places. Assumes nothing.
+-- THE READER: refusal 1 just where a line is no command's text, and the payload's place: read-refusals, payload-places.
 use mathlib.Core.Path.{_≡_, refl, sym, ap, _∙_}
 use mathlib.Core.Logic.{_⊎_, inl, inr}
 use mathlib.Core.List.{List, []}

@@ -1,4 +1,4 @@
--- EACH NUMBER UNDER ITS CONDITION, in the substitute and the listing too: refusals. Assumes nothing.
+-- EACH NUMBER UNDER ITS CONDITION, in the substitute and the listing too: refusals.
 use mathlib.Core.Path.{_≡_, refl, sym, ap, _∙_}
 use mathlib.Core.Logic.{inl, inr}
 use mathlib.Core.Bool.{Bool, true, false, not, cond, true≢false}
@@ -12,7 +12,8 @@ use Rattle.rules.specs.Rows.{Row, Round, row, round, In}
 use Rattle.rules.specs.Plan.{plan, substitute, in-plan, listed}
 use Rattle.rules.specs.Table.{rows-in, round-in, table-refusal}
 use Rattle.rules.specs.Calls.{Reply, refused, ticket, amount, blank-due, number-of}
-use Rattle.rules.specs.Calls.{first, send-refusal, with-ticket, stand-in, substitute-answer, list-refusal, list-answer}
+use Rattle.rules.specs.Calls.{first, send-refusal}
+use Rattle.rules.specs.Looking.{with-ticket, stand-in, substitute-answer, list-refusal, list-answer}
 use Rattle.rules.specs.Conditions.{row-at, Bytes, No-row, Not-planned, substitute-given, list-given, used-in}
 use Rattle.rules.specs.Demands.{Refusals}
 use Rattle.theory.specs.Tests.{either, eqb?}

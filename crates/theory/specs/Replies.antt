@@ -1,4 +1,4 @@
--- Replies to a list of calls, one by one, and what an not-refused mark, total or taking says of the round. Assumes nothing.
+-- Replies to a list of calls, one by one, and what an not-refused mark, total or taking says of the round.
 use mathlib.Core.Path.{_≡_, refl, sym, ap, _∙_}
 use mathlib.Core.Logic.{inl, inr}
 use mathlib.Core.Bool.{Bool, true, false, cond}

@@ -1,4 +1,4 @@
--- Sound rounds and their tables: calls on a sound round's table refuse, answer and leave what the model says. Assumes nothing.
+-- Sound rounds and their tables: calls on a sound round's table refuse, answer and leave what the model says.
 use mathlib.Core.Path.{_≡_, refl, ap₂}
 use mathlib.Core.Bool.{Bool, true, false, _&&_, not, cond, true≢false, false≢true}
 use mathlib.Core.List.{List, [], _∷_}

@@ -1,4 +1,4 @@
--- Segments before the far slots, by counts of the plan's rows: one substitute, one mark, one row to compare each. Assumes nothing.
+-- Segments before the far slots, by counts of the plan's rows: one substitute, one mark, one row to compare each.
 use mathlib.Core.Path.{_≡_, sym, ap, _∙_}
 use mathlib.Core.Logic.{_⊎_, inl, inr, _≢_}
 use mathlib.Core.Bool.{false}

@@ -1,4 +1,4 @@
--- Sending on a sound table: what is answered and every byte left, from what the laws above find. Assumes nothing.
+-- Sending on a sound table: what is answered and every byte left, from what the laws above find.
 use mathlib.Core.Path.{_≡_, sym, _∙_}
 use mathlib.Core.Bool.{cond}
 use mathlib.Core.List.{List, _++_}

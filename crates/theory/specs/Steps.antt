@@ -1,4 +1,4 @@
--- WHAT A SENDING LEAVES of every sound round with a slot ahead, and what it answers: steps. Assumes nothing.
+-- WHAT A SENDING LEAVES of every sound round with a slot ahead, and what it answers: steps.
 use mathlib.Core.Path.{_≡_, refl, sym, subst}
 use mathlib.Core.Logic.{_⊎_, inl, inr}
 use mathlib.Core.List.{List}

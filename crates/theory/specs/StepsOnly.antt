@@ -1,4 +1,4 @@
--- The statement leaves nothing open: a round that a sending may make is the one that it makes. Assumes nothing.
+-- The statement leaves nothing open: a round that a sending may make is the one that it makes.
 use mathlib.Core.Path.{_≡_, refl, sym, ap, ap₂, subst, _∙_}
 use mathlib.Core.Logic.{inl, inr}
 use mathlib.Core.List.{List, [], _∷_}

@@ -1,4 +1,4 @@
--- Substitutes from the plan's rows alone. Assumes nothing.
+-- Substitutes from the plan's rows alone.
 use mathlib.Core.Path.{_≡_, sym, ap, _∙_, subst}
 use mathlib.Core.Logic.{_⊎_, inl, inr}
 use mathlib.Core.Bool.{true, false, true≢false}

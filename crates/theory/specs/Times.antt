@@ -1,4 +1,4 @@
--- Going out in time: slots for a feasible set, and a set with slots is feasible; the plan is best. Assumes nothing.
+-- Going out in time: slots for a feasible set, and a set with slots is feasible; the plan is best.
 use mathlib.Core.Path.{_≡_, refl, subst}
 use mathlib.Core.Logic.{_⊎_, inl, inr, _≢_}
 use mathlib.Core.Bool.{Bool, true, false, _&&_, _||_, not, true≢false, false≢true}

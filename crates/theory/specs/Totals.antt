@@ -1,4 +1,4 @@
--- Totals as sums of counts over weights; the best set; the newcomer. Assumes nothing.
+-- Totals as sums of counts over weights; the best set; the newcomer.
 use mathlib.Core.Path.{_≡_, refl, sym, _∙_}
 use mathlib.Core.Logic.{_⊎_, inl, inr, _≢_}
 use mathlib.Core.Bool.{cond}

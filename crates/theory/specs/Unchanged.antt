@@ -1,4 +1,4 @@
--- WHAT IS REFUSED changes nothing, and says its number: refused-unchanged, numbers, list-refused-unchanged. Assumes nothing.
+-- WHAT IS REFUSED changes nothing, and says its number: refused-unchanged, numbers, list-refused-unchanged.
 use mathlib.Core.Path.{_≡_, refl, sym, _∙_}
 use mathlib.Core.Logic.{inl, inr}
 use mathlib.Core.List.{List}
@@ -7,7 +7,8 @@ use borrow.Author.Tests.{ne-eqb}
 use lib.ListN.{length}
 use Rattle.rules.specs.Rows.{Round}
 use Rattle.rules.specs.Table.{round-in}
-use Rattle.rules.specs.Calls.{Call, opening, taking, sending, marking, totalling, number-of, says, refusal, answer, list-refusal, list-answer, list-left}
+use Rattle.rules.specs.Calls.{Call, opening, taking, sending, marking, totalling, number-of, says, refusal, answer}
+use Rattle.rules.specs.Looking.{list-refusal, list-answer, list-left}
 use Rattle.rules.specs.Lines.{Command, write-refusal, write-answer, write-left}
 use Rattle.rules.specs.Demands.{Refused, Refused-unchanged, Numbers, List-refused-unchanged}
 use Rattle.theory.specs.Tests.{eqb?}

@@ -1,4 +1,4 @@
--- Writing back: some bytes of a row, of the head, and zeros behind. Assumes nothing.
+-- Writing back: some bytes of a row, of the head, and zeros behind.
 use mathlib.Core.Path.{_≡_, refl, sym, ap, ap₂, _∙_}
 use mathlib.Core.List.{List, [], _∷_, _++_, append-assoc}
 use Prim.Native.Nat.{ℕ, suc, _+_, _*_, _-_, _≤_, _<_}

@@ -1,4 +1,4 @@
--- A reply's line by another name for it, and a turn by the call that its command asks for. Assumes nothing.
+-- A reply's line by another name for it, and a turn by the call that its command asks for.
 use mathlib.Core.Path.{_≡_}
 use mathlib.Core.List.{List}
 use Prim.Native.Nat.{ℕ}

@@ -1,4 +1,4 @@
--- One turn of `printed` on a table and a lent buffer. Assumes nothing: this is a definition.
+-- One turn of `printed` on a table and a lent buffer.
 use mathlib.Core.Path.{_≡_}
 use mathlib.Core.List.{List}
 use Prim.Native.Nat.{ℕ}

@@ -1,5 +1,5 @@
 -- `listing::list_plan` meets its contract: a walk of its MIR, by hand, with two calls of covered functions: one decides, the other picks an
--- entry in each turn of the loop. The borrow of the list is opened once, before the loop, and closed once, after it. Assumes nothing.
+-- entry in each turn of the loop. The borrow of the list is opened once, before the loop, and closed once, after it.
 mod Values
 mod Callees
 mod Turn

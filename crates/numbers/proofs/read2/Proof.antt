@@ -1,4 +1,4 @@
--- `numbers::read2` meets its contract: the bytes joined are a field of two. Assumes nothing.
+-- `numbers::read2` meets its contract: the bytes joined are a field of two.
 use mathlib.Core.Path.{sym, _∙_}
 use borrow.Author.Needs.{needs}
 use Rattle.numbers.proofs.NumberLaws.{field2}

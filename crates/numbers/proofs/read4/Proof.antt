@@ -1,4 +1,4 @@
--- `numbers::read4` meets its contract: the bytes joined are a field of four. Assumes nothing.
+-- `numbers::read4` meets its contract: the bytes joined are a field of four.
 use native.Mathlib.Omega.{arith}
 use borrow.Author.Needs.{needs}
 use Rattle.numbers.proofs.NumberLaws.{field4}

@@ -1,4 +1,4 @@
--- `numbers::read8` meets its contract: two fields of four, joined, are one of eight. Assumes nothing.
+-- `numbers::read8` meets its contract: two fields of four, joined, are one of eight.
 use native.Mathlib.Omega.{arith}
 use borrow.Author.Needs.{needs}
 use Rattle.numbers.proofs.NumberLaws.{field8}

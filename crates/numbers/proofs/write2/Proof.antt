@@ -1,4 +1,4 @@
--- `numbers::write2` meets its contract: two stores side by side are the bytes of a number. Assumes nothing.
+-- `numbers::write2` meets its contract: two stores side by side are the bytes of a number.
 use lib.ListN.{length-set}
 use borrow.Author.Needs.{needs}
 use Rattle.numbers.proofs.NumberLaws.{sets2}

@@ -1,4 +1,4 @@
--- `numbers::write4` meets its contract: four stores side by side are the bytes of a number. Assumes nothing.
+-- `numbers::write4` meets its contract: four stores side by side are the bytes of a number.
 use lib.ListN.{length-set}
 use borrow.Author.Needs.{needs}
 use Rattle.numbers.proofs.NumberLaws.{sets4}

@@ -1,4 +1,4 @@
--- `sender::send_planned` meets its contract. Assumes nothing.
+-- `sender::send_planned` meets its contract.
 use Rattle.plan.proofs.LentLaws.{ones-front, ones-long, few-rows, flagged-long, flagged-chosen}
 use borrow.Author.Needs.{needs}
 use Rattle.sender.proofs.send_planned.Statement.{statement}

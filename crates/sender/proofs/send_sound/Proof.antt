@@ -1,4 +1,4 @@
--- `sender::send_sound` meets its contract. Assumes nothing.
+-- `sender::send_sound` meets its contract.
 use Rattle.leap.proofs.SendLaws.{silence-says}
 use borrow.Author.Needs.{needs}
 use Rattle.sender.proofs.send_sound.Statement.{statement}

@@ -1,4 +1,4 @@
--- `sender::send_whole` meets its contract. Assumes nothing.
+-- `sender::send_whole` meets its contract.
 use Rattle.theory.specs.Flags.{all-chosen}
 use Rattle.rules.specs.Table.{round-in}
 use borrow.Author.Needs.{needs}

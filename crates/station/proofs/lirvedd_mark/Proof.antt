@@ -1,4 +1,4 @@
--- `station::lirvedd_mark` meets its contract. Assumes nothing.
+-- `station::lirvedd_mark` meets its contract.
 use native.Mathlib.Omega.{arith}
 use Rattle.station.proofs.Exported.{marking-exported}
 use borrow.Author.Needs.{needs}

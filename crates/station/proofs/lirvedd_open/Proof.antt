@@ -1,4 +1,4 @@
--- `station::lirvedd_open` meets its contract. Assumes nothing.
+-- `station::lirvedd_open` meets its contract.
 use native.Mathlib.Omega.{arith}
 use Rattle.station.proofs.Exported.{opening-exported}
 use borrow.Author.Needs.{needs}

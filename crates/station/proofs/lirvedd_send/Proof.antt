@@ -1,4 +1,4 @@
--- `station::lirvedd_send` meets its contract. Assumes nothing.
+-- `station::lirvedd_send` meets its contract.
 use Rattle.station.proofs.Exported.{exported}
 use borrow.Author.Needs.{needs}
 use Rattle.station.proofs.lirvedd_send.Statement.{statement}

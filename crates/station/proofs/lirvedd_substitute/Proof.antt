@@ -1,4 +1,4 @@
--- `station::lirvedd_substitute` meets its contract. Assumes nothing.
+-- `station::lirvedd_substitute` meets its contract.
 use native.Mathlib.Omega.{arith}
 use Rattle.station.proofs.Exported.{substitute-exported}
 use borrow.Author.Needs.{needs}

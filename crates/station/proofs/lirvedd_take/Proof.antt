@@ -1,4 +1,4 @@
--- `station::lirvedd_take` meets its contract. Assumes nothing.
+-- `station::lirvedd_take` meets its contract.
 use native.Mathlib.Omega.{arith}
 use Rattle.station.proofs.Exported.{taking-exported}
 use borrow.Author.Needs.{needs}

@@ -1,4 +1,4 @@
--- `station::lirvedd_total` meets its contract. Assumes nothing.
+-- `station::lirvedd_total` meets its contract.
 use Rattle.station.proofs.Exported.{exported}
 use Rattle.station.proofs.Amounts.{total-answer-small}
 use Rattle.station.specs.Packing.{Small}

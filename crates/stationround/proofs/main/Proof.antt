@@ -1,4 +1,4 @@
--- `stationround::main` is safe and ends: table and bytes held are those after the reads so far; the turns that are left fall. Assumes nothing.
+-- `stationround::main` is safe and ends: table and bytes held are those after the reads so far; the turns that are left fall.
 use mathlib.Core.Path.{_≡_}
 use Prim.Native.Nat.{_≤_}
 use native.Mathlib.Omega.{arith}

@@ -1,4 +1,4 @@
--- `stationround::read_behind` meets its contract. Assumes nothing.
+-- `stationround::read_behind` meets its contract.
 use Prim.Native.Nat.{_-_}
 use lib.ListN.{length}
 use Rattle.stationround.proofs.SoFar.{held-stay}

@@ -1,4 +1,4 @@
--- `trial::answer_next` is safe: what it lends lies within the buffers. Assumes nothing.
+-- `trial::answer_next` is safe: what it lends lies within the buffers.
 use native.Mathlib.Omega.{arith}
 use lib.ListN.{length-take}
 use borrow.Author.Needs.{needs}

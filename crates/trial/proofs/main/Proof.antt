@@ -1,4 +1,4 @@
--- `trial::main` is safe and ends: the turns that are left fall. Assumes nothing.
+-- `trial::main` is safe and ends: the turns that are left fall.
 use mathlib.Core.Path.{_≡_}
 use lib.ListN.{length}
 use borrow.Author.Needs.{needs}

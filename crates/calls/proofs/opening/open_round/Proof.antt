@@ -1,4 +1,4 @@
--- `calls::opening::open_round` meets its contract. Assumes nothing.
+-- `calls::opening::open_round` meets its contract.
 use borrow.Author.Needs.{needs}
 use borrow.Author.Tests.{not-true, not-false}
 use mathlib.Core.Path.{_≡_, sym, _∙_}

@@ -1,4 +1,4 @@
--- `calls::sending::out_of` meets its contract. Assumes nothing.
+-- `calls::sending::out_of` meets its contract.
 use native.Mathlib.Omega.{arith}
 use Rattle.calls.proofs.Went.{out-silence, out-frame, out-kept}
 use Rattle.calls.proofs.sending.out_of.Statement.{statement}

@@ -1,4 +1,4 @@
--- `calls::sending::send_in` meets its contract. Assumes nothing.
+-- `calls::sending::send_in` meets its contract.
 use Rattle.round.proofs.Asked.{over}
 use Rattle.theory.specs.Outcomes.{says-refused}
 use Rattle.rules.specs.Calls.{sending, step}

@@ -1,4 +1,4 @@
--- `calls::sending::send_slot` meets its contract. Assumes nothing.
+-- `calls::sending::send_slot` meets its contract.
 use Rattle.theory.specs.Outcomes.{says-refused, judges, by-table}
 use Rattle.rules.specs.Calls.{sending}
 use Rattle.round.specs.Judge.{Judge-says}

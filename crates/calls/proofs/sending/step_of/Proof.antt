@@ -1,4 +1,4 @@
--- `calls::sending::step_of` meets its contract. Assumes nothing.
+-- `calls::sending::step_of` meets its contract.
 use Rattle.calls.proofs.Went.{step-leap, step-ordinary}
 use borrow.Author.Needs.{needs}
 use Rattle.calls.proofs.sending.step_of.Statement.{statement}

@@ -1,4 +1,4 @@
--- `calls::taking::take_frame` meets its contract. Assumes nothing.
+-- `calls::taking::take_frame` meets its contract.
 use borrow.Author.Needs.{needs}
 use mathlib.Core.Path.{subst}
 use Rattle.rules.specs.Calls.{taking}

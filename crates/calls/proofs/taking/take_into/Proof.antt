@@ -1,4 +1,4 @@
--- `calls::taking::take_into` meets its contract. Assumes nothing.
+-- `calls::taking::take_into` meets its contract.
 use borrow.Author.Needs.{needs}
 use mathlib.Core.Path.{_≡_, ap, _∙_}
 use native.Mathlib.Omega.{arith}

@@ -1,4 +1,4 @@
--- `calls::taking::taking_refusal` meets its contract: each return has its condition, and the tests before it failed. Assumes nothing.
+-- `calls::taking::taking_refusal` meets its contract: each return has its condition, and the tests before it failed.
 use borrow.Author.Needs.{needs}
 use native.Mathlib.Omega.{arith}
 use Rattle.calls.proofs.TakingNumber.{number-5, number-6-none, number-6-most, number-7-before, number-7-after, number-8, number-9, number-0}

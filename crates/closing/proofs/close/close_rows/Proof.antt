@@ -1,4 +1,4 @@
--- `closing::close::close_rows` meets its contract. Assumes nothing.
+-- `closing::close::close_rows` meets its contract.
 use Prim.Native.Nat.{_-_}
 use borrow.Author.Needs.{needs}
 use Rattle.closing.proofs.HeadLaws.{table-room}

@@ -1,4 +1,4 @@
--- `closing::close::close_up` meets its contract. Assumes nothing.
+-- `closing::close::close_up` meets its contract.
 use mathlib.Core.Path.{sym}
 use native.Mathlib.Omega.{arith}
 use borrow.Author.Needs.{needs}

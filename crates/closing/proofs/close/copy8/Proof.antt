@@ -1,4 +1,4 @@
--- `closing::close::copy8` meets its contract. Assumes nothing.
+-- `closing::close::copy8` meets its contract.
 use mathlib.Core.Path.{refl}
 use Prim.Native.Nat.{_+_, _≤_, _<_}
 use lib.ListN.{length}

@@ -1,4 +1,4 @@
--- `closing::close::copy_row` meets its contract. Assumes nothing.
+-- `closing::close::copy_row` meets its contract.
 use borrow.Author.Needs.{needs}
 use Rattle.closing.proofs.CopyLaws.{copied-row}
 use Rattle.closing.proofs.close.copy_row.Statement.{statement}

@@ -1,4 +1,4 @@
--- `closing::close::first_leaving` meets its contract. Assumes nothing.
+-- `closing::close::first_leaving` meets its contract.
 use mathlib.Core.Path.{sym, _∙_}
 use Prim.Native.Nat.{_-_}
 use borrow.Author.Needs.{needs}

@@ -1,5 +1,5 @@
 use native.Mathlib.Omega.{arith}
--- `closing::close::keep_row` meets its contract. Assumes nothing.
+-- `closing::close::keep_row` meets its contract.
 use mathlib.Core.Logic.{inl, inr}
 use mathlib.Core.Path.{refl, sym, _∙_}
 use borrow.Author.Needs.{needs}

@@ -1,4 +1,4 @@
--- `closing::close::row_stays` meets its contract. Assumes nothing.
+-- `closing::close::row_stays` meets its contract.
 use borrow.Author.Needs.{needs}
 use Rattle.closing.proofs.CloseLaws.{stays-read}
 use Rattle.closing.proofs.close.row_stays.Statement.{statement}

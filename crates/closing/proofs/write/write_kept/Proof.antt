@@ -1,4 +1,4 @@
--- `closing::write::write_kept` meets its contract. Assumes nothing.
+-- `closing::write::write_kept` meets its contract.
 use borrow.Author.Needs.{needs}
 use Rattle.closing.proofs.WriteLaws.{kept-stored}
 use Rattle.closing.proofs.write.write_kept.Statement.{statement}

@@ -1,4 +1,4 @@
--- `closing::write::write_shift` meets its contract. Assumes nothing.
+-- `closing::write::write_shift` meets its contract.
 use borrow.Author.Needs.{needs}
 use Rattle.closing.proofs.WriteLaws.{shift-stored}
 use Rattle.closing.proofs.write.write_shift.Statement.{statement}

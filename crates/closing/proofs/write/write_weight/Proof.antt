@@ -1,4 +1,4 @@
--- `closing::write::write_weight` meets its contract. Assumes nothing.
+-- `closing::write::write_weight` meets its contract.
 use borrow.Author.Needs.{needs}
 use Rattle.closing.proofs.WriteLaws.{weight-stored}
 use Rattle.closing.proofs.write.write_weight.Statement.{statement}

@@ -1,4 +1,4 @@
--- `leap::send::send_all` meets its contract. Assumes nothing.
+-- `leap::send::send_all` meets its contract.
 use native.Mathlib.Omega.{arith}
 use borrow.Author.Needs.{needs}
 use Rattle.leap.proofs.SendLaws.{first-alone, far-alone, ones-room, all-as, none-swapped, ones-long}

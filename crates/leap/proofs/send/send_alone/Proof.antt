@@ -1,4 +1,4 @@
--- `leap::send::send_alone` meets its contract. Assumes nothing.
+-- `leap::send::send_alone` meets its contract.
 use borrow.Author.Needs.{needs}
 use Rattle.leap.proofs.SendLaws.{alone-row, alone-says}
 use Rattle.leap.proofs.send.send_alone.Statement.{statement}

@@ -1,4 +1,4 @@
--- `leap::send::send_kept` meets its contract. Assumes nothing.
+-- `leap::send::send_kept` meets its contract.
 use native.Mathlib.Omega.{arith}
 use borrow.Author.Needs.{needs}
 use Rattle.leap.proofs.SendLaws.{kept-row, kept-there, kept-slots, kept-stood, kept-says}

@@ -1,4 +1,4 @@
--- `leap::send::send_picked` meets its contract. Assumes nothing.
+-- `leap::send::send_picked` meets its contract.
 use borrow.Author.Needs.{needs}
 use Rattle.leap.proofs.SendLaws.{first-alone, far-alone, going-as, noted-as}
 use Rattle.leap.proofs.send.send_picked.Statement.{statement}

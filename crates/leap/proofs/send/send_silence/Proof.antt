@@ -1,4 +1,4 @@
--- `leap::send::send_silence` meets its contract. Assumes nothing.
+-- `leap::send::send_silence` meets its contract.
 use borrow.Author.Needs.{needs}
 use mathlib.Core.Path.{refl}
 use Rattle.leap.proofs.send.send_silence.Statement.{statement}

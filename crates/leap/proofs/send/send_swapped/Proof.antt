@@ -1,4 +1,4 @@
--- `leap::send::send_swapped` meets its contract. Assumes nothing.
+-- `leap::send::send_swapped` meets its contract.
 use mathlib.Core.Path.{refl}
 use native.Mathlib.Omega.{arith}
 use borrow.Author.Needs.{needs}

@@ -1,4 +1,4 @@
--- `leap::send::went_of` meets its contract. Assumes nothing.
+-- `leap::send::went_of` meets its contract.
 use native.Mathlib.Omega.{arith}
 use borrow.Author.Needs.{needs}
 use Rattle.tally.proofs.RowLaws.{reads-within}

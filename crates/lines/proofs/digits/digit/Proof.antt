@@ -1,4 +1,4 @@
--- `lines::digit` meets its contract: the test says which case of the definition applies. Assumes nothing.
+-- `lines::digit` meets its contract: the test says which case of the definition applies.
 use borrow.Author.Needs.{needs}
 use borrow.Author.Tests.{lt-ltb, le-ltb}
 use Rattle.rules.specs.Lines.{digit}

@@ -1,4 +1,4 @@
--- `lines::digits_only` meets its contract: the bytes before i are digits; what is left of the length falls. Assumes nothing.
+-- `lines::digits_only` meets its contract: the bytes before i are digits; what is left of the length falls.
 use mathlib.Core.Path.{_≡_, refl, sym, _∙_}
 use Prim.Native.Nat.{_-_}
 use lib.ListN.{length, drop}

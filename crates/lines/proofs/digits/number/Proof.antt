@@ -1,4 +1,4 @@
--- `lines::number` meets its contract: the digits before i are in the sum; what is left of the length falls. Assumes nothing.
+-- `lines::number` meets its contract: the digits before i are in the sum; what is left of the length falls.
 use mathlib.Core.Path.{sym}
 use Prim.Native.Nat.{_+_, _*_, _-_, _^_, _<_}
 use native.Mathlib.Omega.{arith}

@@ -1,4 +1,4 @@
--- `lines::put_bytes` meets its contract: the bytes before i are copied; what is left of the length falls. Assumes nothing.
+-- `lines::put_bytes` meets its contract: the bytes before i are copied; what is left of the length falls.
 use Prim.Native.Nat.{_-_}
 use lib.ListN.{length}
 use borrow.Author.Needs.{needs}

@@ -1,4 +1,4 @@
--- `lines::put_number` meets its contract: the digits from i on stand, and the rest is for those before; i falls. Assumes nothing.
+-- `lines::put_number` meets its contract: the digits from i on stand, and the rest is for those before; i falls.
 use borrow.Author.Needs.{needs}
 use Rattle.lines.proofs.Spelling.{Put, put-none, put-more, put-whole}
 use Rattle.lines.proofs.digits.put_number.Statement.{statement}

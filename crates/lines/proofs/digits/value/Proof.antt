@@ -1,4 +1,4 @@
--- `lines::value` meets its contract: the test of each range says which case of the definition applies. Assumes nothing.
+-- `lines::value` meets its contract: the test of each range says which case of the definition applies.
 use mathlib.Core.Path.{sym}
 use native.Mathlib.Omega.{arith}
 use borrow.Author.Needs.{needs}

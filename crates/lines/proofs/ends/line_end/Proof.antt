@@ -1,4 +1,4 @@
--- `lines::line_end` meets its contract: no 0A from the start up to i; what is left of the length falls. Assumes nothing.
+-- `lines::line_end` meets its contract: no 0A from the start up to i; what is left of the length falls.
 use mathlib.Core.Path.{refl}
 use Prim.Native.Nat.{_≤_, _-_}
 use native.Mathlib.Omega.{arith}

@@ -1,4 +1,4 @@
--- `lines::payload` meets its contract: the place lies within the line, and the part there is the payload. Assumes nothing.
+-- `lines::payload` meets its contract: the place lies within the line, and the part there is the payload.
 use mathlib.Core.Path.{refl}
 use Prim.Native.Nat.{_≤_}
 use native.Mathlib.Omega.{arith}

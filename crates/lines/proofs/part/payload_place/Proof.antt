@@ -1,4 +1,4 @@
--- `lines::payload_place` meets its contract: the place, by what the line is read as. Assumes nothing.
+-- `lines::payload_place` meets its contract: the place, by what the line is read as.
 use mathlib.Core.Path.{refl}
 use borrow.Author.Needs.{needs}
 use Rattle.lines.proofs.Places.{placed-broken, placed-open, placed-send, placed-take, placed-bare}

@@ -1,4 +1,4 @@
--- `lines::read_command` meets its contract: each way out is a way in which a line is broken, or a line begun. Assumes nothing.
+-- `lines::read_command` meets its contract: each way out is a way in which a line is broken, or a line begun.
 use mathlib.Core.Path.{refl}
 use native.Mathlib.Omega.{arith}
 use lib.ListN.{take}

@@ -1,4 +1,4 @@
--- `lines::read_open` meets its contract: a line begun by 00. Assumes nothing.
+-- `lines::read_open` meets its contract: a line begun by 00.
 use native.Mathlib.Omega.{arith}
 use lib.ListN.{take, drop}
 use borrow.Author.Needs.{needs}

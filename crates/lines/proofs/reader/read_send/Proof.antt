@@ -1,4 +1,4 @@
--- `lines::read_send` meets its contract: a line begun by 02. Assumes nothing.
+-- `lines::read_send` meets its contract: a line begun by 02.
 use native.Mathlib.Omega.{arith}
 use borrow.Author.Needs.{needs}
 use Rattle.lines.proofs.Commands.{send-long, send-read}

@@ -1,4 +1,4 @@
--- `lines::read_take` meets its contract: a line begun by 01. Assumes nothing.
+-- `lines::read_take` meets its contract: a line begun by 01.
 use mathlib.Core.Path.{sym, _∙_}
 use Prim.Native.Nat.{_-_}
 use native.Mathlib.Omega.{arith}

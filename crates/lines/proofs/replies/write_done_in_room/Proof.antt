@@ -1,4 +1,4 @@
--- `lines::write_done_in_room` meets its contract: the buffer is filled part by part. Assumes nothing.
+-- `lines::write_done_in_room` meets its contract: the buffer is filled part by part.
 use mathlib.Core.Path.{refl}
 use borrow.Author.Needs.{needs}
 use Rattle.rules.specs.Lines.{digits, reply-digits, reply-text}

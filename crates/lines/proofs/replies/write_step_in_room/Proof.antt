@@ -1,4 +1,4 @@
--- `lines::write_step_in_room` meets its contract: the buffer is filled part by part. Assumes nothing.
+-- `lines::write_step_in_room` meets its contract: the buffer is filled part by part.
 use mathlib.Core.Path.{refl}
 use lib.ListN.{length-set}
 use borrow.Author.Needs.{needs}

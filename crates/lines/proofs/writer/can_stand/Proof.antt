@@ -1,4 +1,4 @@
--- `lines::can_stand` meets its contract: by the command. Assumes nothing.
+-- `lines::can_stand` meets its contract: by the command.
 use mathlib.Core.Path.{_∙_}
 use borrow.Author.Needs.{needs}
 use Rattle.lines.proofs.Writing.{open-high, open-stands, take-high, take-stands, send-stands}

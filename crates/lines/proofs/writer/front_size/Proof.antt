@@ -1,4 +1,4 @@
--- `lines::front_size` meets its contract: by the command. Assumes nothing.
+-- `lines::front_size` meets its contract: by the command.
 use mathlib.Core.Path.{sym}
 use borrow.Author.Needs.{needs}
 use Rattle.lines.proofs.Writing.{open-size, take-size, send-size}

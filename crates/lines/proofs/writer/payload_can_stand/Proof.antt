@@ -1,4 +1,4 @@
--- `lines::payload_can_stand` meets its contract: the tests are the definition's, the cheapest first. Assumes nothing.
+-- `lines::payload_can_stand` meets its contract: the tests are the definition's, the cheapest first.
 use mathlib.Core.Path.{_∙_}
 use native.Mathlib.Omega.{arith}
 use borrow.Author.Needs.{needs}

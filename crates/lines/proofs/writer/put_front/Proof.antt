@@ -1,4 +1,4 @@
--- `lines::put_front` meets its contract: by the command, the buffer is filled part by part. Assumes nothing.
+-- `lines::put_front` meets its contract: by the command, the buffer is filled part by part.
 use Prim.Native.Nat.{_≤_}
 use native.Mathlib.Omega.{arith}
 use lib.ListN.{length}

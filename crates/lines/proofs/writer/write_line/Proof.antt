@@ -1,4 +1,4 @@
--- `lines::write_line` meets its contract: the refusals in their order; then front, payload and 0A. Assumes nothing.
+-- `lines::write_line` meets its contract: the refusals in their order; then front, payload and 0A.
 use mathlib.Core.Bool.{true}
 use mathlib.Core.Path.{_≡_, refl, sym, _∙_}
 use native.Mathlib.Omega.{arith}

@@ -1,4 +1,4 @@
--- What a listing passes to the two functions that it calls, and what they say: one decides the plan, the other picks an entry. Assumes nothing.
+-- What a listing passes to the two functions that it calls, and what they say: one decides the plan, the other picks an entry.
 use mathlib.Core.Path.{_≡_}
 use Prim.Native.Nat.{ℕ, _+_, _<_, _≤_}
 use mathlib.Core.List.{[], _∷_}

@@ -1,4 +1,4 @@
--- The listing's loop, turn by turn, and what is left when it ends. Assumes nothing.
+-- The listing's loop, turn by turn, and what is left when it ends.
 use mathlib.Core.Path.{_≡_, refl, sym, ap, subst}
 use Prim.Native.Nat.{ℕ, zero, suc, _+_, _<_}
 use native.Mathlib.Nat.{lt-suc-self}

@@ -1,4 +1,4 @@
--- A turn of the listing's loop: the row's index is read, its entry picked and stored. Assumes nothing.
+-- A turn of the listing's loop: the row's index is read, its entry picked and stored.
 use mathlib.Core.Path.{_≡_, refl, sym, _∙_, ap, subst}
 use Prim.Native.Nat.{ℕ, suc, _+_, _*_, _<_, _≤_, _^_}
 use native.Mathlib.Omega.{arith}

@@ -1,4 +1,4 @@
--- The values that a listing handles: the decided plan, the locals, and what the caller lent. Assumes nothing.
+-- The values that a listing handles: the decided plan, the locals, and what the caller lent.
 use mathlib.Core.Path.{_≡_, ap}
 use Prim.Native.Nat.{ℕ, _<_, _^_}
 use mathlib.Core.List.{List, [], _∷_, map, map-id}

@@ -1,4 +1,4 @@
--- `marks::mark::mark_at` meets its contract. Assumes nothing.
+-- `marks::mark::mark_at` meets its contract.
 use borrow.Author.Needs.{needs}
 use mathlib.Core.Path.{sym}
 use Rattle.marks.proofs.MarkLaws.{far-is, Nearby, nearby, some-free, mid-fits, back-asked, some-edge, edge-fits, end-fits, near-is}

@@ -1,4 +1,4 @@
--- `marks::near::keep_counts` meets its contract. The invariant: of the rows passed the plan's count, and all others. Assumes nothing.
+-- `marks::near::keep_counts` meets its contract. The invariant: of the rows passed the plan's count, and all others.
 use borrow.Author.Needs.{needs}
 use Prim.Native.Nat.{_-_, _≤_, _<_}
 use native.Mathlib.Omega.{arith}

@@ -1,4 +1,4 @@
--- `marks::near::out` meets its contract. Assumes nothing.
+-- `marks::near::out` meets its contract.
 use borrow.Author.Tests.{eq-eqb, ne-eqb}
 use Rattle.marks.proofs.near.out.Statement.{statement}
 use Rattle.marks.proofs.near.out.Tie as tie

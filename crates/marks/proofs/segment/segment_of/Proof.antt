@@ -1,4 +1,4 @@
--- `marks::segment::segment_of` meets its contract. Assumes nothing.
+-- `marks::segment::segment_of` meets its contract.
 use borrow.Author.Needs.{needs}
 use Prim.Native.Nat.{_+_, _≤_}
 use native.Mathlib.Omega.{arith}

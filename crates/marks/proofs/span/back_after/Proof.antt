@@ -1,4 +1,4 @@
--- `marks::span::back_after` meets its contract. The invariant: the way back has come to bucket s. Assumes nothing.
+-- `marks::span::back_after` meets its contract. The invariant: the way back has come to bucket s.
 use borrow.Author.Needs.{needs}
 use mathlib.Core.Path.{_≡_}
 use Prim.Native.Nat.{suc, _≤_}

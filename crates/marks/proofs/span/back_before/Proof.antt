@@ -1,4 +1,4 @@
--- `marks::span::back_before` meets its contract. The invariant: no segment begins between bucket s and mid but at the edge. Assumes nothing.
+-- `marks::span::back_before` meets its contract. The invariant: no segment begins between bucket s and mid but at the edge.
 use borrow.Author.Needs.{needs}
 use Prim.Native.Nat.{_-_, _≤_}
 use native.Mathlib.Omega.{arith}

@@ -1,4 +1,4 @@
--- `marks::span::back_one` meets its contract. Assumes nothing.
+-- `marks::span::back_one` meets its contract.
 use borrow.Author.Tests.{le-leb, lt-leb}
 use borrow.Author.Needs.{needs}
 use Rattle.marks.proofs.span.back_one.Statement.{statement}

@@ -1,4 +1,4 @@
--- `marks::span::span_of` meets its contract. Assumes nothing.
+-- `marks::span::span_of` meets its contract.
 use borrow.Author.Needs.{needs}
 use mathlib.Core.Path.{refl}
 use native.Mathlib.Omega.{arith}

@@ -1,4 +1,4 @@
--- `marks::substitute::best_offer` meets its contract. The invariant: the best offer of the rows passed. Assumes nothing.
+-- `marks::substitute::best_offer` meets its contract. The invariant: the best offer of the rows passed.
 use borrow.Author.Needs.{needs}
 use Prim.Native.Nat.{_-_, _≤_, _<_}
 use native.Mathlib.Omega.{arith}

@@ -1,4 +1,4 @@
--- `marks::substitute::better_of` meets its contract. Assumes nothing.
+-- `marks::substitute::better_of` meets its contract.
 use borrow.Author.Tests.{lt-ltb, le-ltb}
 use Rattle.marks.proofs.substitute.better_of.Statement.{statement}
 use Rattle.marks.proofs.substitute.better_of.Tie as tie

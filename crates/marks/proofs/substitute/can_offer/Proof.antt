@@ -1,4 +1,4 @@
--- `marks::substitute::can_offer` meets its contract. Assumes nothing.
+-- `marks::substitute::can_offer` meets its contract.
 use borrow.Author.Tests.{eq-eqb, ne-eqb}
 use Rattle.marks.proofs.substitute.can_offer.Statement.{statement}
 use Rattle.marks.proofs.substitute.can_offer.Tie as tie

@@ -1,4 +1,4 @@
--- `marks::substitute::left_offer` meets its contract. Assumes nothing.
+-- `marks::substitute::left_offer` meets its contract.
 use borrow.Author.Tests.{eq-eqb, ne-eqb, lt-ltb, le-ltb}
 use Rattle.marks.proofs.substitute.left_offer.Statement.{statement}
 use Rattle.marks.proofs.substitute.left_offer.Tie as tie

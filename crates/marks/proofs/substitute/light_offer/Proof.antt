@@ -1,4 +1,4 @@
--- `marks::substitute::light_offer` meets its contract. Assumes nothing.
+-- `marks::substitute::light_offer` meets its contract.
 use borrow.Author.Tests.{eq-eqb, ne-eqb, lt-ltb, le-ltb}
 use borrow.Author.Needs.{needs}
 use Rattle.marks.proofs.substitute.light_offer.Statement.{statement}

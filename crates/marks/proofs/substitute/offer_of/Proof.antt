@@ -1,4 +1,4 @@
--- `marks::substitute::offer_of` meets its contract. Assumes nothing.
+-- `marks::substitute::offer_of` meets its contract.
 use borrow.Author.Tests.{eq-eqb, ne-eqb}
 use borrow.Author.Needs.{needs}
 use Rattle.marks.proofs.substitute.offer_of.Statement.{statement}

@@ -1,4 +1,4 @@
--- `marks::substitute::substitute_at` meets its contract. Assumes nothing.
+-- `marks::substitute::substitute_at` meets its contract.
 use borrow.Author.Needs.{needs}
 use mathlib.Core.Path.{ap, _∙_}
 use Rattle.rules.specs.Rows.{blank}

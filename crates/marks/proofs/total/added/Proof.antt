@@ -1,4 +1,4 @@
--- `marks::total::added` meets its contract. Assumes nothing.
+-- `marks::total::added` meets its contract.
 use borrow.Author.Needs.{needs}
 use borrow.Author.Tests.{eq-eqb, ne-eqb}
 use Rattle.marks.proofs.total.added.Statement.{statement}

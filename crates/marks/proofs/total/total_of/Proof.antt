@@ -1,4 +1,4 @@
--- `marks::total::total_of` meets its contract. The invariant: the sum is the weight of the plan's rows passed. Assumes nothing.
+-- `marks::total::total_of` meets its contract. The invariant: the sum is the weight of the plan's rows passed.
 use borrow.Author.Needs.{needs}
 use Prim.Native.Nat.{_-_, _≤_, _<_}
 use native.Mathlib.Omega.{arith}

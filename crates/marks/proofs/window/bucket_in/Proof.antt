@@ -1,4 +1,4 @@
--- `marks::window::bucket_in` meets its contract. Assumes nothing.
+-- `marks::window::bucket_in` meets its contract.
 use borrow.Author.Tests.{eq-eqb, ne-eqb, lt-ltb, le-ltb}
 use borrow.Author.Needs.{needs}
 use Rattle.marks.proofs.window.bucket_in.Statement.{statement}

@@ -1,4 +1,4 @@
--- `marks::window::count_in` meets its contract. The invariant: the rows passed are counted. Assumes nothing.
+-- `marks::window::count_in` meets its contract. The invariant: the rows passed are counted.
 use borrow.Author.Needs.{needs}
 use Prim.Native.Nat.{_-_, _≤_, _<_}
 use native.Mathlib.Omega.{arith}

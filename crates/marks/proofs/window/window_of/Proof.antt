@@ -1,4 +1,4 @@
--- `marks::window::window_of` meets its contract. Assumes nothing.
+-- `marks::window::window_of` meets its contract.
 use borrow.Author.Needs.{needs}
 use Rattle.marks.proofs.window.window_of.Statement.{statement}
 use Rattle.marks.proofs.window.window_of.Tie as tie

@@ -1,4 +1,4 @@
--- `pick::choice::choose` meets its contract: the loop is `Passing` over the segments. Assumes nothing.
+-- `pick::choice::choose` meets its contract: the loop is `Passing` over the segments.
 use mathlib.Core.Path.{_≡_, sym, _∙_}
 use mathlib.Core.Bool.{Bool, true, false, cond}
 use Prim.Native.Nat.{_-_, _≤_}

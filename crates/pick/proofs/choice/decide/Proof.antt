@@ -1,4 +1,4 @@
--- `pick::choice::decide` meets its contract: by the test. Assumes nothing.
+-- `pick::choice::decide` meets its contract: by the test.
 use native.Mathlib.Omega.{arith}
 use borrow.Author.Needs.{needs}
 use borrow.Author.Tests.{le-leb, lt-leb}

@@ -1,4 +1,4 @@
--- `pick::choice::leap` meets its contract: by the tests. Assumes nothing.
+-- `pick::choice::leap` meets its contract: by the tests.
 use borrow.Author.Tests.{le-leb, lt-leb, eq-eqb, ne-eqb}
 use Rattle.pick.proofs.choice.leap.Statement.{statement}
 use Rattle.pick.proofs.choice.leap.Tie as tie

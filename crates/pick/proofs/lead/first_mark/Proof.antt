@@ -1,4 +1,4 @@
--- `pick::lead::first_mark` meets its contract: by the test. Assumes nothing.
+-- `pick::lead::first_mark` meets its contract: by the test.
 use mathlib.Core.Path.{sym, subst}
 use Prim.Native.Nat.{ℕ}
 use borrow.Author.Needs.{needs}

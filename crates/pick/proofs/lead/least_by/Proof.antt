@@ -1,4 +1,4 @@
--- `pick::lead::least_by` meets its contract: the loop is `Looking`. Assumes nothing.
+-- `pick::lead::least_by` meets its contract: the loop is `Looking`.
 use Prim.Native.Nat.{_-_, _≤_}
 use borrow.Author.Needs.{needs}
 use native.Mathlib.Omega.{arith}

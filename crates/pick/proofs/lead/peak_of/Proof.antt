@@ -1,4 +1,4 @@
--- `pick::lead::peak_of` meets its contract: the loop is `Scanning`. Assumes nothing.
+-- `pick::lead::peak_of` meets its contract: the loop is `Scanning`.
 use Prim.Native.Nat.{_-_, _≤_}
 use borrow.Author.Needs.{needs}
 use native.Mathlib.Omega.{arith}

@@ -1,4 +1,4 @@
--- `pick::lead::takes` meets its contract: by the tests. Assumes nothing.
+-- `pick::lead::takes` meets its contract: by the tests.
 use borrow.Author.Needs.{needs}
 use borrow.Author.Tests.{eq-eqb, ne-eqb}
 use Rattle.pick.proofs.lead.takes.Statement.{statement}

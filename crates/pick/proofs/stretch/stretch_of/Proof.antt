@@ -1,4 +1,4 @@
--- `pick::stretch::stretch_of` meets its contract: the loop is `Walking`. Assumes nothing.
+-- `pick::stretch::stretch_of` meets its contract: the loop is `Walking`.
 use Prim.Native.Nat.{_-_}
 use borrow.Author.Needs.{needs}
 use native.Mathlib.Omega.{arith}

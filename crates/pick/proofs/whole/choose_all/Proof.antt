@@ -1,4 +1,4 @@
--- `pick::whole::choose_all` meets its contract: the first segment, what is gathered, and the leap (`WholeLaws`). Assumes nothing.
+-- `pick::whole::choose_all` meets its contract: the first segment, what is gathered, and the leap (`WholeLaws`).
 use mathlib.Core.Path.{_≡_, refl}
 use Prim.Native.Nat.{_+_, _-_, _/_}
 use native.Mathlib.Omega.{arith}

@@ -1,4 +1,4 @@
--- `pick::whole::gather` meets its contract: the loop is `Gathering`. Assumes nothing.
+-- `pick::whole::gather` meets its contract: the loop is `Gathering`.
 use Prim.Native.Nat.{_-_, _≤_}
 use borrow.Author.Needs.{needs}
 use native.Mathlib.Omega.{arith}

@@ -1,4 +1,4 @@
--- `pick::whole::later_leap` meets its contract: by the test. Assumes nothing.
+-- `pick::whole::later_leap` meets its contract: by the test.
 use mathlib.Core.Path.{refl, subst}
 use Prim.Native.Nat.{ℕ, _-_}
 use native.Mathlib.Omega.{arith}

@@ -1,4 +1,4 @@
--- `choose_rows`: either way's certificate is one for the plan. Assumes nothing.
+-- `choose_rows`: either way's certificate is one for the plan.
 use mathlib.Core.Path.{_≡_, ap, _∙_}
 use Prim.Native.Nat.{ℕ}
 use native.Mathlib.Omega.{arith}

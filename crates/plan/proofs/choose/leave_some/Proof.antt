@@ -1,4 +1,4 @@
--- `leave_some`: the sweep's certificate holds of all rows, for those past its edge keep their flags. Assumes nothing.
+-- `leave_some`: the sweep's certificate holds of all rows, for those past its edge keep their flags.
 use mathlib.Core.Path.{_≡_, refl, sym, ap, _∙_}
 use Prim.Native.Nat.{ℕ}
 use native.Mathlib.Omega.{arith}

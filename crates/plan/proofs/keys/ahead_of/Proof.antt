@@ -1,4 +1,4 @@
--- `ahead_of`: the smaller of two distances. Assumes nothing.
+-- `ahead_of`: the smaller of two distances.
 use native.Mathlib.Omega.{arith}
 use borrow.Author.Needs.{needs}
 use Rattle.tally.proofs.RowLaws.{known}

@@ -1,4 +1,4 @@
--- `crowd_of`: the loop has looked at every place up to this one. Assumes nothing.
+-- `crowd_of`: the loop has looked at every place up to this one.
 use Prim.Native.Nat.{_-_}
 use native.Mathlib.Omega.{arith}
 use borrow.Author.Needs.{needs}

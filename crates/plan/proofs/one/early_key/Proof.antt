@@ -1,4 +1,4 @@
--- `early_key`: by the two outcomes of its test. Assumes nothing.
+-- `early_key`: by the two outcomes of its test.
 use native.Mathlib.Omega.{arith}
 use borrow.Author.Needs.{needs}
 use Rattle.plan.proofs.LightLaws.{key-early, key-late}

@@ -1,4 +1,4 @@
--- `leave_one`: the row that leaves bars itself. Assumes nothing.
+-- `leave_one`: the row that leaves bars itself.
 use mathlib.Core.Path.{_≡_, sym, ap, _∙_}
 use Prim.Native.Nat.{ℕ}
 use native.Mathlib.Omega.{arith}

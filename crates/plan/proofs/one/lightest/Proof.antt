@@ -1,4 +1,4 @@
--- `lightest`: the loop has the first rows seen. Assumes nothing.
+-- `lightest`: the loop has the first rows seen.
 use Prim.Native.Nat.{_-_}
 use lib.Dec.{ltb}
 use borrow.Author.Needs.{needs}

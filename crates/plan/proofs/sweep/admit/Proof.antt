@@ -1,4 +1,4 @@
--- `admit`: the row joins, takes the place of the lightest, or stays out. Assumes nothing.
+-- `admit`: the row joins, takes the place of the lightest, or stays out.
 use native.Mathlib.Omega.{arith}
 use borrow.Author.Needs.{needs}
 use Rattle.plan.proofs.KeyLaws.{ahead-by}

@@ -1,4 +1,4 @@
--- `admit_list`: the loop has every row of the list before this one done. Assumes nothing.
+-- `admit_list`: the loop has every row of the list before this one done.
 use Prim.Native.Nat.{_-_}
 use native.Mathlib.Omega.{arith}
 use lib.ListN.{length}

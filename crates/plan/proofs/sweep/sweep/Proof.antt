@@ -1,4 +1,4 @@
--- `sweep`: the loop has every list before this one done. Assumes nothing.
+-- `sweep`: the loop has every list before this one done.
 use mathlib.Core.Path.{_≡_, refl}
 use Prim.Native.Nat.{_-_, _≤_}
 use lib.ListN.{length}

@@ -1,4 +1,4 @@
--- `round::head::head_is_sound` meets its contract: the tests are those of the head's judge. Assumes nothing.
+-- `round::head::head_is_sound` meets its contract: the tests are those of the head's judge.
 use borrow.Author.Needs.{needs}
 use Rattle.round.proofs.HeadLaws.{head-is}
 use Rattle.round.proofs.head.head_is_sound.Statement.{statement}

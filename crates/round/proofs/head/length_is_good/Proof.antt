@@ -1,4 +1,4 @@
--- `round::head::length_is_good` meets its contract: the tests are those of refusal 2. Assumes nothing.
+-- `round::head::length_is_good` meets its contract: the tests are those of refusal 2.
 use borrow.Author.Needs.{needs}
 use borrow.Author.Tests.{le-leb, lt-leb}
 use Rattle.rules.specs.Table.{length-good}

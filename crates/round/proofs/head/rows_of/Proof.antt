@@ -1,4 +1,4 @@
--- `round::head::rows_of` meets its contract: by definition. Assumes nothing.
+-- `round::head::rows_of` meets its contract: by definition.
 use borrow.Author.Needs.{needs}
 use Rattle.rules.specs.Table.{rows-of}
 use Rattle.round.proofs.head.rows_of.Statement.{statement}

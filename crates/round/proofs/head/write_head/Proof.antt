@@ -1,4 +1,4 @@
--- `round::head::write_head` meets its contract: four stores of numbers are the head's numbers. Assumes nothing.
+-- `round::head::write_head` meets its contract: four stores of numbers are the head's numbers.
 use borrow.Author.Needs.{needs}
 use Rattle.round.proofs.WriteLaws.{head-stored}
 use Rattle.round.proofs.head.write_head.Statement.{statement}

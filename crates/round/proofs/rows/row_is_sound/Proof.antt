@@ -1,4 +1,4 @@
--- `round::rows::row_is_sound` meets its contract: the tests are those of the row's judge. Assumes nothing.
+-- `round::rows::row_is_sound` meets its contract: the tests are those of the row's judge.
 use borrow.Author.Needs.{needs}
 use Rattle.round.proofs.RowLaws.{row-is}
 use Rattle.round.proofs.rows.row_is_sound.Statement.{statement}

@@ -1,4 +1,4 @@
--- `round::rows::rows_are_sound` meets its contract. The invariant: what is asked of all rows is what is asked of those from i on. Assumes nothing.
+-- `round::rows::rows_are_sound` meets its contract. The invariant: what is asked of all rows is what is asked of those from i on.
 use mathlib.Core.Bool.{true, false}
 use mathlib.Core.Path.{_≡_, sym, _∙_}
 use Prim.Native.Nat.{_+_, _*_, _-_, _≤_}

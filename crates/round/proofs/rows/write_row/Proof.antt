@@ -1,4 +1,4 @@
--- `round::rows::write_row` meets its contract: four stores are the row's numbers. Assumes nothing.
+-- `round::rows::write_row` meets its contract: four stores are the row's numbers.
 use native.Mathlib.Omega.{arith}
 use lib.ListN.{length-set}
 use borrow.Author.Needs.{needs}

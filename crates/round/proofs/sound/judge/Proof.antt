@@ -1,4 +1,4 @@
--- `round::sound::judge` meets its contract: each answer from what the tests on the way have shown. Assumes nothing.
+-- `round::sound::judge` meets its contract: each answer from what the tests on the way have shown.
 use mathlib.Core.Bool.{true}
 use mathlib.Core.Path.{_≡_, sym, _∙_}
 use native.Mathlib.Omega.{arith}

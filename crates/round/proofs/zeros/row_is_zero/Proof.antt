@@ -1,4 +1,4 @@
--- `round::zeros::row_is_zero` meets its contract: a row is zero where its three words are, which leave no gap. Assumes nothing.
+-- `round::zeros::row_is_zero` meets its contract: a row is zero where its three words are, which leave no gap.
 use borrow.Author.Needs.{needs}
 use Rattle.round.proofs.ZeroLaws.{row-foul, row-last}
 use Rattle.round.proofs.zeros.row_is_zero.Statement.{statement}

@@ -1,4 +1,4 @@
--- `round::zeros::word` meets its contract: eight bytes are a word, and `Word-zero` says of it what is owed. Assumes nothing.
+-- `round::zeros::word` meets its contract: eight bytes are a word, and `Word-zero` says of it what is owed.
 use native.Mathlib.Omega.{arith}
 use borrow.Author.Needs.{needs}
 use Rattle.theory.specs.Fields.{field-zeros}

@@ -1,4 +1,4 @@
--- `round::zeros::zeros_from` meets its contract. The invariant: the bytes from the start are zero where those from here on are, and whole rows follow. Assumes nothing.
+-- `round::zeros::zeros_from` meets its contract. The invariant: the bytes from the start are zero where those from here on are, and whole rows follow.
 use mathlib.Core.Bool.{true, false}
 use mathlib.Core.Path.{_≡_, refl, sym, _∙_}
 use Prim.Native.Nat.{_-_, _%_, _≤_}

@@ -1,4 +1,4 @@
--- `turns::answering::answer_lines_in_room` meets its contract: the lines so far are answered; what is left of the input falls. Assumes nothing.
+-- `turns::answering::answer_lines_in_room` meets its contract: the lines so far are answered; what is left of the input falls.
 use mathlib.Core.Path.{_≡_, refl, sym, ap, subst, _∙_}
 use Prim.Native.Nat.{_-_}
 use native.Mathlib.Nat.{le-refl}

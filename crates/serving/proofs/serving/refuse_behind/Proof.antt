@@ -1,4 +1,4 @@
--- `turns::serving::refuse_behind` meets its contract. Assumes nothing.
+-- `turns::serving::refuse_behind` meets its contract.
 use native.Mathlib.Omega.{arith}
 use Rattle.rules.specs.Calls.{refused}
 use Rattle.rules.specs.Lines.{reply-text}

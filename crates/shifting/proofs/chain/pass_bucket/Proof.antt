@@ -1,4 +1,4 @@
--- `shifting::chain::pass_bucket` meets its contract. Assumes nothing.
+-- `shifting::chain::pass_bucket` meets its contract.
 use borrow.Author.Needs.{needs}
 use Rattle.shifting.proofs.LinkLaws.{passed-on, passed-end}
 use Rattle.shifting.proofs.chain.pass_bucket.Statement.{statement}

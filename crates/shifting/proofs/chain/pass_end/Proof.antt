@@ -1,4 +1,4 @@
--- `shifting::chain::pass_end` meets its contract. Assumes nothing.
+-- `shifting::chain::pass_end` meets its contract.
 use borrow.Author.Needs.{needs}
 use Rattle.shifting.proofs.LinkLaws.{ended-keeps, ended-takes, ended-still, ended-moved}
 use Rattle.shifting.proofs.chain.pass_end.Statement.{statement}

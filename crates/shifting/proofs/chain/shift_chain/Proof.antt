@@ -1,4 +1,4 @@
--- `shifting::chain::shift_chain` meets its contract. Assumes nothing.
+-- `shifting::chain::shift_chain` meets its contract.
 use Prim.Native.Nat.{_≤_}
 use native.Mathlib.Omega.{arith}
 use borrow.Author.Needs.{needs}

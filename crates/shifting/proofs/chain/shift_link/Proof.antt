@@ -1,4 +1,4 @@
--- `shifting::chain::shift_link` meets its contract. Assumes nothing.
+-- `shifting::chain::shift_link` meets its contract.
 use native.Mathlib.Omega.{arith}
 use borrow.Author.Needs.{needs}
 use Rattle.shifting.proofs.LinkLaws.{linked-none, linked-row}

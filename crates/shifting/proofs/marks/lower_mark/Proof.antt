@@ -1,4 +1,4 @@
--- `shifting::marks::lower_mark` meets its contract. Assumes nothing.
+-- `shifting::marks::lower_mark` meets its contract.
 use native.Mathlib.Omega.{arith}
 use borrow.Author.Needs.{needs}
 use Rattle.rules.specs.Table.{round-in}

@@ -1,4 +1,4 @@
--- `shifting::marks::marks_by` meets its contract. Assumes nothing.
+-- `shifting::marks::marks_by` meets its contract.
 use borrow.Author.Needs.{needs}
 use Rattle.rules.specs.Table.{round-in}
 use Rattle.theory.specs.Sane.{sound}

@@ -1,4 +1,4 @@
--- `shifting::marks::own_marks` meets its contract. Assumes nothing.
+-- `shifting::marks::own_marks` meets its contract.
 use Prim.Native.Nat.{_-_, _≤_}
 use native.Mathlib.Omega.{arith}
 use borrow.Author.Needs.{needs}

@@ -1,4 +1,4 @@
--- `shifting::marks::spread_marks` meets its contract. Assumes nothing.
+-- `shifting::marks::spread_marks` meets its contract.
 use Prim.Native.Nat.{_-_}
 use borrow.Author.Needs.{needs}
 use Rattle.shifting.proofs.MarkLaws.{Spreading, spread-start, spread-step, spread-end}

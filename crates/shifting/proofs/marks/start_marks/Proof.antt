@@ -1,4 +1,4 @@
--- `shifting::marks::start_marks` meets its contract. Assumes nothing.
+-- `shifting::marks::start_marks` meets its contract.
 use mathlib.Core.Path.{_≡_}
 use Prim.Native.Nat.{ℕ, _+_, _-_, _≤_, _<_}
 use native.Mathlib.Omega.{arith}

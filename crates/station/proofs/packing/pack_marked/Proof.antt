@@ -1,5 +1,5 @@
--- `station::packing::pack_marked` meets its contract. Assumes nothing.
-use Rattle.asking.specs.Asking.{of-marked}
+-- `station::packing::pack_marked` meets its contract.
+use Rattle.questions.specs.Questions.{of-marked}
 use Rattle.station.specs.Packing.{pack}
 use mathlib.Core.Path.{sym, ap}
 use borrow.Author.Needs.{needs}

@@ -1,4 +1,4 @@
--- `station::packing::pack_opened` meets its contract. Assumes nothing.
+-- `station::packing::pack_opened` meets its contract.
 use mathlib.Core.Path.{sym, ap}
 use Rattle.calls.specs.Replies.{of-opened}
 use Rattle.station.specs.Packing.{pack}

@@ -1,4 +1,4 @@
--- `station::packing::pack_sent` meets its contract. Assumes nothing.
+-- `station::packing::pack_sent` meets its contract.
 use Rattle.calls.specs.Steps.{of-sent}
 use Rattle.station.specs.Packing.{pack}
 use mathlib.Core.Path.{sym, ap, _∙_}

@@ -1,4 +1,4 @@
--- `station::packing::pack_step` meets its contract. Assumes nothing.
+-- `station::packing::pack_step` meets its contract.
 use Rattle.calls.specs.Steps.{of-step}
 use Rattle.rules.specs.Calls.{step}
 use Prim.Native.Nat.{_+_}

@@ -1,5 +1,5 @@
--- `station::packing::pack_substituted` meets its contract. Assumes nothing.
-use Rattle.asking.specs.Asking.{of-substituted}
+-- `station::packing::pack_substituted` meets its contract.
+use Rattle.questions.specs.Questions.{of-substituted}
 use Rattle.station.specs.Packing.{pack}
 use mathlib.Core.Path.{sym, ap}
 use borrow.Author.Needs.{needs}

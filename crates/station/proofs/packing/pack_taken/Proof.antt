@@ -1,4 +1,4 @@
--- `station::packing::pack_taken` meets its contract. Assumes nothing.
+-- `station::packing::pack_taken` meets its contract.
 use mathlib.Core.Path.{ap}
 use native.Mathlib.Omega.{arith}
 use Rattle.calls.specs.Replies.{of-taken}

@@ -1,5 +1,5 @@
--- `station::packing::pack_totalled` meets its contract. Assumes nothing.
-use Rattle.asking.specs.Asking.{of-totalled}
+-- `station::packing::pack_totalled` meets its contract.
+use Rattle.questions.specs.Questions.{of-totalled}
 use Rattle.station.specs.Packing.{pack, Small}
 use Prim.Native.Nat.{_≤_}
 use native.Mathlib.Omega.{arith}

@@ -1,4 +1,4 @@
--- `station::packing::pack_what` meets its contract. Assumes nothing.
+-- `station::packing::pack_what` meets its contract.
 use Rattle.station.proofs.Exported.{frame-packed, blank-packed}
 use native.Mathlib.Omega.{arith}
 use Rattle.calls.specs.Steps.{of-out}

@@ -1,4 +1,4 @@
--- `tally::keys::tally` meets its contract: the loop is `Tallying`: the first i rows are judged. Assumes nothing.
+-- `tally::keys::tally` meets its contract: the loop is `Tallying`: the first i rows are judged.
 use Prim.Native.Nat.{_-_, _≤_}
 use borrow.Author.Needs.{needs}
 use native.Mathlib.Omega.{arith}

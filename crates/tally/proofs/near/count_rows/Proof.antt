@@ -1,4 +1,4 @@
--- `tally::near::count_rows` meets its contract: the loop counts the first i rows (`Counting`). Assumes nothing.
+-- `tally::near::count_rows` meets its contract: the loop counts the first i rows (`Counting`).
 use Prim.Native.Nat.{_-_, _≤_}
 use borrow.Author.Needs.{needs}
 use native.Mathlib.Omega.{arith}

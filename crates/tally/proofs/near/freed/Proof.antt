@@ -1,4 +1,4 @@
--- `tally::near::freed` meets its contract: by the test. Assumes nothing.
+-- `tally::near::freed` meets its contract: by the test.
 use borrow.Author.Tests.{eq-eqb, ne-eqb}
 use Rattle.tally.proofs.near.freed.Statement.{statement}
 use Rattle.tally.proofs.near.freed.Tie as tie

@@ -1,4 +1,4 @@
--- `tally::near::reach_of` meets its contract: what the counts and the sweep say of the round (`reaches`). Assumes nothing.
+-- `tally::near::reach_of` meets its contract: what the counts and the sweep say of the round (`reaches`).
 use native.Mathlib.Omega.{arith}
 use borrow.Author.Needs.{needs}
 use Rattle.tally.proofs.NearLaws.{reaches}

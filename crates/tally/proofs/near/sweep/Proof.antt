@@ -1,4 +1,4 @@
--- `tally::near::sweep` meets its contract: the loop is `Sweeping`. Assumes nothing.
+-- `tally::near::sweep` meets its contract: the loop is `Sweeping`.
 use mathlib.Core.Path.{_≡_, refl}
 use borrow.Author.Needs.{needs}
 use native.Mathlib.Omega.{arith}

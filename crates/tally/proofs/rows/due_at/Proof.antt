@@ -1,4 +1,4 @@
--- `tally::rows::due_at` meets its contract: a row's due slot, by its bytes. Assumes nothing.
+-- `tally::rows::due_at` meets its contract: a row's due slot, by its bytes.
 use borrow.Author.Needs.{needs}
 use native.Mathlib.Omega.{arith}
 use Rattle.tally.proofs.RowLaws.{reads-within, due-read}

@@ -1,4 +1,4 @@
--- `tally::rows::key_of` meets its contract: the key, by its definition. Assumes nothing.
+-- `tally::rows::key_of` meets its contract: the key, by its definition.
 use borrow.Author.Needs.{needs}
 use Rattle.theory.specs.Keys.{key}
 use Rattle.tally.proofs.rows.key_of.Statement.{statement}

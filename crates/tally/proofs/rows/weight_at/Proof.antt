@@ -1,4 +1,4 @@
--- `tally::rows::weight_at` meets its contract: a row's weight, by its bytes. Assumes nothing.
+-- `tally::rows::weight_at` meets its contract: a row's weight, by its bytes.
 use borrow.Author.Needs.{needs}
 use native.Mathlib.Omega.{arith}
 use Rattle.tally.proofs.RowLaws.{reads-within, weight-read}

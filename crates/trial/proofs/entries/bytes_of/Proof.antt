@@ -1,4 +1,4 @@
--- `trial::entries::bytes_of` is safe and ends: the entries that are left fall. Assumes nothing.
+-- `trial::entries::bytes_of` is safe and ends: the entries that are left fall.
 use mathlib.Core.Path.{_≡_}
 use Prim.Native.Nat.{_-_}
 use lib.ListN.{length}

@@ -1,5 +1,5 @@
 -- `trial::entries::listed` is safe: a walk of its MIR, by hand. The array is taken apart into its entries; the first of them
--- are lent to the listing for a lifetime of the call, and come back. Assumes nothing.
+-- are lent to the listing for a lifetime of the call, and come back.
 use mathlib.Core.Path.{_≡_, refl, sym, ap, subst}
 use Prim.Native.Nat.{ℕ, _+_, _<_, _≤_, _^_}
 use native.Mathlib.Omega.{arith}
@@ -49,7 +49,7 @@ use denote.Triple.Table.{entered, cited}
 use denote.Triple.Walked.{says, needs, Stays, stay-none, stay-none-slice, walkOf, goes-none, goes-none-slice, Walks, ends-at, walked, walk-meets}
 use denote.Exit.{yes}
 use denote.Signature.{plain}
-use Rattle.rules.specs.Calls.{list-answer, list-left}
+use Rattle.rules.specs.Looking.{list-answer, list-left}
 use Rattle.listing.specs.Entries.{entry, of-listed}
 use Rattle.listing.specs.declared.Entry.{Entry}
 use Rattle.listing.specs.declared.Listed.{Listed}

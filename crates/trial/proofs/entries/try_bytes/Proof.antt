@@ -1,4 +1,4 @@
--- `trial::entries::try_bytes` is safe. Assumes nothing.
+-- `trial::entries::try_bytes` is safe.
 use borrow.Author.Needs.{needs}
 use Rattle.trial.proofs.entries.try_bytes.Statement.{statement}
 use Rattle.trial.proofs.entries.try_bytes.Tie as tie

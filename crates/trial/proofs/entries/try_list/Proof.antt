@@ -1,4 +1,4 @@
--- `trial::entries::try_list` is safe and ends: the bytes that are left fall. Assumes nothing.
+-- `trial::entries::try_list` is safe and ends: the bytes that are left fall.
 use mathlib.Core.Path.{_≡_}
 use Prim.Native.Nat.{_+_, _*_, _-_}
 use lib.ListN.{length}

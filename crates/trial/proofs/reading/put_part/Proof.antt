@@ -1,4 +1,4 @@
--- `trial::reading::put_part` is safe and ends: what is left of the part falls. Assumes nothing.
+-- `trial::reading::put_part` is safe and ends: what is left of the part falls.
 use mathlib.Core.Path.{_≡_}
 use Prim.Native.Nat.{_-_}
 use lib.ListN.{length}

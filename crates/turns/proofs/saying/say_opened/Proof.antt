@@ -1,4 +1,4 @@
--- `turns::saying::say_opened` meets its contract. Assumes nothing.
+-- `turns::saying::say_opened` meets its contract.
 use Rattle.turns.proofs.Said.{said-by}
 use borrow.Author.Needs.{needs}
 use Rattle.turns.proofs.saying.say_opened.Statement.{statement}

@@ -1,4 +1,4 @@
--- `turns::saying::say_step` meets its contract. Assumes nothing.
+-- `turns::saying::say_step` meets its contract.
 use Rattle.calls.specs.Steps.{of-out}
 use Rattle.lines.proofs.Writing.{ordinary-said, leap-said}
 use Rattle.turns.proofs.Said.{said-by}

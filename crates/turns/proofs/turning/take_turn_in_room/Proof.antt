@@ -1,4 +1,4 @@
--- `turns::turning::take_turn_in_room` meets its contract: the call that the command asks for, and its reply's line. Assumes nothing.
+-- `turns::turning::take_turn_in_room` meets its contract: the call that the command asks for, and its reply's line.
 use mathlib.Core.Path.{ap, ap₂}
 use Rattle.rules.specs.Calls.{opening, taking}
 use Rattle.rules.specs.Lines.{call-of}

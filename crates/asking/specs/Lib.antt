@@ -1,2 +1,0 @@
-pub mod Asking
-pub mod Finding

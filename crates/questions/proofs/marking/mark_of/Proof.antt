@@ -1,0 +1,36 @@
+-- `questions::marking::mark_of` meets its contract.
+use Rattle.theory.specs.Outcomes.{says-refused, judges, by-table}
+use Rattle.rules.specs.Calls.{marking}
+use Rattle.round.specs.Judge.{Judge-says}
+use mathlib.Core.Path.{subst}
+use borrow.Author.Needs.{needs}
+use Rattle.questions.proofs.marking.mark_of.Statement.{statement}
+use Rattle.questions.proofs.marking.mark_of.Tie as tie
+
+judge-requires : tie.Need-judge-requires
+judge-requires c κs = search needs
+
+enum-known-n : tie.Need-enum-known-n
+enum-known-n c = search needs
+
+enum-known-round : tie.Need-enum-known-round
+enum-known-round c = search needs
+
+mark-in-requires : tie.Need-mark-in-requires
+mark-in-requires c κs = subst (Judge-says (c .before .before .before .before .before .args .table .now)) (c .before .round .given .1)
+    (c .before .before .before .judge .ensures)
+
+returns : tie.Need-returns
+returns c =
+    let s = c .before .before .before .before .before in
+    let h = subst (Judge-says (s .args .table .now)) (c .before .n .given .1) (c .before .before .before .judge .ensures) in
+    says-refused (marking (s .args .slot .0)) (s .args .table .now) _
+    (by-table (marking (s .args .slot .0)) (s .args .table .now) _ (judges 0 0 (s .args .slot .0) .2) (h .0) (h .1)) (h .1)
+
+returns-2 : tie.Need-returns-2
+returns-2 c = search needs
+
+pub mark-of-spec : {M : Type 1} → statement M
+mark-of-spec =
+    tie.close
+    (tie.spec judge-requires enum-known-n enum-known-round mark-in-requires returns returns-2)

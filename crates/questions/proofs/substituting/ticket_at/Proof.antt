@@ -1,0 +1,26 @@
+-- `questions::substituting::ticket_at` meets its contract.
+use Rattle.questions.proofs.Standing.{ticket-read}
+use Rattle.tally.proofs.RowLaws.{reads-within}
+use native.Mathlib.Omega.{arith}
+use borrow.Author.Needs.{needs}
+use Rattle.questions.proofs.substituting.ticket_at.Statement.{statement}
+use Rattle.questions.proofs.substituting.ticket_at.Tie as tie
+
+row-at-requires : tie.Need-row-at-requires
+row-at-requires c κs = reads-within _ _ (c .before .pre .0) _ (c .before .pre .1) .0
+
+add-read4 : tie.Need-add-read4
+add-read4 c = search needs
+
+read4-requires : tie.Need-read4-requires
+read4-requires c κs =
+    let s = c .before .before in
+    let h = reads-within _ _ (s .pre .0) _ (s .pre .1) .1 in omega (arith, h, c .row-at .ensures)
+
+returns : tie.Need-returns
+returns c =
+    let s = c .before .before .before in
+    ticket-read _ _ _ _ _ (s .pre .0) (s .pre .1) (c .before .row-at .ensures) (c .read4 .ensures)
+
+pub ticket-at-spec : {M : Type 1} → statement M
+ticket-at-spec = tie.close (tie.spec row-at-requires add-read4 read4-requires returns)

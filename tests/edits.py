@@ -84,6 +84,7 @@ KINDS = [
 CONTRACTS = {
     "rules": "the definitions, held to the rounds, bytes and lines worked out by hand in crates/rules/proofs",
     "numbers": "numbers in bytes: read (`field`) and written (`low`)",
+    "packing": "each reply packed (`pack`), and read back (`Unpacks`)",
     "round": "`judge` (`Judge-says`): a table is sound, or refused with 2 or 3; `word`: 0 exactly when its eight bytes are",
     "plan": "`choose_rows` (`Chosen`): the flags are those of the plan's rows",
     "tally": "`reach_of` (`Reaches`): how far the plan is full; `tally` (`Tallied`): the plan's rows by due slot",
@@ -97,7 +98,7 @@ CONTRACTS = {
     "calls": "`open_round`, `take_frame`, `send_slot` (`Says`): reply and bytes",
     "questions": "`mark_of`, `plan_total` (`Says`); `substitute_of` (`Looks`)",
     "listing": "`list_plan` (`Lists`): reply and entries",
-    "station": "each exported call: the packed reply (`pack`) and the bytes (`Exports`, `Exports-look`)",
+    "station": "each exported call: the packed reply and the bytes (`Exports`, `Exports-look`)",
     "lines": "`read_command` (`read`), `payload` (`Part`), `write_line` (`Writes`), `line_end` (`Ends`), the reply writers (`Replies`)",
     "turns": "`take_turn_in_room` (`Turns`): a command's call on the table, and its reply's line",
     "serving": "`serve_in_room` (`Serves`): one read, and every byte it leaves; `answer_lines_in_room` (`Answers`); `fresh_table`",

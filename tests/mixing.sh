@@ -15,8 +15,14 @@ passed=0 failed=0
 # table, bytes and round are there to be passed on.
 signatures() {
     cat <<'EOF'
-round::Round { slot: <Slot>, last: <Slot>, next: <Ticket>, used: 0, room: 1 }
-round::Round::new(<Slot>, 1)
+sorts::Round { slot: <Slot>, last: <Slot>, next: <Ticket>, used: 0, room: 1 }
+sorts::Round::new(<Slot>, 1)
+replies::Taken::As(<Ticket>)
+replies::Out::Frame(<Ticket>)
+replies::Out::KeptBlank(<Ticket>)
+replies::Marked::At(<Weight>)
+replies::Substituted::Row(<Ticket>)
+replies::Substituted::Blank(<Slot>)
 round::rows::row_is_sound(bytes, round, <Ticket>)
 round::rows::write_row(table, 16, <Ticket>, <Slot>, <Weight>, 0)
 closing::close::close_up(table, round, <Ticket>)
@@ -26,14 +32,8 @@ closing::write::write_kept(table, 0, <Slot>, <Weight>)
 leap::send::Went { leap: false, ticket: <Ticket>, kind: 0 }
 calls::opening::open_round(<Slot>, table)
 calls::taking::take_frame(<Slot>, <Weight>, table)
-calls::taking::Taken::As(<Ticket>)
-calls::sending::Out::Frame(<Ticket>)
-calls::sending::Out::KeptBlank(<Ticket>)
 questions::marking::mark_of(<Slot>, bytes)
-questions::marking::Marked::At(<Weight>)
 questions::substituting::substitute_of(<Ticket>, bytes)
-questions::substituting::Substituted::Row(<Ticket>)
-questions::substituting::Substituted::Blank(<Slot>)
 listing::Entry { ticket: <Ticket>, due: <Slot>, weight: <Weight> }
 lines::Command::Open(<Slot>)
 lines::Command::Take(<Slot>, <Weight>)
@@ -63,7 +63,7 @@ write_crates() {
         function begin(crate, uses) {
             system("mkdir -p " crates "/" crate "/src")
             print crate ": " uses >>listed
-            write_in(crate, "use round::{Round, Slot, Ticket, Weight};")
+            write_in(crate, "use sorts::{Round, Slot, Ticket, Weight};")
         }
         function write_in(crate, text) {
             lines[crate]++
@@ -86,7 +86,7 @@ write_crates() {
             crate = "mixing_" NR
             over = $0
             sub(/::.*/, "", over)
-            begin(crate, over == "round" ? over : "round " over)
+            begin(crate, over == "sorts" ? over : "sorts " over)
             n = split($0, part, /[<>]/)
             name = part[1]
             sub(/[ (].*/, "", name)

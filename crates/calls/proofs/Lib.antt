@@ -2,4 +2,3 @@ pub mod Went
 pub mod Opened
 pub mod TakingNumber
 pub mod Taken
-pub mod Readings

@@ -11,7 +11,7 @@ use Rattle.rules.specs.Conditions.{used-in, row-at}
 use Rattle.rules.specs.Calls.{taking, ticket, take-refusal, round-refusal, refusal, says, leaves, Says}
 use Rattle.theory.specs.Clauses.{rows-count}
 use Rattle.theory.specs.Outcomes.{says-accepted, judges, by-round}
-use Rattle.round.specs.declared.Round.{Round}
+use Rattle.sorts.specs.declared.Round.{Round}
 use Rattle.round.specs.Head.{Head-of}
 use Rattle.round.specs.Numbers.{head-numbers, row-numbers}
 use Rattle.round.proofs.HeadLaws.{sound-head}
@@ -33,12 +33,12 @@ module _ (t : List ℕ) (h : Round) (sound : table-refusal t ≡ 0) (head : Head
   used-room = let s = sound-head t h sound head in omega (arith, s .used, s .few)
 
   module _ (free : number-of h d w ≡ 0) where
-    pub row-free : (row-at (h .used) + 24 ≤ length t) × (h .used < 1024) × (h .next .0 < 16777216)
+    pub row-free : (row-at (h .used) + 24 ≤ length t) × (h .used < 1024) × (h .next .0 < 16777216) × (h .used < h .room)
     row-free =
         let s = sound-head t h sound head in
         let n = number-none (h .slot .0) (h .last .0) (h .next .0) (h .used) (h .room) d w free in
         let m = n .0 in
-        (omega (arith, s .long, n .1), omega (arith, s .few, n .1), omega (arith, s .most))
+        (omega (arith, s .long, n .1), omega (arith, s .few, n .1), omega (arith, s .most), n .1)
 
     -- ALL WRITTEN: the numbers that the writers were given are those of the head, once a frame is taken, and of the frame
     pub taken-says : (s l n u : ℕ) (v z : List ℕ) (a j k e m : ℕ) →

@@ -1,17 +1,13 @@
 // Opening a round: refusals 2 and 4.
 ghost use Rattle.rules.specs.Calls.{opening, Says};
-ghost use Rattle.calls.specs.Replies.{of-opened};
-use round::Round;
-use round::Slot;
+ghost use Rattle.replies.specs.Replies.{of-opened};
+use replies::Opened;
 use round::head::length_is_good;
 use round::head::rows_of;
 use round::head::write_head;
 use round::zeros::clear;
-
-pub enum Opened {
-    Done,
-    Refused(u32),
-}
+use sorts::Round;
+use sorts::Slot;
 
 // Nothing that the table held is read.
 pub fn open_round(last: Slot, table: &mut [u8]) -> Opened

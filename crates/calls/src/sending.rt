@@ -4,30 +4,15 @@ ghost use Rattle.rules.specs.Table.{table-refusal};
 ghost use Rattle.rules.specs.Calls.{sending, Says};
 ghost use Rattle.round.specs.Head.{Head-of};
 ghost use Rattle.leap.specs.Send.{went-out, went-step};
-ghost use Rattle.calls.specs.Steps.{of-out, of-step, of-sent};
+ghost use Rattle.replies.specs.Replies.{of-out, of-step, of-sent};
 use leap::send::Went;
-use round::Round;
-use round::Ticket;
+use replies::Out;
+use replies::Sent;
+use replies::Step;
 use round::sound::Judged;
 use round::sound::judge;
 use sender::send_sound;
-
-// What went out; a kept blank goes out as an empty slot.
-pub enum Out {
-    Silence,
-    Frame(Ticket),
-    KeptBlank(Ticket),
-}
-
-pub enum Step {
-    Ordinary(Out),
-    Leap(Out),
-}
-
-pub enum Sent {
-    Went(Step),
-    Refused(u32),
-}
+use sorts::Round;
 
 pub fn send_slot(table: &mut [u8]) -> Sent
     ensures { λ r. ⌜ Says sending (of-sent r) (now (table .entry)) (now (table .exit)) ⌝ }

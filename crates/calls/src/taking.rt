@@ -3,22 +3,17 @@ ghost use mathlib.Core.Path.{_≡_};
 ghost use Rattle.rules.specs.Table.{table-refusal};
 ghost use Rattle.rules.specs.Calls.{taking, Says};
 ghost use Rattle.round.specs.Head.{Head-of};
-ghost use Rattle.calls.specs.Replies.{of-taken};
+ghost use Rattle.replies.specs.Replies.{of-taken};
 ghost use Rattle.calls.specs.Taking.{taking-number};
-use round::Round;
-use round::Slot;
-use round::Ticket;
-use round::Weight;
+use replies::Taken;
 use round::head::write_head;
 use round::rows::row_at;
 use round::rows::write_row;
 use round::sound::Judged;
 use round::sound::judge;
-
-pub enum Taken {
-    As(Ticket),
-    Refused(u32),
-}
+use sorts::Round;
+use sorts::Slot;
+use sorts::Weight;
 
 pub fn take_frame(due: Slot, weight: Weight, table: &mut [u8]) -> Taken
     ensures { λ r. ⌜ Says (taking (due .0) (weight .0)) (of-taken r) (now (table .entry)) (now (table .exit)) ⌝ }
@@ -41,18 +36,7 @@ fn take_into(table: &mut [u8], round: Round, due: Slot, weight: Weight) -> Taken
     let next = round.next;
     let at = row_at(round.used);
     write_row(table, at, next, due, weight, 0);
-    // The head once the frame is taken.
-    let slot = round.slot;
-    let last = round.last;
-    let later = next.0 + 1;
-    let used = round.used + 1;
-    let head = Round {
-        slot,
-        last,
-        next: Ticket(later),
-        used,
-        room: round.room,
-    };
+    let head = round.one_more();
     write_head(table, head);
     Taken::As(next)
 }

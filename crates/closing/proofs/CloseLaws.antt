@@ -20,7 +20,7 @@ use Rattle.theory.specs.Keys.{getD-in}
 use Rattle.theory.specs.Close.{stays, closed, head-bytes, length-head, table-is, kept-of, kept-most, closing-start, bytes-here, kept-more, kept-still, closing-skip, closing-copy, closing-paste, closing-rows, length-closed}
 use Rattle.theory.specs.Write.{head-sets, zeros-join, zero-byte}
 use Rattle.round.specs.Head.{Head-of}
-use Rattle.round.specs.declared.Round.{Round as Head}
+use Rattle.sorts.specs.declared.Round.{Round as Head}
 use Rattle.closing.specs.Close.{stays-in, Kept, Front, Closing-in, Closed-rows, closed-up}
 use Rattle.closing.proofs.HeadLaws.{head-slot, head-used, table-room}
 

@@ -11,7 +11,7 @@ use Rattle.theory.specs.Back.{length-table}
 use Rattle.theory.specs.Clauses.{rows-count}
 use Rattle.theory.specs.Sane.{sound}
 use Rattle.round.specs.Head.{Head-of}
-use Rattle.round.specs.declared.Round.{Round as Head}
+use Rattle.sorts.specs.declared.Round.{Round as Head}
 
 module _ {t : List ℕ} {h : Head} (d : Head-of t h) where
   pub head-slot : h .slot .0 ≡ round-in t .slot

@@ -10,11 +10,11 @@ ghost use Rattle.closing.specs.Close.{stays-in, Kept, Front, Closed-rows
 use numbers::read2;
 use numbers::read4;
 use numbers::write2;
-use round::Round;
-use round::Slot;
-use round::Ticket;
 use round::rows::row_at;
 use round::zeros::clear;
+use sorts::Round;
+use sorts::Slot;
+use sorts::Ticket;
 
 // Whether a row stays: due from a slot on, and not the one that goes.
 fn row_stays(table: &[u8], row: usize, slot: Slot, gone: Ticket) -> bool

@@ -8,10 +8,10 @@ ghost use Rattle.rules.specs.Conditions.{row-at};
 ghost use Rattle.rules.specs.Table.{low};
 use numbers::write2;
 use numbers::write4;
-use round::Round;
-use round::Slot;
-use round::Weight;
 use round::rows::row_at;
+use sorts::Round;
+use sorts::Slot;
+use sorts::Weight;
 
 // A shifted row: its due slot and weight.
 pub fn write_shift(table: &mut [u8], row: usize, due: Slot, weight: Weight)

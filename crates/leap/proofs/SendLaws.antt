@@ -28,7 +28,7 @@ use Rattle.pick.specs.declared.choice.Pick.the-variants.{First, Far, Kept, Swap
 use Rattle.tally.proofs.RowLaws.{known, at-is, reads-within}
 use Rattle.pick.proofs.SceneLaws.{Scene, scene, plan-rows, fine-at, free-high, flag-is}
 use Rattle.theory.specs.Close.{closed, after-slot}
-use Rattle.round.specs.declared.Round.{Round as Head}
+use Rattle.sorts.specs.declared.Round.{Round as Head}
 use Rattle.closing.specs.Close.{closed-up}
 use Rattle.shifting.specs.Chain.{row-named}
 use Rattle.leap.specs.Send.{Went-of, Silent, Leaves-alone, Goes-by, Noted, Sent-says}

@@ -24,7 +24,7 @@ use Rattle.theory.specs.Close.{closed, after-slot}
 use Rattle.theory.specs.Whole.{Sends, sends-answer}
 use Rattle.theory.specs.Sender.{left-sent}
 use Rattle.round.specs.Head.{Head-of}
-use Rattle.round.specs.declared.Round.{Round as Head}
+use Rattle.sorts.specs.declared.Round.{Round as Head}
 use Rattle.tally.proofs.RowLaws.{known}
 use Rattle.tally.specs.Rows.{Ready}
 use Rattle.closing.specs.Close.{closed-up}

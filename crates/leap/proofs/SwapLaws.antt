@@ -27,7 +27,7 @@ use Rattle.theory.specs.Near.{Near, near-out, near-edge}
 use Rattle.theory.specs.Count.{kept-counts}
 use Rattle.theory.specs.Segments.{Segment, segment-made}
 use Rattle.theory.specs.Whole.{Sends, sends-row, length-moves}
-use Rattle.round.specs.declared.Round.{Round as Head}
+use Rattle.sorts.specs.declared.Round.{Round as Head}
 use Rattle.tally.proofs.RowLaws.{known}
 use Rattle.tally.specs.Rows.{Ready, at, top-of}
 use Rattle.tally.specs.Near.{before, upto}

@@ -9,7 +9,7 @@ use Rattle.rules.specs.Table.{round-in}
 use Rattle.rules.specs.Calls.{Out, Step, out-of, sending, ordinary, leap, step, answer, left}
 use Rattle.theory.specs.Flags.{Chosen, with-flag}
 use Rattle.theory.specs.Whole.{Sends}
-use Rattle.round.specs.declared.Round.{Round as Head}
+use Rattle.sorts.specs.declared.Round.{Round as Head}
 use Rattle.tally.specs.Rows.{Ready, at, key-at, place}
 use Rattle.tally.specs.Near.{Counted, Reaches}
 use Rattle.tally.specs.Tally.{kept-key, Tops}

@@ -13,14 +13,14 @@ use numbers::read4;
 use pick::choice::Pick;
 use pick::lead::least_by;
 use pick::stretch::stretch_of;
-use round::Round;
-use round::Slot;
-use round::Ticket;
-use round::Weight;
 use round::rows::row_at;
 use shifting::chain::row_of;
 use shifting::chain::shift_chain;
 use shifting::marks::marks_by;
+use sorts::Round;
+use sorts::Slot;
+use sorts::Ticket;
+use sorts::Weight;
 use tally::near::Reach;
 
 // What went out: a row's ticket and kind; ticket 0 is silence.

@@ -2,8 +2,8 @@
 use mathlib.Core.Path.{_≡_, refl, ap}
 use Prim.Native.Nat.{ℕ}
 use native.Mathlib.Omega.{arith}
-use Rattle.round.specs.declared.Slot.{Slot}
-use Rattle.round.specs.declared.Weight.{Weight}
+use Rattle.sorts.specs.declared.Slot.{Slot}
+use Rattle.sorts.specs.declared.Weight.{Weight}
 use Rattle.rules.specs.Lines as rules
 use Rattle.lines.specs.declared.Command.{Command}
 use Rattle.lines.specs.declared.Command.the-variants.{Open, Take, Send}

@@ -8,8 +8,8 @@ use lib.ListN.{length, take, drop, length-drop}
 use lib.Seq.{length-take-le}
 use denote.Ref.{RefT}
 use borrow.Author.Tests.{lt-ltb, le-ltb}
-use Rattle.round.specs.declared.Slot.{Slot}
-use Rattle.round.specs.declared.Weight.{Weight}
+use Rattle.sorts.specs.declared.Slot.{Slot}
+use Rattle.sorts.specs.declared.Weight.{Weight}
 use Rattle.rules.specs.Lines as rules
 use Rattle.rules.specs.Lines.{open-line, take-line, send-line, command, broken, read, payload-at, place-of, payload-place, payload}
 use Rattle.theory.specs.Tests.{ltb?}

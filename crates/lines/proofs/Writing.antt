@@ -7,8 +7,8 @@ use native.Mathlib.Omega.{arith}
 use lib.Dec.{leb, eqb}
 use lib.ListN.{length, set, drop, length-append}
 use borrow.Author.Tests.{lt-ltb, le-ltb, le-leb, lt-leb, ne-eqb}
-use Rattle.round.specs.declared.Slot.{Slot}
-use Rattle.round.specs.declared.Weight.{Weight}
+use Rattle.sorts.specs.declared.Slot.{Slot}
+use Rattle.sorts.specs.declared.Weight.{Weight}
 use Rattle.rules.specs.Calls.{Out, silence, frame, kept-blank, ordinary, leap, step}
 use Rattle.rules.specs.Limits.{slot-digits, wide-digits, most-payload}
 use Rattle.rules.specs.Lines.{digits, all-digits, line-end, stands, reply-text, reply-digits, out-digits}

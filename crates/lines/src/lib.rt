@@ -1,6 +1,6 @@
 // Text lines: the command reader, the payload's part of a line, the line writer, where a line ends, and reply lines.
-use round::Slot;
-use round::Weight;
+use sorts::Slot;
+use sorts::Weight;
 
 mod digits; // digits.rt: digits, and numbers in digits
 mod reader; // reader.rt: a line's command

@@ -13,8 +13,8 @@ use crate::WEIGHT_AT;
 use crate::digits::Spelt;
 use crate::digits::digits_only;
 use crate::digits::number;
-use round::Slot;
-use round::Weight;
+use sorts::Slot;
+use sorts::Weight;
 
 // A command, or refusal 1.
 pub fn read_command(line: &[u8]) -> Reading

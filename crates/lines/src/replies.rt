@@ -8,7 +8,7 @@ use crate::KIND_DIGITS;
 use crate::LINE_END;
 use crate::WIDE_DIGITS;
 use crate::digits::put_number;
-use round::Ticket;
+use sorts::Ticket;
 
 // An opening's, into REPLY_ROOM or more.
 pub fn write_done_in_room(buffer: &mut [u8]) -> usize

@@ -20,7 +20,7 @@ use crate::Written;
 use crate::digits::digits_only;
 use crate::digits::put_bytes;
 use crate::digits::put_number;
-use round::Slot;
+use sorts::Slot;
 
 // Refusal 1 comes before 12, and a refusal changes no byte.
 pub fn write_line(command: Command, payload: &[u8], buffer: &mut [u8]) -> Written

@@ -10,7 +10,7 @@ use Rattle.rules.specs.Table.{round-in, table-refusal}
 use Rattle.rules.specs.Plan.{listed}
 use Rattle.rules.specs.Calls.{first, send-refusal}
 use Rattle.rules.specs.Looking.{list-refusal, list-answer, list-left}
-use Rattle.round.specs.declared.Round.{Round}
+use Rattle.sorts.specs.declared.Round.{Round}
 use Rattle.round.specs.Head.{Head-of}
 use Rattle.tally.specs.Rows.{Ready}
 use Rattle.tally.proofs.RowLaws.{Known, known, at-is, reads-within}

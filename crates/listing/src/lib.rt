@@ -12,13 +12,13 @@ ghost use Rattle.listing.specs.Listing.{Listing-says, Nothing-listed};
 use numbers::read2;
 use numbers::read4;
 use order::order_of;
-use round::Round;
-use round::Slot;
-use round::Ticket;
-use round::Weight;
 use round::rows::row_at;
 use round::sound::Judged;
 use round::sound::judge;
+use sorts::Round;
+use sorts::Slot;
+use sorts::Ticket;
+use sorts::Weight;
 
 // A row of the plan, as it is listed.
 pub struct Entry {

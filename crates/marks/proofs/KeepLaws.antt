@@ -14,7 +14,7 @@ use Rattle.theory.specs.Tests.{eqb?}
 use Rattle.theory.specs.Sum.{sum, sum-chosen, length-sum}
 use Rattle.theory.specs.Count.{in-bucket, sweep-out}
 use Rattle.theory.specs.Flags.{raised, with-flag, Chosen, chosen-rows}
-use Rattle.round.specs.declared.Round.{Round as Head}
+use Rattle.sorts.specs.declared.Round.{Round as Head}
 use Rattle.tally.specs.Rows.{Ready, at, top-of}
 use Rattle.tally.specs.Near.{Counted, Reaches}
 use Rattle.tally.specs.declared.near.Reach.{Reach}

@@ -18,7 +18,7 @@ use Rattle.theory.specs.Count.{kept-counts}
 use Rattle.theory.specs.Near.{Near, rows-feas, near-edge, far-mark, near-next, near-after, near-mark-least}
 use Rattle.theory.specs.Members.{Rows, planned-rows}
 use Rattle.theory.specs.Flags.{with-flag, Chosen, chosen-rows}
-use Rattle.round.specs.declared.Round.{Round as Head}
+use Rattle.sorts.specs.declared.Round.{Round as Head}
 use Rattle.tally.specs.Rows.{Ready, top-of}
 use Rattle.tally.specs.Near.{Counted, upto, Reaches}
 use Rattle.pick.specs.Lead.{Lightest, Least-by}

@@ -7,7 +7,7 @@ use Rattle.rules.specs.Table.{round-in}
 use Rattle.theory.specs.Near.{near-edge}
 use Rattle.theory.specs.Segments.{segment-begin, segment-end}
 use Rattle.theory.specs.Flags.{with-flag, Chosen, chosen-rows}
-use Rattle.round.specs.declared.Round.{Round as Head}
+use Rattle.sorts.specs.declared.Round.{Round as Head}
 use Rattle.tally.specs.Rows.{Ready}
 use Rattle.tally.specs.Near.{Counted, upto, Reaches}
 use Rattle.tally.specs.declared.near.Reach.{Reach}

@@ -20,7 +20,7 @@ use Rattle.theory.specs.Slack.{slack-is, tight-least, least-tight}
 use Rattle.theory.specs.Members.{Rows, of-rows-fine}
 use Rattle.theory.specs.Near.{rows-le, rows-feas, start-same}
 use Rattle.theory.specs.Flags.{with-flag, Chosen, chosen-rows}
-use Rattle.round.specs.declared.Round.{Round as Head}
+use Rattle.sorts.specs.declared.Round.{Round as Head}
 use Rattle.tally.specs.Rows.{Ready}
 use Rattle.tally.proofs.RowLaws.{known}
 use Rattle.marks.specs.Window.{window-at, Counted-in, Roomy}

@@ -21,7 +21,7 @@ use Rattle.theory.specs.Keys.{key, key-bound, getD-in}
 use Rattle.theory.specs.Index.{flag-in, first-at, later-at, later-none-at}
 use Rattle.theory.specs.Members.{found-member}
 use Rattle.theory.specs.Flags.{raised, with-flag, Chosen, chosen-rows}
-use Rattle.round.specs.declared.Round.{Round as Head}
+use Rattle.sorts.specs.declared.Round.{Round as Head}
 use Rattle.tally.specs.Rows.{Ready, Due-at, Weight-at, at, key-at}
 use Rattle.tally.proofs.RowLaws.{known}
 use Rattle.tally.proofs.TallyLaws.{flag-on, flag-off}

@@ -10,7 +10,7 @@ use crate::near::is_far;
 use crate::near::keep_counts;
 use crate::span::back_after;
 use pick::lead::least_by;
-use round::Round;
+use sorts::Round;
 use tally::near::Reach;
 
 // The least weight of the plan's rows due by the first tight slot at or after one; 0 for a far slot. Counts are reach_of's.

@@ -7,7 +7,7 @@ ghost use Rattle.rules.specs.Table.{round-in};
 ghost use Rattle.theory.specs.Flags.{with-flag, Chosen};
 ghost use Rattle.tally.specs.Rows.{Ready};
 ghost use Rattle.tally.specs.Near.{Counted, Reaches};
-use round::Round;
+use sorts::Round;
 use tally::near::Reach;
 use tally::rows::bucket_of;
 use tally::rows::due_at;

@@ -10,7 +10,7 @@ use crate::near::keep_counts;
 use crate::span::Span;
 use crate::span::span_of;
 use pick::stretch::stretch_of;
-use round::Round;
+use sorts::Round;
 use tally::near::Reach;
 
 // Where the plan is full by the plan's counts, else by the rows around the slot. Counts are reach_of's.

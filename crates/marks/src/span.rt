@@ -9,7 +9,7 @@ ghost use Rattle.marks.specs.Window.{Roomy};
 ghost use Rattle.marks.specs.Span.{one-back, Back-to, Begins, Spans};
 use crate::window::count_in;
 use crate::window::window_of;
-use round::Round;
+use sorts::Round;
 use tally::rows::wide;
 
 pub struct Span {

@@ -9,7 +9,7 @@ ghost use Rattle.tally.specs.Near.{Counted, Reaches};
 ghost use Rattle.marks.specs.Substitute.{can-offer, light-offer, left-offer, offer-of, better-of, Best-offer, Substitutes};
 use crate::segment::segment_of;
 use crate::span::Span;
-use round::Round;
+use sorts::Round;
 use tally::near::Reach;
 use tally::rows::due_at;
 use tally::rows::key_of;

@@ -7,7 +7,7 @@ ghost use Rattle.rules.specs.Plan.{total};
 ghost use Rattle.rules.specs.Table.{round-in};
 ghost use Rattle.theory.specs.Flags.{Chosen};
 ghost use Rattle.tally.specs.Rows.{Ready};
-use round::Round;
+use sorts::Round;
 use tally::rows::weight_at;
 
 // What a row adds, a frame or a kept blank.

@@ -6,7 +6,7 @@ ghost use Rattle.rules.specs.Table.{round-in};
 ghost use Rattle.theory.specs.Flags.{with-flag, Chosen};
 ghost use Rattle.tally.specs.Rows.{Ready};
 ghost use Rattle.marks.specs.Window.{window-at, bucket-in, Counted-in};
-use round::Round;
+use sorts::Round;
 use tally::rows::bucket_of;
 use tally::rows::due_at;
 

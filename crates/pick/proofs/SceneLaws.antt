@@ -18,7 +18,7 @@ use Rattle.theory.specs.Index.{flag-in, each-chosen, each-row, at-flag, not-hea
 use Rattle.theory.specs.Members.{Rows}
 use Rattle.theory.specs.Near.{near-out, near-edge}
 use Rattle.theory.specs.Flags.{raised, with-flag, Chosen, chosen-rows}
-use Rattle.round.specs.declared.Round.{Round as Head}
+use Rattle.sorts.specs.declared.Round.{Round as Head}
 use Rattle.tally.specs.Rows.{Ready, at, key-at, top-of, place}
 use Rattle.tally.specs.Near.{before, Reaches}
 use Rattle.tally.specs.Tally.{kept-key, left-key}

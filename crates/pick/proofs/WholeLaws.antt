@@ -20,7 +20,7 @@ use Rattle.theory.specs.Near.{chosen-all}
 use Rattle.theory.specs.Segments.{Segment, first-segment}
 use Rattle.theory.specs.Index.{each-row, each-chosen, flag-in}
 use Rattle.theory.specs.Flags.{raised, with-flag, raised-at, raised-all, all-chosen}
-use Rattle.round.specs.declared.Round.{Round as Head}
+use Rattle.sorts.specs.declared.Round.{Round as Head}
 use Rattle.tally.specs.Rows.{Ready, Due-at, Weight-at, at, key-at, top-of, place}
 use Rattle.tally.specs.Near.{Counted, upto, Reaches}
 use Rattle.tally.specs.Tally.{kept-key}

@@ -14,7 +14,7 @@ use crate::lead::leader_score;
 use crate::lead::peak_of;
 use crate::lead::score_of;
 use crate::lead::takes;
-use round::Round;
+use sorts::Round;
 use tally::near::Reach;
 use tally::rows::larger;
 use tally::rows::top_of;

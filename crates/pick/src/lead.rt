@@ -6,7 +6,7 @@ ghost use Rattle.rules.specs.PlanM.{score};
 ghost use Rattle.theory.specs.Flags.{Chosen};
 ghost use Rattle.tally.specs.Rows.{Ready};
 ghost use Rattle.pick.specs.Lead.{Greatest, Fair, leader-score, takes-lead, Least-by, Alone};
-use round::Round;
+use sorts::Round;
 use tally::rows::due_at;
 use tally::rows::larger;
 use tally::rows::smaller;

@@ -9,7 +9,7 @@ ghost use Rattle.pick.specs.Whole.{every, Gathers, Leaps};
 use crate::choice::Pick;
 use crate::lead::score_of;
 use crate::stretch::stretch_of;
-use round::Round;
+use sorts::Round;
 use tally::near::Reach;
 use tally::rows::due_at;
 use tally::rows::key_of;

@@ -14,7 +14,7 @@ use Rattle.theory.specs.Sum.{sum}
 use Rattle.theory.specs.Count.{bucket, under, counts-none}
 use Rattle.theory.specs.Near.{chosen-all}
 use Rattle.theory.specs.Flags.{raised, raised-all}
-use Rattle.round.specs.declared.Round.{Round as Head}
+use Rattle.sorts.specs.declared.Round.{Round as Head}
 use Rattle.tally.specs.Rows.{Ready, at, top-of, place}
 use Rattle.tally.specs.Near.{Counted, upto, Reaches}
 use Rattle.tally.specs.declared.near.Reach.{Reach}

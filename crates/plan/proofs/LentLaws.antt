@@ -10,7 +10,7 @@ use Rattle.rules.specs.Table.{round-in}
 use Rattle.rules.specs.Conditions.{used-in}
 use Rattle.theory.specs.Clauses.{rows-count}
 use Rattle.theory.specs.Flags.{Chosen, all-chosen}
-use Rattle.round.specs.declared.Round.{Round as Head}
+use Rattle.sorts.specs.declared.Round.{Round as Head}
 use Rattle.round.proofs.HeadLaws.{sound-head}
 use Rattle.tally.specs.Rows.{Ready}
 use Rattle.tally.specs.Near.{Reaches}

@@ -9,7 +9,7 @@ use Rattle.rules.specs.Table.{round-in, table-refusal}
 use Rattle.rules.specs.Conditions.{slot-in, used-in, due-in, weight-in}
 use Rattle.theory.specs.Clauses.{rows-count, length-long, accepted-length}
 use Rattle.theory.specs.Soundness.{accepted-sound}
-use Rattle.round.specs.declared.Round.{Round as Head}
+use Rattle.sorts.specs.declared.Round.{Round as Head}
 use Rattle.tally.specs.Rows.{Ready, Due-at, Weight-at, at}
 use Rattle.tally.proofs.RowLaws.{at-held}
 use Rattle.plan.specs.Keys.{key-in}

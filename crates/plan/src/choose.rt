@@ -14,7 +14,7 @@ use crate::lists::link;
 use crate::one::crowd_of;
 use crate::one::leave_one;
 use crate::sweep::sweep;
-use round::Round;
+use sorts::Round;
 use tally::near::Reach;
 
 // Rows due before free pass through a heap; the others stay. The arrays take 12 KB of stack.

@@ -12,7 +12,7 @@ ghost use Rattle.plan.specs.Sweep.{Lightest, Kept};
 use crate::keys::ahead_of;
 use crate::keys::key_at;
 use crate::keys::row_of;
-use round::Round;
+use sorts::Round;
 use tally::rows::larger;
 use tally::rows::wide;
 

@@ -11,7 +11,7 @@ use crate::heap::rise;
 use crate::heap::sink;
 use crate::keys::key_at;
 use crate::keys::row_of;
-use round::Round;
+use sorts::Round;
 use tally::rows::wide;
 
 // One row. Answers how many are kept.

@@ -11,7 +11,7 @@ use Rattle.rules.specs.Table.{round-in, table-refusal}
 use Rattle.theory.specs.Members.{certified-found}
 use Rattle.theory.specs.Unique.{plan-certified}
 use Rattle.theory.specs.Near.{far-mark}
-use Rattle.round.specs.declared.Round.{Round as Head}
+use Rattle.sorts.specs.declared.Round.{Round as Head}
 use Rattle.round.specs.Head.{Head-of}
 use Rattle.tally.specs.Rows.{Ready}
 use Rattle.tally.specs.Near.{Reaches}

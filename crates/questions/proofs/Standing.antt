@@ -18,7 +18,7 @@ use Rattle.theory.specs.Change.{rising-above}
 use Rattle.theory.specs.Unique.{certified-at}
 use Rattle.theory.specs.Keys.{getD-in}
 use Rattle.theory.specs.Flags.{raised, Chosen, raised-at}
-use Rattle.round.specs.declared.Round.{Round as Head}
+use Rattle.sorts.specs.declared.Round.{Round as Head}
 use Rattle.tally.specs.Rows.{Ready, at}
 use Rattle.tally.proofs.RowLaws.{known, at-is}
 use Rattle.questions.specs.Finding.{Stands}

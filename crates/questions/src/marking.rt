@@ -6,21 +6,17 @@ ghost use Rattle.rules.specs.Table.{round-in, table-refusal};
 ghost use Rattle.rules.specs.Calls.{marking, Says};
 ghost use Rattle.round.specs.Head.{Head-of};
 ghost use Rattle.tally.specs.Rows.{Ready};
-ghost use Rattle.questions.specs.Questions.{of-marked};
+ghost use Rattle.replies.specs.Replies.{of-marked};
 use marks::mark::mark_at;
 use marks::near::is_far;
 use plan::choose::choose_rows;
-use round::Round;
-use round::Slot;
-use round::Weight;
+use replies::Marked;
 use round::sound::Judged;
 use round::sound::judge;
+use sorts::Round;
+use sorts::Slot;
+use sorts::Weight;
 use tally::near::reach_of;
-
-pub enum Marked {
-    At(Weight),
-    Refused(u32),
-}
 
 pub fn mark_of(slot: Slot, table: &[u8]) -> Marked
     ensures { λ r. ⌜ Says (marking (slot .0)) (of-marked r) (now (table .entry)) (now (table .exit)) ⌝ }

@@ -7,26 +7,21 @@ ghost use Rattle.theory.specs.Flags.{Chosen};
 ghost use Rattle.round.specs.Head.{Head-of};
 ghost use Rattle.tally.specs.Rows.{Ready, at};
 ghost use Rattle.tally.specs.Near.{Counted, Reaches};
-ghost use Rattle.questions.specs.Questions.{of-substituted};
+ghost use Rattle.replies.specs.Replies.{of-substituted};
 ghost use Rattle.questions.specs.Finding.{Finds, Stands};
 use marks::substitute::Sub;
 use marks::substitute::substitute_at;
 use numbers::read4;
 use plan::choose::choose_rows;
-use round::Round;
-use round::Slot;
-use round::Ticket;
+use replies::Substituted;
 use round::rows::row_at;
 use round::sound::Judged;
 use round::sound::judge;
+use sorts::Round;
+use sorts::Slot;
+use sorts::Ticket;
 use tally::near::Reach;
 use tally::near::reach_of;
-
-pub enum Substituted {
-    Row(Ticket),
-    Blank(Slot),
-    Refused(u32),
-}
 
 pub fn substitute_of(ticket: Ticket, table: &[u8]) -> Substituted
     ensures { λ r. ⌜ Looks (substitute-answer (ticket .0) (now (table .entry))) (of-substituted r) (now (table .entry)) (now (table .exit)) ⌝ }

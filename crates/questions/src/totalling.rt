@@ -5,18 +5,14 @@ ghost use Rattle.rules.specs.Table.{round-in, table-refusal};
 ghost use Rattle.rules.specs.Calls.{totalling, Says};
 ghost use Rattle.round.specs.Head.{Head-of};
 ghost use Rattle.tally.specs.Rows.{Ready};
-ghost use Rattle.questions.specs.Questions.{of-totalled};
+ghost use Rattle.replies.specs.Replies.{of-totalled};
 use marks::total::total_of;
 use plan::choose::choose_rows;
-use round::Round;
+use replies::Totalled;
 use round::sound::Judged;
 use round::sound::judge;
+use sorts::Round;
 use tally::near::reach_of;
-
-pub enum Totalled {
-    Of(u64),
-    Refused(u32),
-}
 
 pub fn plan_total(table: &[u8]) -> Totalled
     ensures { λ r. ⌜ Says totalling (of-totalled r) (now (table .entry)) (now (table .exit)) ⌝ }

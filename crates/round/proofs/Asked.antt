@@ -8,7 +8,7 @@ use Rattle.rules.specs.Rows.{round}
 use Rattle.rules.specs.Table.{round-in, table-refusal}
 use Rattle.rules.specs.Calls.{sending, marking, totalling, send-refusal, mark-refusal, round-refusal, refusal}
 use Rattle.theory.specs.Outcomes.{judges, by-round}
-use Rattle.round.specs.declared.Round.{Round as Head}
+use Rattle.sorts.specs.declared.Round.{Round as Head}
 use Rattle.round.specs.Head.{Head-of}
 
 module _ (t : List ℕ) (h : Head) (sound : table-refusal t ≡ 0) (head : Head-of t h) where

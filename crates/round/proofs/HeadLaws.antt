@@ -14,7 +14,7 @@ use Rattle.theory.specs.Back.{length-table, rising-le}
 use Rattle.theory.specs.Judge.{head-judged}
 use Rattle.theory.specs.Clauses.{rows-count}
 use Rattle.theory.specs.Sane.{sound}
-use Rattle.round.specs.declared.Round.{Round}
+use Rattle.sorts.specs.declared.Round.{Round}
 use Rattle.round.specs.Head.{Head-of}
 use Rattle.round.proofs.ZeroLaws.{zeros-split, zeros-field}
 

@@ -13,7 +13,7 @@ use Rattle.theory.specs.Tests.{and-true}
 use Rattle.theory.specs.Judge.{zeros, rows-judged, head-judged, judged}
 use Rattle.theory.specs.Judged.{judged-refusal}
 use Rattle.theory.specs.Checks.{refusal-two}
-use Rattle.round.specs.declared.Round.{Round}
+use Rattle.sorts.specs.declared.Round.{Round}
 use Rattle.round.specs.declared.sound.Judged.the-variants.{Sound, Refused}
 use Rattle.round.specs.Head.{Head-of}
 use Rattle.round.specs.Judge.{Judge-says}

@@ -5,4 +5,3 @@ pub mod JudgeLaws
 pub mod WriteLaws
 pub mod TableLaws
 pub mod Asked
-pub mod Sorts

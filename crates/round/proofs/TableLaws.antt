@@ -16,7 +16,7 @@ use Rattle.theory.specs.Close.{head-bytes, length-head, table-is, rows-append, 
 use Rattle.theory.specs.Write.{sets-mid}
 use Rattle.theory.specs.Sender.{table-parts}
 use Rattle.theory.specs.Clauses.{rows-count}
-use Rattle.round.specs.declared.Round.{Round}
+use Rattle.sorts.specs.declared.Round.{Round}
 use Rattle.round.specs.Head.{Head-of}
 use Rattle.round.specs.Numbers.{head-numbers, row-numbers}
 use Rattle.round.proofs.WriteLaws.{head-over}

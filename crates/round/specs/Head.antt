@@ -4,7 +4,7 @@ use mathlib.Core.List.{List}
 use Prim.Native.Nat.{ℕ}
 use Rattle.rules.specs.Table.{rows-of}
 use Rattle.rules.specs.Conditions.{slot-in, last-in, next-in, used-in}
-use Rattle.round.specs.declared.Round.{Round}
+use Rattle.sorts.specs.declared.Round.{Round}
 
 -- the five numbers are those that a table's bytes hold
 pub record Head-of (t : List ℕ) (h : Round) : Type 0 where

@@ -8,13 +8,13 @@ ghost use Rattle.rules.specs.Table.{length-good, rows-of};
 ghost use Rattle.theory.specs.Judge.{head-judged};
 ghost use Rattle.round.specs.Head.{Head-of};
 ghost use Rattle.round.specs.Numbers.{head-numbers};
-use crate::Round;
-use crate::Slot;
-use crate::Ticket;
 use numbers::read2;
 use numbers::read4;
 use numbers::write2;
 use numbers::write4;
+use sorts::Round;
+use sorts::Slot;
+use sorts::Ticket;
 
 // Refusal 2: whether a length is that of a head and 1 to 1,024 rows.
 pub fn length_is_good(length: usize) -> bool

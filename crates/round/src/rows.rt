@@ -7,15 +7,15 @@ ghost use Rattle.rules.specs.Limits.{head-size, row-size, most-rows};
 ghost use Rattle.rules.specs.Conditions.{row-at};
 ghost use Rattle.theory.specs.Judge.{row-judged, rows-judged};
 ghost use Rattle.round.specs.Numbers.{row-numbers};
-use crate::Round;
-use crate::Slot;
-use crate::Ticket;
-use crate::Weight;
 use numbers::read2;
 use numbers::read4;
 use numbers::read8;
 use numbers::write2;
 use numbers::write4;
+use sorts::Round;
+use sorts::Slot;
+use sorts::Ticket;
+use sorts::Weight;
 
 // Where a row begins; the place behind the last row, too.
 pub fn row_at(row: usize) -> usize

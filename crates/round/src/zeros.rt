@@ -7,8 +7,8 @@ ghost use Rattle.rules.specs.Limits.{row-size};
 ghost use Rattle.rules.specs.Conditions.{_⟺_};
 ghost use Rattle.theory.specs.Judge.{zeros};
 ghost use Rattle.theory.specs.Fields.{Zeros};
-use crate::Round;
 use numbers::read8;
+use sorts::Round;
 
 // Whether all bytes from a place on are zero; whole rows follow it.
 pub fn zeros_from(table: &[u8], from: usize) -> bool

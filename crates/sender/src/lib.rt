@@ -15,7 +15,7 @@ use pick::choice::Pick;
 use pick::choice::choose;
 use pick::whole::choose_all;
 use plan::choose::choose_rows;
-use round::Round;
+use sorts::Round;
 use tally::keys::tally;
 use tally::near::Reach;
 use tally::near::reach_of;

@@ -9,7 +9,7 @@ use Rattle.rules.specs.Table.{round-in}
 use Rattle.theory.specs.Feas.{num}
 use Rattle.theory.specs.Flags.{with-flag}
 use Rattle.theory.specs.Sane.{sound}
-use Rattle.round.specs.declared.Round.{Round as Head}
+use Rattle.sorts.specs.declared.Round.{Round as Head}
 use Rattle.tally.proofs.RowLaws.{Known, known}
 use Rattle.tally.specs.declared.near.Reach.{Reach}
 use Rattle.pick.proofs.SceneLaws.{Scene, scene}

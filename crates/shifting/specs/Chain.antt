@@ -14,7 +14,7 @@ use Rattle.theory.specs.Feas.{num}
 use Rattle.theory.specs.Flags.{Chosen, with-flag}
 use Rattle.theory.specs.Chain.{Chain, moves}
 use Rattle.theory.specs.Segments.{Segment}
-use Rattle.round.specs.declared.Round.{Round as Head}
+use Rattle.sorts.specs.declared.Round.{Round as Head}
 use Rattle.tally.specs.Rows.{Ready, place}
 use Rattle.tally.specs.Near.{Counted, Reaches}
 use Rattle.tally.specs.Tally.{kept-key, Tops}

@@ -6,7 +6,7 @@ ghost use Rattle.rules.specs.Table.{round-in};
 ghost use Rattle.theory.specs.Flags.{Chosen};
 ghost use Rattle.tally.specs.Rows.{Ready};
 ghost use Rattle.shifting.specs.Marks.{Blank-marks, Lowered, lowered, Own-marks, Marks};
-use round::Round;
+use sorts::Round;
 use tally::rows::due_at;
 use tally::rows::smaller;
 use tally::rows::weight_at;

@@ -14,7 +14,7 @@ use Rattle.theory.specs.Sum.{sum, sum-chosen, total-sum}
 use Rattle.theory.specs.Full.{Fine, Row-fine}
 use Rattle.theory.specs.Same.{planned-weighs}
 use Rattle.theory.specs.Sane.{sound}
-use Rattle.station.specs.Packing.{Small}
+use Rattle.packing.specs.Packing.{Small-amount}
 use Rattle.station.proofs.Fitting.{first-none}
 
 pub weights-most : (r : Round) (xs : List Row) → All (Row-fine r) xs → sum (λ x. x .weight) xs ≤ 16777216 * length xs
@@ -32,7 +32,7 @@ total-most r f h =
       weights-most r (r .rows) (f .fine),
     )
 
-pub total-answer-small : (t : List ℕ) → Small (answer totalling t)
+pub total-answer-small : (t : List ℕ) → Small-amount (answer totalling t)
 unfolding answer refusal table-first round-refusal says
 total-answer-small t = elim (eqb? (first (table-refusal t) (send-refusal (round-in t))) 0) [
   | inl e ↦

@@ -15,11 +15,12 @@ use Rattle.rules.specs.Looking.{with-ticket, stand-in, substitute-answer}
 use Rattle.theory.specs.Tests.{eqb?, both-ways, positive}
 use Rattle.theory.specs.All.{all-of-in}
 use Rattle.theory.specs.Sane.{Sane, sound}
-use Rattle.station.specs.Packing.{Fits-out, silence-fits, frame-fits, blank-fits, Fits, ordinary-fits, leap-fits, mark-fits, total-fits, Answers-fit, Unpacks, Fits-substitute, refusal-stands, row-stands, blank-stands, Replies-back}
-use Rattle.station.proofs.Unpack.{unpacks, substitute-unpacks}
+use Rattle.packing.specs.Packing.{Fits-out, silence-fits, frame-fits, blank-fits, Fits, ordinary-fits, leap-fits, mark-fits, total-fits, Unpacks, Fits-substitute, refusal-stands, row-stands, blank-stands}
+use Rattle.packing.proofs.Unpack.{unpacks, substitute-unpacks}
+use Rattle.station.specs.Exports.{Answers-fit, Replies-back}
 use Rattle.station.proofs.Fitting.{small-or, small-first, small-table, answers-fit, first-none, opening-answers, taking-answers}
 use Rattle.station.proofs.Amounts.{total-most, mark-most}
-use Rattle.station.proofs.Within.{Within, best-within, substitute-within}
+use Rattle.station.proofs.RowsFit.{Fits-row, best-fits, substitute-fits}
 
 -- A SENDING
 out-fits : (p : Row) → p .ticket < 16777216 → Fits-out (out-of p)
@@ -41,7 +42,7 @@ unfolding Answers-fit refusal table-first round-refusal says
 sending-answers t =
     answers-fit sending t (small-first _ _ (small-table t) (small-send (round-in t)))
     (λ e. let s = sound t (first-none (table-refusal t) (send-refusal (round-in t)) e .0) .sane in
-    step-fits (is-ordinary (round-in t)) _ (out-fits (best (round-in t) (plan (round-in t))) (best-within (round-in t) s .0)))
+    step-fits (is-ordinary (round-in t)) _ (out-fits (best (round-in t) (plan (round-in t))) (best-fits (round-in t) s .0)))
 
 -- A MARK, a total
 small-mark : (r : Round) (s : ℕ) → mark-refusal r s < 256
@@ -63,7 +64,7 @@ totalling-answers t =
     total-fits (total-most (round-in t) (s .fine) (omega (arith, s .size .long, s .size .room))))
 
 -- A SUBSTITUTE
-row-fits : (s : Row) → Within s → Fits-substitute (cond (eqb (s .ticket) 0) (blank-due (s .due)) (ticket (s .ticket)))
+row-fits : (s : Row) → Fits-row s → Fits-substitute (cond (eqb (s .ticket) 0) (blank-due (s .due)) (ticket (s .ticket)))
 row-fits s w = elim (eqb? (s .ticket) 0) [
   | inl e ↦ rw (e .0) (blank-stands (w .1))
   | inr e ↦ rw (e .0) (row-stands (positive (s .ticket) (e .1)) (w .0))
@@ -80,7 +81,7 @@ stand-in-fits r s k =
     found-fits (λ o. Fits-substitute (stand-in r o)) k (r .rows) (refusal-stands (omega arith) (omega arith))
     (all-of-in (λ x. Fits-substitute (stand-in r (some x))) (r .rows) (λ x i.
     both-ways Fits-substitute (in-plan x (plan r)) _ (refused 11)
-    (λ _. row-fits (substitute r (plan r) x) (substitute-within r s x i))
+    (λ _. row-fits (substitute r (plan r) x) (substitute-fits r s x i))
     (λ _. refusal-stands (omega arith) (omega arith))))
 
 pub substitute-answers : (k : ℕ) (t : List ℕ) → Fits-substitute (substitute-answer k t)

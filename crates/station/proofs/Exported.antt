@@ -1,11 +1,11 @@
 -- An exported call's promise from that of the call behind it, for arguments that are equal numbers.
 use mathlib.Core.Path.{_≡_, ap, _∙_}
 use mathlib.Core.List.{List}
-use Prim.Native.Nat.{ℕ, _+_, _*_}
-use native.Mathlib.Omega.{arith}
-use Rattle.rules.specs.Calls.{Call, Reply, opening, taking, marking, frame, kept-blank, Says}
+use Prim.Native.Nat.{ℕ}
+use Rattle.rules.specs.Calls.{Call, Reply, opening, taking, marking, Says}
 use Rattle.rules.specs.Looking.{substitute-answer, Looks}
-use Rattle.station.specs.Packing.{pack-out, pack, Exports, Exports-look}
+use Rattle.packing.specs.Packing.{pack}
+use Rattle.station.specs.Exports.{Exports, Exports-look}
 
 pub opening-exported : (l m n : ℕ) (a : Reply) (t z : List ℕ) → m ≡ l → n ≡ pack a → Says (opening m) a t z → Exports (opening l) n t z
 opening-exported l m n a t z e f s = let x : Exports (opening m) n t z = (f ∙ ap pack (s .0), s .1) in rw e at x
@@ -24,12 +24,3 @@ marking-exported s u n a t z e f g = let x : Exports (marking u) n t z = (f ∙ 
 pub substitute-exported : (k u n : ℕ) (a : Reply) (t z : List ℕ) → u ≡ k → n ≡ pack a → Looks (substitute-answer u t) a t z →
     Exports-look (substitute-answer k t) n t z
 substitute-exported k u n a t z e f g = (f ∙ ap pack (g .0 ∙ ap (λ (v : ℕ). substitute-answer v t) e), g .1)
-
--- a ticket with what went out
-pub frame-packed : (k n : ℕ) → n ≡ 256 * k + 1 * 4294967296 → n ≡ pack-out (frame k)
-unfolding pack-out
-frame-packed k n e = omega (arith, e)
-
-pub blank-packed : (k n : ℕ) → n ≡ 256 * k + 2 * 4294967296 → n ≡ pack-out (kept-blank k)
-unfolding pack-out
-blank-packed k n e = omega (arith, e)

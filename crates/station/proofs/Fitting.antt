@@ -14,7 +14,8 @@ use Rattle.rules.specs.Calls.{Call, opening, taking, first, open-refusal, take-
 use Rattle.theory.specs.Tests.{eqb?}
 use Rattle.theory.specs.Calls.{no-refusal}
 use Rattle.theory.specs.Sane.{sound}
-use Rattle.station.specs.Packing.{Fits, refusal-fits, opening-fits, taking-fits, Answers-fit}
+use Rattle.packing.specs.Packing.{Fits, refusal-fits, opening-fits, taking-fits}
+use Rattle.station.specs.Exports.{Answers-fit}
 
 -- EVERY REFUSAL is below 2^8
 pub small-or : (b : Bool) (m n : ℕ) → m < 256 → n < 256 → cond b m n < 256

@@ -1,6 +1,5 @@
 pub mod Exported
-pub mod Unpack
 pub mod Fitting
 pub mod Amounts
-pub mod Within
+pub mod RowsFit
 pub mod Answers

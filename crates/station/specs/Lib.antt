@@ -1,1 +1,1 @@
-pub mod Packing
+pub mod Exports

@@ -1,24 +1,22 @@
 // The C boundary: each call over numbers and the lent table, its reply packed into one number by docs/REPLIES.md.
 ghost use Rattle.rules.specs.Calls.{opening, taking, sending, marking, totalling};
 ghost use Rattle.rules.specs.Looking.{substitute-answer};
-ghost use Rattle.station.specs.Packing.{Exports, Exports-look};
-use crate::packing::pack_marked;
-use crate::packing::pack_opened;
-use crate::packing::pack_sent;
-use crate::packing::pack_substituted;
-use crate::packing::pack_taken;
-use crate::packing::pack_totalled;
+ghost use Rattle.station.specs.Exports.{Exports, Exports-look};
 use calls::opening::open_round;
 use calls::sending::send_slot;
 use calls::taking::take_frame;
+use packing::pack_marked;
+use packing::pack_opened;
+use packing::pack_sent;
+use packing::pack_substituted;
+use packing::pack_taken;
+use packing::pack_totalled;
 use questions::marking::mark_of;
 use questions::substituting::substitute_of;
 use questions::totalling::plan_total;
-use round::Slot;
-use round::Ticket;
-use round::Weight;
-
-mod packing; // packing.rt: replies as numbers
+use sorts::Slot;
+use sorts::Ticket;
+use sorts::Weight;
 
 #[no_mangle]
 pub extern "C" fn lirvedd_open(last: u32, table: &mut [u8]) -> u64

@@ -14,7 +14,7 @@ use Rattle.theory.specs.Tests.{leb?, eqb?}
 use Rattle.theory.specs.Sum.{sum, sum-le, length-sum}
 use Rattle.theory.specs.Count.{bucket, in-bucket, counts-next, counts-none, Sweep, sweep-start, sweep-more, sweep-idle, sweep-near, sweep-none}
 use Rattle.theory.specs.Index.{sum-next}
-use Rattle.round.specs.declared.Round.{Round as Head}
+use Rattle.sorts.specs.declared.Round.{Round as Head}
 use Rattle.tally.specs.Rows.{Ready, Due-at, at, top-of, place}
 use Rattle.tally.specs.Near.{Counted, before, upto, first-free, Swept, Reaches}
 use Rattle.tally.specs.declared.near.Reach.{Reach}

@@ -13,7 +13,7 @@ use Rattle.theory.specs.Keys.{getD-in}
 use Rattle.theory.specs.Sane.{sound}
 use Rattle.theory.specs.Clauses.{rows-count, length-long, accepted-length}
 use Rattle.theory.specs.Soundness.{row-in, row-there, row-next}
-use Rattle.round.specs.declared.Round.{Round as Head}
+use Rattle.sorts.specs.declared.Round.{Round as Head}
 use Rattle.tally.specs.Rows.{Ready, Due-at, Weight-at, at}
 
 -- WHAT A READY TABLE IS: its round is sound and small, and the head's numbers are the round's

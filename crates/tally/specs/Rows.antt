@@ -9,7 +9,7 @@ use Rattle.rules.specs.Table.{table-refusal}
 use Rattle.theory.specs.Keys.{key}
 use Rattle.theory.specs.Count.{bucket}
 use Rattle.round.specs.Head.{Head-of}
-use Rattle.round.specs.declared.Round.{Round as Head}
+use Rattle.sorts.specs.declared.Round.{Round as Head}
 
 -- what every call here asks for: a sound table with its head, and a slot left
 pub record Ready (t : List ℕ) (h : Head) : Type 0 where

@@ -12,7 +12,7 @@ use crate::rows::key_of;
 use crate::rows::larger;
 use crate::rows::top_of;
 use crate::rows::weight_at;
-use round::Round;
+use sorts::Round;
 
 // Counts of all rows become those of the plan's; kept and left get the greatest key of each bucket, 0 where it has none.
 pub fn tally(

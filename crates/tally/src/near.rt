@@ -9,7 +9,7 @@ use crate::rows::bucket_of;
 use crate::rows::due_at;
 use crate::rows::top_of;
 use crate::rows::wide;
-use round::Round;
+use sorts::Round;
 
 // From bucket free on every row is in the plan; over rows are left out.
 pub struct Reach {

@@ -6,8 +6,8 @@ ghost use Rattle.theory.specs.Keys.{key};
 ghost use Rattle.tally.specs.Rows.{Ready, Due-at, Weight-at};
 use numbers::read2;
 use numbers::read4;
-use round::Round;
 use round::rows::row_at;
+use sorts::Round;
 
 // The last bucket: all rows due later count there, too.
 pub fn top_of(round: Round) -> usize

@@ -7,9 +7,9 @@ use listing::Entry;
 use listing::Listed;
 use listing::list_plan;
 use numbers::write4;
-use round::Slot;
-use round::Ticket;
-use round::Weight;
+use sorts::Slot;
+use sorts::Ticket;
+use sorts::Weight;
 
 pub fn try_list(table: &[u8], room: usize, out: &mut [u8]) -> usize
     requires { ⌜ (room ≤ 1024) × (length (now out) ≡ 65536) ⌝ }

@@ -8,8 +8,8 @@ use crate::writing::try_write;
 use libc::STDIN_FILENO;
 use libc::STDOUT_FILENO;
 use numbers::read4;
-use round::Slot;
-use round::Weight;
+use sorts::Slot;
+use sorts::Weight;
 
 mod entries; // entries.rt: the listing
 mod writing; // writing.rt: the line writer

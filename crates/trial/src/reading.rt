@@ -9,8 +9,8 @@ use lines::payload;
 use lines::payload_place;
 use lines::read_command;
 use numbers::write4;
-use round::Slot;
-use round::Weight;
+use sorts::Slot;
+use sorts::Weight;
 
 // Refusal, command, slot and weight, the payload's place, and the payload with its length.
 const PAYLOAD_AT: usize = 28;

@@ -3,20 +3,19 @@ ghost use Prim.Native.Nat.{_≤_};
 ghost use lib.ListN.{length};
 ghost use Rattle.rules.specs.Calls.{step};
 ghost use Rattle.rules.specs.Lines.{reply-text};
-ghost use Rattle.calls.specs.Replies.{of-opened, of-taken};
-ghost use Rattle.calls.specs.Steps.{of-out, of-step, of-sent};
+ghost use Rattle.replies.specs.Replies.{of-opened, of-taken, of-out, of-step, of-sent};
 ghost use Rattle.lines.specs.Cases.{out-number, out-ticket};
 ghost use Rattle.lines.specs.Writing.{Replies, step-text};
-use calls::opening::Opened;
-use calls::sending::Out;
-use calls::sending::Sent;
-use calls::sending::Step;
-use calls::taking::Taken;
 use lines::write_done_in_room;
 use lines::write_refusal_in_room;
 use lines::write_step_in_room;
 use lines::write_ticket_in_room;
-use round::Ticket;
+use replies::Opened;
+use replies::Out;
+use replies::Sent;
+use replies::Step;
+use replies::Taken;
+use sorts::Ticket;
 
 pub fn say_opened(opened: Opened, reply: &mut [u8]) -> usize
     requires { ⌜ 15 ≤ length (now reply) ⌝ }

@@ -40,41 +40,39 @@ write-row-requires c κs =
     (free (c .before .before .before)) in
     omega (arith, f .0, c .before .row-at .ensures)
 
-add-later : tie.Need-add-later
-add-later c =
-    let s = c .before .before .before .before .before .before .before .before .before .before .before .before in
+one-more-requires : tie.Need-one-more-requires
+one-more-requires c κs =
+    let s = c .before .before .before .before .before .before .before .before .before in
     let f = row-free (s .args .table .now) (s .args .round) (s .pre .0) (s .pre .1) (s .args .due .0) (s .args .weight .0)
-    (free (c .before .before .before .before .before .before .before .before .before)) in
-    omega (arith, f .2)
-
-add-used : tie.Need-add-used
-add-used c = search needs
+    (free (c .before .before .before .before .before .before)) in
+    (f .2, f .3)
 
 write-head-requires : tie.Need-write-head-requires
 write-head-requires c κs =
-    let s = c .before .before .before .before .before .before .before .before .before .before .before .before .before .before in
+    let s = c .before .before .before .before .before .before .before .before .before .before .before in
     let f = row-free (s .args .table .now) (s .args .round) (s .pre .0) (s .pre .1) (s .args .due .0) (s .args .weight .0)
-    (free (c .before .before .before .before .before .before .before .before .before .before .before)) in
-    let l : length (c .before .before .before .before .before .before .before .write-row .last .0) ≡ length (s .args .table .now) = ap length
-    (c .before .before .before .before .before .before .before .write-row .ensures) ∙ simp length-sets in
-    (omega (arith, l, f .0), omega (arith, f .1))
+    (free (c .before .before .before .before .before .before .before .before)) in
+    let l : length (c .before .before .before .before .write-row .last .0) ≡ length (s .args .table .now) = ap length
+    (c .before .before .before .before .write-row .ensures) ∙ simp length-sets in
+    (omega (arith, l, f .0), omega (arith, f .1, c .before .one-more .ensures .3))
 
 same-length : tie.Need-same-length
 same-length c = search needs
 
 returns-2 : tie.Need-returns-2
 returns-2 c =
-    let s = c .before .before .before .before .before .before .before .before .before .before .before .before .before .before .before .before .before in
+    let s = c .before .before .before .before .before .before .before .before .before .before .before .before .before .before in
+    let o = c .before .before .before .before .one-more .ensures in
     taken-says (s .args .table .now) (s .args .round) (s .pre .0) (s .pre .1) (s .args .due .0) (s .args .weight .0)
-    (free (c .before .before .before .before .before .before .before .before .before .before .before .before .before .before))
-    _ _ _ _ (c .before .before .before .before .before .before .before .before .before .before .write-row .last .0) (c .before .before .write-head .last .0)
-    (c .before .before .before .before .before .before .before .before .before .before .before .before .row-at .result) _ _ _ _
+    (free (c .before .before .before .before .before .before .before .before .before .before .before))
+    _ _ _ _ (c .before .before .before .before .before .before .before .write-row .last .0) (c .before .before .write-head .last .0)
+    (c .before .before .before .before .before .before .before .before .before .row-at .result) _ _ _ _
+    (o .0, o .1, o .2, o .3)
+    (c .before .before .before .before .before .before .before .before .before .row-at .ensures)
     (omega arith, omega arith, omega arith, omega arith)
-    (omega (arith, c .before .before .before .before .before .before .before .before .before .before .before .before .row-at .ensures))
-    (omega arith, omega arith, omega arith, omega arith)
-    (c .before .before .before .before .before .before .before .before .before .before .write-row .ensures) (c .before .before .write-head .ensures)
+    (c .before .before .before .before .before .before .before .write-row .ensures) (c .before .before .write-head .ensures)
 
 pub take-into-spec : {M : Type 1} → statement M
 take-into-spec =
     tie.close
-    (tie.spec taking-refusal-requires returns row-at-requires write-row-requires add-later add-used write-head-requires same-length returns-2)
+    (tie.spec taking-refusal-requires returns row-at-requires write-row-requires one-more-requires write-head-requires same-length returns-2)

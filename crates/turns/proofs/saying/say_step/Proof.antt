@@ -1,5 +1,5 @@
 -- `turns::saying::say_step` meets its contract.
-use Rattle.calls.specs.Steps.{of-out}
+use Rattle.replies.specs.Replies.{of-out}
 use Rattle.lines.proofs.Writing.{ordinary-said, leap-said}
 use Rattle.turns.proofs.Said.{said-by}
 use borrow.Author.Needs.{needs}

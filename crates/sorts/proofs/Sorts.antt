@@ -1,0 +1,14 @@
+-- A slot, a weight or a ticket is its number.
+use mathlib.Core.Path.{_≡_}
+use Rattle.sorts.specs.declared.Slot.{Slot}
+use Rattle.sorts.specs.declared.Weight.{Weight}
+use Rattle.sorts.specs.declared.Ticket.{Ticket}
+
+pub slot-read : (a b : Slot) → a .0 ≡ b .0 → a ≡ b
+slot-read a b e i = record { 0 = e i }
+
+pub weight-read : (a b : Weight) → a .0 ≡ b .0 → a ≡ b
+weight-read a b e i = record { 0 = e i }
+
+pub ticket-read : (a b : Ticket) → a .0 ≡ b .0 → a ≡ b
+ticket-read a b e i = record { 0 = e i }

@@ -1,0 +1,88 @@
+// The three sorts of count, and a round's head as a value, with the limits and byte places.
+ghost use mathlib.Core.Path.{_≡_};
+ghost use Prim.Native.Nat.{_+_, _<_};
+ghost use Rattle.rules.specs.Limits.{ticket-limit};
+
+// Three sorts of count, so that none can stand in another's place.
+pub struct Slot(pub u32);
+
+pub struct Weight(pub u32);
+
+pub struct Ticket(pub u32);
+
+// The head, with the rows that the table has room for.
+pub struct Round {
+    pub slot: Slot,
+    pub last: Slot,
+    pub next: Ticket,
+    pub used: usize,
+    pub room: usize,
+}
+
+impl Round {
+    // The limits; every ticket is below TICKETS.
+    pub const ROWS: usize = 1024;
+
+    pub const LAST: Slot = Slot(4095);
+
+    pub const WEIGHT: Weight = Weight(16777216);
+
+    pub const TICKETS: Ticket = Ticket(16777216);
+
+    // The sizes of head and row.
+    pub const HEAD_SIZE: usize = 16;
+
+    pub const ROW_SIZE: usize = 24;
+
+    // Where each number of the head begins, and its zeros.
+    pub const SLOT_AT: usize = 0;
+
+    pub const LAST_AT: usize = 2;
+
+    pub const NEXT_AT: usize = 4;
+
+    pub const USED_AT: usize = 8;
+
+    pub const HEAD_ZEROS_AT: usize = 10;
+
+    // Where each number of a row begins, and its zeros.
+    pub const TICKET_AT: usize = 0;
+
+    pub const DUE_AT: usize = 4;
+
+    pub const WEIGHT_AT: usize = 6;
+
+    pub const KIND_AT: usize = 10;
+
+    pub const ROW_ZEROS_AT: usize = 11;
+
+    // A round just opened.
+    pub fn new(last: Slot, room: usize) -> Round
+        ensures { λ r. ⌜ (r .slot .0 ≡ 0) × (r .last .0 ≡ last .0) × (r .next .0 ≡ 1) × (r .used ≡ 0) × (r .room ≡ room) ⌝ }
+    {
+        Round {
+            slot: Slot(0),
+            last,
+            next: Ticket(1),
+            used: 0,
+            room,
+        }
+    }
+
+    // The head once a frame is taken: the next ticket is given, and one more row in use.
+    pub fn one_more(self) -> Round
+        requires { ⌜ (self .next .0 < ticket-limit) × (self .used < self .room) ⌝ }
+        ensures { λ r. ⌜ (r .slot .0 ≡ self .slot .0) × (r .last .0 ≡ self .last .0) × (r .next .0 ≡ self .next .0 + 1)
+            × (r .used ≡ self .used + 1) × (r .room ≡ self .room) ⌝ }
+    {
+        let slot = self.slot;
+        let last = self.last;
+        Round {
+            slot,
+            last,
+            next: Ticket(self.next.0 + 1),
+            used: self.used + 1,
+            room: self.room,
+        }
+    }
+}

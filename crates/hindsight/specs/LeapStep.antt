@@ -12,7 +12,8 @@ use Rattle.rules.specs.Steps.{is-ordinary, leapt}
 use Rattle.theory.specs.Tests.{leb?}
 use Rattle.theory.specs.Sum.{sum}
 use Rattle.theory.specs.All.{all-in, all-of-in}
-use Rattle.theory.specs.Full.{Fine, Row-fine, outside, plan-due, plan-feas, plan-full}
+use Rattle.theory.specs.Bounds.{Row-fine}
+use Rattle.theory.specs.Full.{Fine, outside, plan-due, plan-feas, plan-full}
 use Rattle.theory.specs.Marks.{Next, Start, next, start}
 use Rattle.theory.specs.Send.{Stand-in, outside-in}
 use Rattle.theory.specs.Leap.{After-leap, outside-heavy}

@@ -13,7 +13,8 @@ use Rattle.rules.specs.Steps.{changed, replaced, without}
 use Rattle.theory.specs.Tests.{both-ways, leb?}
 use Rattle.theory.specs.Sum.{sum}
 use Rattle.theory.specs.All.{all-in, all-map}
-use Rattle.theory.specs.Full.{Fine, Row-fine, outside}
+use Rattle.theory.specs.Bounds.{Row-fine}
+use Rattle.theory.specs.Full.{Fine, outside}
 use Rattle.theory.specs.Marks.{box, box-back, box-lighter, mark-all}
 use Rattle.theory.specs.Change.{changed-sum, rising-first, without-sum}
 use Rattle.theory.specs.Send.{next-by}

@@ -12,7 +12,8 @@ use Rattle.rules.specs.Plan.{in-plan, mark, mark-in, plan, tight-after}
 use Rattle.rules.specs.Steps.{changed, replaced, shifted}
 use Rattle.theory.specs.Sum.{sum}
 use Rattle.theory.specs.All.{all-in, all-map, blank-ticket}
-use Rattle.theory.specs.Full.{Fine, Row-fine, outside, plan-member}
+use Rattle.theory.specs.Bounds.{Row-fine}
+use Rattle.theory.specs.Full.{Fine, outside, plan-member}
 use Rattle.theory.specs.Marks.{box, mark-all}
 use Rattle.theory.specs.Change.{First, changed-first, changed-sum, not-in-plan, rising-above, rising-same, row-outside, without-sum}
 use Rattle.theory.specs.Leap.{After-leap, Ends, Heavy-to, at-its-mark, ends-of, outside-heavy, rows-kept}

@@ -11,7 +11,7 @@ use Rattle.rules.specs.Limits.{head-size, most-last, most-rows, row-size}
 use Rattle.rules.specs.Rows.{Round}
 use Rattle.rules.specs.Plan.{best, plan}
 use Rattle.rules.specs.Steps.{is-ordinary, opened, sent, taken}
-use Rattle.rules.specs.Calls.{Call, after, leap, leaves, left, marking, next-round, open-refusal, opening, ordinary, out-of, refused, replies, round-refusal, says, sending, step, taking, totalling}
+use Rattle.rules.specs.Calls.{Call, after, leap, leaves, left, marking, next-round, opening, ordinary, out-of, refused, replies, round-refusal, says, sending, step, taking, totalling}
 use Rattle.rules.specs.Demands.{No-opening}
 use Rattle.rules.specs.Hindsight.{Told, nothing, story, told, took, took-in, went, went-out}
 use Rattle.theory.specs.Full.{Fine}

@@ -14,7 +14,8 @@ use Rattle.rules.specs.StepsOf.{Other, goes}
 use Rattle.rules.specs.Demands.{No-opening, member}
 use Rattle.rules.specs.Hindsight.{Choice, Most, Most-reckoned, Sent-could-have, Told, could-have, counts-for, earned, gained, most, noted, nothing, offer, offers, sent-in, took, went}
 use Rattle.theory.specs.All.{all-append, all-in, all-map, all-of-in}
-use Rattle.theory.specs.Full.{Fine, Row-fine}
+use Rattle.theory.specs.Bounds.{Row-fine}
+use Rattle.theory.specs.Full.{Fine}
 use Rattle.theory.specs.Third.{opened-sane}
 use Rattle.hindsight.specs.OverCalls.{opened-replies, over-calls, tale}
 use Rattle.hindsight.specs.Most.{most-reckoned}

@@ -11,7 +11,8 @@ use Rattle.rules.specs.Plan.{in-plan, mark, plan}
 use Rattle.theory.specs.Tests.{either}
 use Rattle.theory.specs.Sum.{sum, sum-append, sum-le}
 use Rattle.theory.specs.All.{all-in, all-map, all-of-in}
-use Rattle.theory.specs.Full.{Fine, Row-fine, outside, plan-sum}
+use Rattle.theory.specs.Bounds.{Row-fine}
+use Rattle.theory.specs.Full.{Fine, outside, plan-sum}
 use Rattle.theory.specs.Change.{rising-above}
 use Rattle.theory.specs.Leap.{outside-heavy}
 use Rattle.theory.specs.Same.{of-outside, of-plan, of-yes, sum-none}

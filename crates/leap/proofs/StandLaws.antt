@@ -12,7 +12,8 @@ use Rattle.rules.specs.Conditions.{used-in}
 use Rattle.rules.specs.Table.{table, round-in, table-refusal}
 use Rattle.rules.specs.Calls.{Step, out-of, ordinary, leap, step}
 use Rattle.theory.specs.All.{all-in}
-use Rattle.theory.specs.Full.{Fine, Row-fine, Rising}
+use Rattle.theory.specs.Bounds.{Row-fine}
+use Rattle.theory.specs.Full.{Fine, Rising}
 use Rattle.theory.specs.Change.{all-changed, rising-changed}
 use Rattle.theory.specs.Back.{Sized, Kind, read-back, table-good, length-changed}
 use Rattle.theory.specs.Clauses.{rows-count}

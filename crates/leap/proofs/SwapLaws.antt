@@ -14,7 +14,7 @@ use Rattle.rules.specs.Table.{low, table, round-in}
 use Rattle.theory.specs.Tests.{ltb?}
 use Rattle.theory.specs.All.{all-in, all-map}
 use Rattle.theory.specs.Feas.{num}
-use Rattle.theory.specs.Full.{Row-fine}
+use Rattle.theory.specs.Bounds.{Row-fine}
 use Rattle.theory.specs.Back.{Kind, length-table}
 use Rattle.theory.specs.Change.{rising-same}
 use Rattle.theory.specs.Flags.{with-flag}

@@ -13,7 +13,8 @@ use Rattle.rules.specs.Plan.{plan, tight-after, segment-start, first-end, subst
 use Rattle.rules.specs.Table.{round-in}
 use Rattle.theory.specs.Tests.{positive, both-ways, leb?, ltb?, eqb?}
 use Rattle.theory.specs.All.{all-in}
-use Rattle.theory.specs.Full.{Fine, Row-fine, plan-feas, plan-full}
+use Rattle.theory.specs.Bounds.{Row-fine}
+use Rattle.theory.specs.Full.{Fine, plan-feas, plan-full}
 use Rattle.theory.specs.Feas.{num}
 use Rattle.theory.specs.Marks.{next, Start, start}
 use Rattle.theory.specs.Send.{next-by}

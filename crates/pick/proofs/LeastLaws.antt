@@ -9,7 +9,8 @@ use lib.ListN.{length, getD}
 use Rattle.rules.specs.Rows.{Row, Round, blank, In}
 use Rattle.theory.specs.Tests.{leb?, eqb?}
 use Rattle.theory.specs.All.{all-in}
-use Rattle.theory.specs.Full.{Fine, Row-fine}
+use Rattle.theory.specs.Bounds.{Row-fine}
+use Rattle.theory.specs.Full.{Fine}
 use Rattle.theory.specs.Keys.{getD-in}
 use Rattle.theory.specs.Index.{flag-in, chosen-index, each-chosen}
 use Rattle.theory.specs.Flags.{raised, with-flag}

@@ -11,7 +11,8 @@ use Rattle.rules.specs.Plan.{in-plan}
 use Rattle.rules.specs.Table.{round-in}
 use Rattle.theory.specs.Tests.{either, leb?, ltb?}
 use Rattle.theory.specs.All.{all-in}
-use Rattle.theory.specs.Full.{Fine, Row-fine}
+use Rattle.theory.specs.Bounds.{Row-fine}
+use Rattle.theory.specs.Full.{Fine}
 use Rattle.theory.specs.Keys.{key, key-weight, key-bound, getD-in}
 use Rattle.theory.specs.Count.{bucket, counts-all, kept-counts}
 use Rattle.theory.specs.Index.{flag-in, each-chosen, each-row, at-flag, not-heavier-at}

@@ -15,7 +15,8 @@ use Rattle.theory.specs.Tests.{leb?}
 use Rattle.theory.specs.Sum.{sum, sum-le}
 use Rattle.theory.specs.All.{all-map, all-in}
 use Rattle.theory.specs.Feas.{below, below?, num, below-yes, below-1, due-below, Feas, feas-made}
-use Rattle.theory.specs.Full.{Fine, Row-fine}
+use Rattle.theory.specs.Bounds.{Row-fine}
+use Rattle.theory.specs.Full.{Fine}
 use Rattle.theory.specs.Border.{within, many, within-yes}
 use Rattle.theory.specs.Unique.{Left-out, unchosen, within-below, all-within}
 use Rattle.theory.specs.Keys.{light-key, getD-in, rows-light-key}

@@ -3,12 +3,12 @@ use mathlib.Core.Path.{_≡_, refl}
 use mathlib.Core.List.{List, [], _∷_, _++_, map}
 use Prim.Native.Nat.{ℕ, _*_, _-_}
 use lib.ListN.{take, replicate}
-use Rattle.rules.specs.Rows.{Round, row, round}
-use Rattle.rules.specs.Table.{low, value, row-bytes, rows-bytes, table}
+use Rattle.rules.specs.Rows.{Round, row, round, frame-tail, blank-tail, no-tail}
+use Rattle.rules.specs.Table.{low, value, put, row-bytes, rows-bytes, head-bytes, table}
 
 -- slot 0102, last slot 0304, next ticket 00060608, one frame and one kept blank in 259 rows (hexadecimal)
 abbrev pub vector-round : Round
-vector-round = round 258 772 394760 259 (row 66051 515 16777216 0 ∷ row 394759 772 197121 1 ∷ [])
+vector-round = round 258 772 394760 259 (row 66051 515 16777216 frame-tail ∷ row 394759 772 197121 blank-tail ∷ []) no-tail
 
 abbrev pub vector-bytes : List ℕ
 vector-bytes =
@@ -20,12 +20,12 @@ vector-bytes =
     replicate (24 * 257) 0
 
 pub vector-written : table vector-round ≡ vector-bytes
-unfolding row round low row-bytes rows-bytes table
+unfolding row round low put row-bytes rows-bytes head-bytes table
 vector-written = refl
 
 -- and the head alone with 0102 rows in use
-pub vector-head : take 16 (table (round 258 772 394760 259 (replicate 258 (row 1 515 1 0)))) ≡ 2 ∷ 1 ∷ 4 ∷ 3 ∷ 8 ∷ 6 ∷ 6 ∷ 0 ∷ 2 ∷ 1 ∷ replicate 6 0
-unfolding row round low row-bytes rows-bytes table
+pub vector-head : take 16 (table (round 258 772 394760 259 (replicate 258 (row 1 515 1 frame-tail)) no-tail)) ≡ 2 ∷ 1 ∷ 4 ∷ 3 ∷ 8 ∷ 6 ∷ 6 ∷ 0 ∷ 2 ∷ 1 ∷ replicate 6 0
+unfolding row round low put row-bytes rows-bytes head-bytes table
 vector-head = refl
 
 -- WORDS of eight bytes: each byte alone, all of them, none

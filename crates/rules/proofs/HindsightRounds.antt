@@ -8,12 +8,12 @@ use native.Mathlib.Omega.{arith}
 use Rattle.rules.specs.Rows.{row, blank, round, slots-left, heavier, canonical, into, sorted}
 use Rattle.rules.specs.Plan.{due-by, fits-from, feasible, kept, blanks-from, plan, total-weight, total, tight, tight-from, tight-after, segment-from, segment-start, first-end, least-weight, mark-in, mark, same-row, in-plan, lightest-by, heaviest-outside, substitute, beats-golden, golden-more, sends-before, best-from, best}
 use Rattle.rules.specs.Steps.{opened, taken, changed, without, heaviest-between, shifted, replaced, leapt, still-due, is-ordinary, sent}
-use Rattle.rules.specs.Table.{low, value, field, row-bytes, rows-bytes, table, rows-in, rows-of, round-in, length-good, rows-good, round-good, same, table-refusal}
-use Rattle.rules.specs.Calls.{Call, opening, taking, sending, marking, totalling, silence, frame, kept-blank, ordinary, leap, Reply, refused, done, ticket, step, amount, blank-due, first, open-refusal, take-refusal, send-refusal, mark-refusal, round-refusal, out-of, says, leaves, table-first, refusal, answer, left, run, replies}
+use Rattle.rules.specs.Table.{low, value, field, put, row-bytes, rows-bytes, head-bytes, table, rows-in, rows-of, round-in, length-good, every, rows-good, round-good, same, table-refusal}
+use Rattle.rules.specs.Calls.{Call, silence, frame, kept-blank, ordinary, leap, Reply, refused, done, ticket, step, amount, blank-due, first, act, question, deed, round-refusal, out-of, says, leaves, table-first, refusal, answer, left, run, replies}
 use Rattle.rules.specs.Demands.{member}
 use Rattle.rules.specs.Conditions.{Past}
 use Rattle.rules.specs.Hindsight.{Told, nothing, took, went, took-in, went-out, told, story, counts-for, noted, earned, sent-in, Offer, Choice, offer, offers, kept-to, gained, top-of, most, could-have}
-use Rattle.rules.proofs.Played.{found}
+use Rattle.rules.proofs.Played.{opens, takes, sends, marks, totals, found}
 
 -- A ROUND PLAYED OUT: its last slot and its calls, what is told of each call, then S and B
 pub record Played-out : Type 0 where
@@ -28,7 +28,7 @@ abbrev pub p1 : Played-out
 p1 =
     record {
       last = 1;
-      calls = taking 0 4 ∷ taking 1 10 ∷ sending ∷ sending ∷ [];
+      calls = takes 0 4 ∷ takes 1 10 ∷ sends ∷ sends ∷ [];
       tells = took 1 0 4 ∷ took 2 1 10 ∷ went (frame 1) ∷ went (frame 2) ∷ [];
       sent = 4 + 10;
       could = 4 + 10;
@@ -39,7 +39,7 @@ abbrev pub p2 : Played-out
 p2 =
     record {
       last = 1;
-      calls = taking 0 4 ∷ taking 1 11 ∷ sending ∷ sending ∷ [];
+      calls = takes 0 4 ∷ takes 1 11 ∷ sends ∷ sends ∷ [];
       tells = took 1 0 4 ∷ took 2 1 11 ∷ went (frame 2) ∷ went (kept-blank 2) ∷ [];
       sent = 11;
       could = 4 + 11;
@@ -51,7 +51,7 @@ p2-among =
     record {
       last = 1;
       calls =
-          opening 4096 ∷ taking 0 4 ∷ taking 0 0 ∷ taking 2 9 ∷ marking 1 ∷ taking 1 11 ∷ totalling ∷ sending ∷ marking 0 ∷ sending ∷ sending ∷ taking 1 7 ∷ [];
+          opens 4096 ∷ takes 0 4 ∷ takes 0 0 ∷ takes 2 9 ∷ marks 1 ∷ takes 1 11 ∷ totals ∷ sends ∷ marks 0 ∷ sends ∷ sends ∷ takes 1 7 ∷ [];
       tells =
           nothing ∷ took 1 0 4 ∷ nothing ∷ nothing ∷ nothing ∷ took 2 1 11 ∷ nothing ∷ went (frame 2) ∷ nothing ∷ went (kept-blank 2) ∷ nothing ∷ nothing ∷ [];
       sent = 11;
@@ -63,7 +63,7 @@ abbrev pub p4 : Played-out
 p4 =
     record {
       last = 2;
-      calls = taking 0 4 ∷ taking 1 10 ∷ taking 2 5 ∷ taking 2 3 ∷ sending ∷ sending ∷ sending ∷ [];
+      calls = takes 0 4 ∷ takes 1 10 ∷ takes 2 5 ∷ takes 2 3 ∷ sends ∷ sends ∷ sends ∷ [];
       tells = took 1 0 4 ∷ took 2 1 10 ∷ took 3 2 5 ∷ took 4 2 3 ∷ went (frame 2) ∷ went (frame 3) ∷ went (frame 4) ∷ [];
       sent = 10 + 5 + 3;
       could = 4 + 10 + 5;
@@ -74,7 +74,7 @@ abbrev pub between : Played-out
 between =
     record {
       last = 1;
-      calls = taking 0 4 ∷ taking 1 10 ∷ sending ∷ taking 1 11 ∷ sending ∷ [];
+      calls = takes 0 4 ∷ takes 1 10 ∷ sends ∷ takes 1 11 ∷ sends ∷ [];
       tells = took 1 0 4 ∷ took 2 1 10 ∷ went (frame 1) ∷ took 3 1 11 ∷ went (frame 3) ∷ [];
       sent = 4 + 11;
       could = 10 + 11;
@@ -85,7 +85,7 @@ abbrev pub late : Played-out
 late =
     record {
       last = 1;
-      calls = sending ∷ taking 1 5 ∷ taking 1 6 ∷ sending ∷ [];
+      calls = sends ∷ takes 1 5 ∷ takes 1 6 ∷ sends ∷ [];
       tells = went silence ∷ took 1 1 5 ∷ took 2 1 6 ∷ went (frame 2) ∷ [];
       sent = 6;
       could = 6;
@@ -96,7 +96,7 @@ abbrev pub climbing : Played-out
 climbing =
     record {
       last = 3;
-      calls = taking 0 1 ∷ taking 1 2 ∷ sending ∷ taking 1 2 ∷ taking 2 5 ∷ sending ∷ taking 2 5 ∷ taking 3 13 ∷ sending ∷ taking 3 13 ∷ sending ∷ [];
+      calls = takes 0 1 ∷ takes 1 2 ∷ sends ∷ takes 1 2 ∷ takes 2 5 ∷ sends ∷ takes 2 5 ∷ takes 3 13 ∷ sends ∷ takes 3 13 ∷ sends ∷ [];
       tells =
           took 1 0 1 ∷ took 2 1 2 ∷ went (frame 1) ∷ took 3 1 2 ∷ took 4 2 5 ∷ went (frame 2) ∷ took 5 2 5 ∷ took 6 3 13 ∷ went (frame 4) ∷ took 7 3 13 ∷
           went (frame 6) ∷ [];
@@ -109,15 +109,14 @@ rounds = p1 ∷ p2 ∷ p2-among ∷ p4 ∷ between ∷ late ∷ climbing ∷ []
 
 -- what the bytes' replies tell of a round
 abbrev pub told-of : Played-out → List Told
-told-of x = story (x .calls) (replies (x .calls) (left (opening (x .last)) found))
+told-of x = story (x .calls) (replies (x .calls) (left (opens (x .last)) found))
 
 -- THE FACTS, of each: what is told
 pub told-by-hand : map told-of rounds ≡ map (λ (x : Played-out). x .tells) rounds
 unfolding row blank round slots-left heavier canonical into sorted due-by fits-from feasible kept blanks-from plan total-weight total tight tight-from
     tight-after segment-from segment-start first-end least-weight mark-in mark same-row in-plan lightest-by heaviest-outside substitute beats-golden
     golden-more sends-before best-from best opened taken changed without heaviest-between shifted replaced leapt still-due is-ordinary sent low value
-    field row-bytes rows-bytes table rows-in rows-of round-in length-good rows-good round-good same table-refusal first open-refusal
-    take-refusal send-refusal mark-refusal round-refusal out-of says leaves table-first refusal answer left replies took-in went-out told story
+    field put row-bytes rows-bytes head-bytes table rows-in rows-of round-in length-good every rows-good round-good same table-refusal first act question deed round-refusal out-of says leaves table-first refusal answer left replies took-in went-out told story
 told-by-hand = refl
 
 -- S
@@ -137,15 +136,15 @@ sorts = refused 7 ∷ done ∷ ticket 2 ∷ step (ordinary (frame 3)) ∷ step (
 abbrev pub none-of : List Told
 none-of = nothing ∷ nothing ∷ nothing ∷ nothing ∷ nothing ∷ nothing ∷ nothing ∷ []
 
-pub took-by-hand : map (told (taking 8 9)) sorts ≡ nothing ∷ nothing ∷ took 2 8 9 ∷ nothing ∷ nothing ∷ nothing ∷ nothing ∷ []
+pub took-by-hand : map (told (takes 8 9)) sorts ≡ nothing ∷ nothing ∷ took 2 8 9 ∷ nothing ∷ nothing ∷ nothing ∷ nothing ∷ []
 unfolding took-in told
 took-by-hand = refl
 
-pub went-by-hand : map (told sending) sorts ≡ nothing ∷ nothing ∷ nothing ∷ went (frame 3) ∷ went (kept-blank 4) ∷ nothing ∷ nothing ∷ []
+pub went-by-hand : map (told sends) sorts ≡ nothing ∷ nothing ∷ nothing ∷ went (frame 3) ∷ went (kept-blank 4) ∷ nothing ∷ nothing ∷ []
 unfolding went-out told
 went-by-hand = refl
 
-pub nothing-by-hand : map (λ (c : Call). map (told c) sorts) (opening 1 ∷ marking 1 ∷ totalling ∷ []) ≡ none-of ∷ none-of ∷ none-of ∷ []
+pub nothing-by-hand : map (λ (c : Call). map (told c) sorts) (opens 1 ∷ marks 1 ∷ totals ∷ []) ≡ none-of ∷ none-of ∷ none-of ∷ []
 unfolding told
 nothing-by-hand = refl
 
@@ -154,12 +153,11 @@ pub no-room : (climbing .could + 1) * (climbing .could + 1) ≤ (climbing .could
 no-room h = omega arith
 
 -- the second is past its last slot afterwards
-pub p2-past : Past (run (p2 .calls) (left (opening (p2 .last)) found))
+pub p2-past : Past (run (p2 .calls) (left (opens (p2 .last)) found))
 unfolding row blank round slots-left heavier canonical into sorted due-by fits-from feasible kept blanks-from plan total-weight total tight tight-from
     tight-after segment-from segment-start first-end least-weight mark-in mark same-row in-plan lightest-by heaviest-outside substitute beats-golden
     golden-more sends-before best-from best opened taken changed without heaviest-between shifted replaced leapt still-due is-ordinary sent low value
-    field row-bytes rows-bytes table rows-in rows-of round-in length-good rows-good round-good same table-refusal first open-refusal
-    take-refusal send-refusal mark-refusal round-refusal out-of says leaves table-first refusal answer left run
+    field put row-bytes rows-bytes head-bytes table rows-in rows-of round-in length-good every rows-good round-good same table-refusal first act question deed round-refusal out-of says leaves table-first refusal answer left run
 p2-past = omega arith
 
 -- the offers of the fifth: two from slot 0 on, one from slot 1

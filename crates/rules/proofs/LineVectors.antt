@@ -4,7 +4,7 @@ use mathlib.Core.List.{List, [], _∷_, _++_}
 use Prim.Native.Nat.{ℕ}
 use lib.ListN.{replicate}
 use Rattle.rules.specs.Calls.{Reply, refused, amount}
-use Rattle.rules.specs.Lines.{digit, is-digit, digit-value, digits, number-from, all-digits, Command, open-line, take-line, send-line, text, stands, Reading, command, broken, body, number-at, read-digits, read, read-refusal, Place, place-of, payload-place, payload, write-refusal, write-answer, write-left}
+use Rattle.rules.specs.Lines.{digit, is-digit, digit-value, digits, number-from, all-digits, Command, open-line, take-line, send-line, text, stands, Reading, command, broken, body, number-at, read-digits, read, read-refusal, place-of, payload-place, payload, write-refusal, write-answer, write-left}
 
 -- A LINE BY HAND: what it is read as, the refusal's number, the payload's place, and the payload
 pub record Read : Type 0 where

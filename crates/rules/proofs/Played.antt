@@ -4,22 +4,42 @@ use mathlib.Core.List.{List, [], _∷_, map}
 use Prim.Native.Nat.{ℕ, zero, suc, _+_, _*_}
 use lib.ListN.{replicate}
 use Rattle.rules.specs.Limits.{head-size, row-size}
-use Rattle.rules.specs.Rows.{Row, Round, row, slots-left}
+use Rattle.rules.specs.Rows.{Row, Round, row, round, until, framed, slots-left, frame-tail, blank-tail, no-tail}
 use Rattle.rules.specs.Plan.{mark, listed}
 use Rattle.rules.specs.Table.{round-in, same}
-use Rattle.rules.specs.Calls.{Call, Reply, number-of, answer, left}
+use Rattle.rules.specs.Calls.{taking, sending, marking, totalling, Call, opening, acting, asking, Reply, number-of, answer, left}
 use Rattle.rules.specs.Looking.{substitute-answer, list-answer, list-left}
+
+-- the calls by their arguments
+abbrev pub opens : (last : ℕ) → Call
+opens l = opening (until l)
+
+abbrev pub takes : (due weight : ℕ) → Call
+takes d w = acting (taking (framed d w))
+
+abbrev pub sends : Call
+sends = acting sending
+
+abbrev pub marks : (slot : ℕ) → Call
+marks s = asking (marking s)
+
+abbrev pub totals : Call
+totals = asking totalling
+
+-- a round of some rows
+abbrev pub plain : (slot last next room : ℕ) → List Row → Round
+plain t l n k xs = round t l n k xs no-tail
 
 -- a waiting frame and a kept blank: ticket, due slot, weight
 abbrev pub waits : (ticket due weight : ℕ) → Row
-waits k d w = row k d w 0
+waits k d w = row k d w frame-tail
 
 abbrev pub keeps : (ticket due weight : ℕ) → Row
-keeps k d w = row k d w 1
+keeps k d w = row k d w blank-tail
 
 -- entries lent to a listing, no two alike
 abbrev pub old : ℕ → Row
-old n = row 0 n 0 9
+old n = row 0 n 0 (record { kind = 9 })
 
 abbrev pub lent : (room : ℕ) → List Row
 lent zero = []

@@ -1,17 +1,17 @@
 -- Inputs cut into reads, by hand: what is written for each read, and what is there afterwards, on a table of two rows that is zero at first.
 use mathlib.Core.Path.{_≡_, refl}
 use mathlib.Core.Bool.{Bool, true, false, cond}
-use mathlib.Core.List.{List, [], _∷_, _++_}
+use mathlib.Core.List.{List, [], _∷_}
 use Prim.Native.Nat.{ℕ}
 use native.Mathlib.Omega.{arith}
 use lib.ListN.{replicate}
-use Rattle.rules.specs.Rows.{Row, row, blank, round, slots-left, heavier, canonical, into, sorted}
+use Rattle.rules.specs.Rows.{Row, row, blank, round, slots-left, heavier, canonical, into, sorted, frame-tail}
 use Rattle.rules.specs.Plan.{due-by, fits-from, feasible, kept, blanks-from, plan, total-weight, tight, tight-from, tight-after, segment-from, segment-start, first-end, least-weight, mark-in, same-row, in-plan, lightest-by, heaviest-outside, substitute, beats-golden, golden-more, sends-before, best-from, best}
 use Rattle.rules.specs.Steps.{opened, taken, changed, without, heaviest-between, shifted, replaced, leapt, still-due, is-ordinary, sent}
-use Rattle.rules.specs.Table.{low, value, field, row-bytes, rows-bytes, table, rows-in, rows-of, round-in, length-good, rows-good, round-good, same, table-refusal}
-use Rattle.rules.specs.Calls.{first, open-refusal, take-refusal, send-refusal, round-refusal, out-of, says, leaves, table-first, refusal, answer, left, run}
+use Rattle.rules.specs.Table.{low, value, field, put, row-bytes, rows-bytes, head-bytes, table, rows-in, rows-of, round-in, length-good, every, rows-good, round-good, same, table-refusal}
+use Rattle.rules.specs.Calls.{first, act, question, deed, round-refusal, out-of, says, leaves, table-first, refusal, answer, left, run}
 use Rattle.rules.specs.Lines.{digit, is-digit, digit-value, digits, number-from, all-digits, call-of, body, number-at, read-digits, read, out-digits, reply-digits, reply-text, turn, printed-from}
-use Rattle.rules.specs.Reads.{complete-from, begun-from, asked, calls-of, stops, overlong, Between, served, written, between-after, Some-bytes}
+use Rattle.rules.specs.Reads.{complete-from, begun-from, asked, calls-of, stops, overlong, served, written, between-after, Some-bytes}
 use Rattle.rules.proofs.Text.{zeroed}
 
 -- READS BY HAND: the bytes written for each that is made, then the line held, whether it is over, and the waiting rows
@@ -77,7 +77,7 @@ reads =
           [];
       held = 48 ∷ 50 ∷ [];
       over = false;
-      rows = row 1 0 4 0 ∷ row 2 1 11 0 ∷ [];
+      rows = row 1 0 4 frame-tail ∷ row 2 1 11 frame-tail ∷ [];
     } ∷
     -- one byte at a time
     record {
@@ -189,8 +189,7 @@ pub reads-by-hand : made reads ≡ reads
 unfolding row blank round slots-left heavier canonical into sorted due-by fits-from feasible kept blanks-from plan total-weight tight tight-from
     tight-after segment-from segment-start first-end least-weight mark-in same-row in-plan lightest-by heaviest-outside substitute beats-golden
     golden-more sends-before best-from best opened taken changed without heaviest-between shifted replaced leapt still-due is-ordinary sent low value
-    field row-bytes rows-bytes table rows-in rows-of round-in length-good rows-good round-good same table-refusal first open-refusal take-refusal
-    send-refusal round-refusal out-of says leaves table-first refusal answer left digit is-digit digit-value digits number-from all-digits call-of
+    field put row-bytes rows-bytes head-bytes table rows-in rows-of round-in length-good every rows-good round-good same table-refusal first act question deed round-refusal out-of says leaves table-first refusal answer left digit is-digit digit-value digits number-from all-digits call-of
     body number-at read-digits read out-digits reply-digits reply-text turn printed-from run complete-from begun-from asked calls-of stops overlong
     served written between-after
 reads-by-hand = refl

@@ -7,8 +7,8 @@ use Rattle.rules.specs.Limits.{head-size, row-size}
 use Rattle.rules.specs.Rows.{row, blank, round, slots-left, heavier, canonical, into, sorted}
 use Rattle.rules.specs.Plan.{due-by, fits-from, feasible, kept, blanks-from, plan, total-weight, tight, tight-from, tight-after, segment-from, segment-start, first-end, least-weight, mark-in, same-row, in-plan, lightest-by, heaviest-outside, substitute, beats-golden, golden-more, sends-before, best-from, best}
 use Rattle.rules.specs.Steps.{opened, taken, changed, without, heaviest-between, shifted, replaced, leapt, still-due, is-ordinary, sent}
-use Rattle.rules.specs.Table.{low, value, field, row-bytes, rows-bytes, table, rows-in, rows-of, round-in, length-good, rows-good, round-good, same, table-refusal}
-use Rattle.rules.specs.Calls.{first, open-refusal, take-refusal, send-refusal, round-refusal, out-of, says, leaves, table-first, refusal, answer, left}
+use Rattle.rules.specs.Table.{low, value, field, put, row-bytes, rows-bytes, head-bytes, table, rows-in, rows-of, round-in, length-good, every, rows-good, round-good, same, table-refusal}
+use Rattle.rules.specs.Calls.{first, act, question, deed, round-refusal, out-of, says, leaves, table-first, refusal, answer, left}
 use Rattle.rules.specs.Lines.{digit, is-digit, digit-value, digits, number-from, all-digits, call-of, body, number-at, read-digits, read, out-digits, reply-digits, reply-text, lines-from, turn, printed-from}
 
 abbrev pub zeroed : List ℕ
@@ -127,7 +127,6 @@ pub lines-by-hand : map shown inputs ≡ outputs
 unfolding row blank round slots-left heavier canonical into sorted due-by fits-from feasible kept blanks-from plan total-weight tight tight-from
     tight-after segment-from segment-start first-end least-weight mark-in same-row in-plan lightest-by heaviest-outside substitute beats-golden
     golden-more sends-before best-from best opened taken changed without heaviest-between shifted replaced leapt still-due is-ordinary sent low value
-    field row-bytes rows-bytes table rows-in rows-of round-in length-good rows-good round-good same table-refusal first open-refusal take-refusal
-    send-refusal round-refusal out-of says leaves table-first refusal answer left digit is-digit digit-value digits number-from all-digits call-of
+    field put row-bytes rows-bytes head-bytes table rows-in rows-of round-in length-good every rows-good round-good same table-refusal first act question deed round-refusal out-of says leaves table-first refusal answer left digit is-digit digit-value digits number-from all-digits call-of
     body number-at read-digits read out-digits reply-digits reply-text lines-from turn printed-from
 lines-by-hand = refl

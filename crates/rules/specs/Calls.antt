@@ -1,23 +1,29 @@
 -- The calls: what each refuses, answers and leaves, on a round and on a lent table; lists of calls.
 use mathlib.Core.Path.{_≡_}
-use mathlib.Core.Bool.{_||_, cond}
+use mathlib.Core.Bool.{Bool, _||_, cond}
 use mathlib.Core.List.{List, [], _∷_}
 use Prim.Native.Nat.{ℕ}
 use lib.Dec.{ltb, leb, eqb}
 use lib.ListN.{length}
 use Rattle.rules.specs.Limits.{most-last, most-weight, ticket-limit}
-use Rattle.rules.specs.Rows.{Row, Round}
+use Rattle.rules.specs.Rows.{Frame, Setup, Row, Round}
 use Rattle.rules.specs.Plan.{plan, total, mark, best}
 use Rattle.rules.specs.Steps.{opened, taken, sent, is-ordinary}
 use Rattle.rules.specs.Table.{table, round-in, table-refusal, length-good}
 
--- A CALL with its arguments; those that a request adds and that write the table join here
+-- A CALL with its arguments: opening reads nothing of the table, acts write it, questions only look. Those that a request adds join here
+pub data Act : Type 0 where
+  taking : Frame → Act
+  sending : Act
+
+pub data Question : Type 0 where
+  marking : (slot : ℕ) → Question
+  totalling : Question
+
 pub data Call : Type 0 where
-  opening : (last : ℕ) → Call
-  taking : (due weight : ℕ) → Call
-  sending : Call
-  marking : (slot : ℕ) → Call
-  totalling : Call
+  opening : Setup → Call
+  acting : Act → Call
+  asking : Question → Call
 
 -- WHAT WENT OUT, and in which kind of step
 pub data Out : Type 0 where
@@ -47,58 +53,88 @@ number-of (step s) = 0
 number-of (amount n) = 0
 number-of (blank-due s) = 0
 
--- the first refusal that applies, 0 for none
-unfoldable pub first : (a b : ℕ) → ℕ
-first a b = cond (eqb a 0) b a
+-- A TEST with the number of its refusal; the number of the first test that holds, 0 where none does
+pub record Test : Type 0 where
+  pub holds : Bool
+  pub number : ℕ
 
--- REFUSALS of a round: 4; 5 to 9; 5; 5 and 7
-unfoldable pub open-refusal : (last : ℕ) → ℕ
-open-refusal l = cond (ltb most-last l) 4 0
+infix 10 _⇒_
+abbrev pub _⇒_ : (holds : Bool) → (number : ℕ) → Test
+b ⇒ n = record { holds = b; number = n }
 
-unfoldable pub take-refusal : Round → (due weight : ℕ) → ℕ
-take-refusal r d w =
-    cond (ltb (r .last) (r .slot)) 5
-    (cond (eqb w 0 || ltb most-weight w) 6
-    (cond (ltb d (r .slot) || ltb (r .last) d) 7 (cond (eqb (r .next) ticket-limit) 8 (cond (leb (r .room) (length (r .rows))) 9 0))))
+abbrev pub first-of : List Test → ℕ
+first-of [] = 0
+first-of (x ∷ xs) = cond (x .holds) (x .number) (first-of xs)
 
-unfoldable pub send-refusal : Round → ℕ
-send-refusal r = cond (ltb (r .last) (r .slot)) 5 0
+-- REFUSALS in their order, by the numbers of a head: the round is over; a slot is not ahead
+abbrev pub over : (slot last : ℕ) → Test
+over t l = ltb l t ⇒ 5
 
-unfoldable pub mark-refusal : Round → (s : ℕ) → ℕ
-mark-refusal r s = cond (ltb (r .last) (r .slot)) 5 (cond (ltb s (r .slot) || ltb (r .last) s) 7 0)
+abbrev pub not-ahead : (slot last s : ℕ) → Test
+not-ahead t l s = (ltb s t || ltb l s) ⇒ 7
+
+abbrev pub open-tests : Setup → List Test
+open-tests u = (ltb most-last (u .last) ⇒ 4) ∷ []
+
+abbrev pub take-tests : (slot last next used room : ℕ) → Frame → List Test
+take-tests t l n u k f =
+    over t l ∷ ((eqb (f .weight) 0 || ltb most-weight (f .weight)) ⇒ 6) ∷ not-ahead t l (f .due) ∷ (eqb n ticket-limit ⇒ 8) ∷ (leb k u ⇒ 9) ∷ []
+
+abbrev pub send-tests : (slot last : ℕ) → List Test
+send-tests t l = over t l ∷ []
+
+abbrev pub mark-tests : (slot last s : ℕ) → List Test
+mark-tests t l s = over t l ∷ not-ahead t l s ∷ []
+
+abbrev pub total-tests : (slot last : ℕ) → List Test
+total-tests t l = over t l ∷ []
+
+-- A DEED: what a call does on a round: the tests that refuse it, in their order, its reply, and the round that it leaves
+pub record Deed : Type 0 where
+  pub tests : List Test
+  pub reply : Reply
+  pub leaves : Round
+
+unfoldable pub out-of : Row → Out
+out-of p = cond (eqb (p .ticket) 0) silence (cond (eqb (p .tail .kind) 0) (frame (p .ticket)) (kept-blank (p .ticket)))
+
+unfoldable pub act : Act → Round → Deed
+act (taking f) r =
+    record {
+      tests = take-tests (r .slot) (r .last) (r .next) (length (r .rows)) (r .room) f;
+      reply = ticket (r .next);
+      leaves = taken r f;
+    }
+act sending r =
+    let o = out-of (best r (plan r)) in
+    record { tests = send-tests (r .slot) (r .last); reply = step (cond (is-ordinary r) (ordinary o) (leap o)); leaves = sent r }
+
+unfoldable pub question : Question → Round → Deed
+question (marking s) r = record { tests = mark-tests (r .slot) (r .last) s; reply = amount (mark r s); leaves = r }
+question totalling r = record { tests = total-tests (r .slot) (r .last); reply = amount (total r); leaves = r }
+
+unfoldable pub deed : Call → Round → Deed
+deed (opening u) r = record { tests = open-tests u; reply = done; leaves = opened u (r .room) }
+deed (acting a) r = act a r
+deed (asking q) r = question q r
 
 unfoldable pub round-refusal : Call → Round → ℕ
-round-refusal (opening l) r = open-refusal l
-round-refusal (taking d w) r = take-refusal r d w
-round-refusal sending r = send-refusal r
-round-refusal (marking s) r = mark-refusal r s
-round-refusal totalling r = send-refusal r
-
--- what an accepted call answers, and the round it leaves
-unfoldable pub out-of : Row → Out
-out-of p = cond (eqb (p .ticket) 0) silence (cond (eqb (p .kind) 0) (frame (p .ticket)) (kept-blank (p .ticket)))
+round-refusal c r = first-of (deed c r .tests)
 
 unfoldable pub says : Call → Round → Reply
-says (opening l) r = done
-says (taking d w) r = ticket (r .next)
-says sending r = step (cond (is-ordinary r) (ordinary (out-of (best r (plan r)))) (leap (out-of (best r (plan r)))))
-says (marking s) r = amount (mark r s)
-says totalling r = amount (total r)
+says c r = deed c r .reply
 
 unfoldable pub leaves : Call → Round → Round
-leaves (opening l) r = opened l (r .room)
-leaves (taking d w) r = taken r d w
-leaves sending r = sent r
-leaves (marking s) r = r
-leaves totalling r = r
+leaves c r = deed c r .leaves
 
 -- THE OUTCOME of a call on a lent table: the first refusal, the reply, and the bytes afterwards. Opening reads the length alone
 unfoldable pub table-first : Call → List ℕ → ℕ
-table-first (opening l) t = cond (length-good (length t)) 0 2
-table-first (taking d w) t = table-refusal t
-table-first sending t = table-refusal t
-table-first (marking s) t = table-refusal t
-table-first totalling t = table-refusal t
+table-first (opening u) t = cond (length-good (length t)) 0 2
+table-first (acting a) t = table-refusal t
+table-first (asking q) t = table-refusal t
+
+unfoldable pub first : (a b : ℕ) → ℕ
+first a b = cond (eqb a 0) b a
 
 unfoldable pub refusal : Call → List ℕ → ℕ
 refusal c t = first (table-first c t) (round-refusal c (round-in t))
@@ -130,5 +166,5 @@ unfoldable pub after : List Call → Round → Round
 after [] r = r
 after (c ∷ cs) r = after cs (next-round c r)
 
-unfoldable pub at : (rows last : ℕ) → List Call → Round
-at k l cs = after cs (opened l k)
+unfoldable pub at : (rows : ℕ) → Setup → List Call → Round
+at k u cs = after cs (opened u k)

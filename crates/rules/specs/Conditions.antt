@@ -2,14 +2,14 @@
 use mathlib.Core.Path.{_≡_}
 use mathlib.Core.Logic.{_⊎_}
 use mathlib.Core.Bool.{true, false}
-use mathlib.Core.List.{List}
+use mathlib.Core.List.{List, [], _∷_}
 use Prim.Native.Nat.{ℕ, suc, _+_, _*_, _≤_, _<_}
 use lib.ListN.{length, getD}
 use Rattle.rules.specs.Limits.{head-size, row-size, most-rows, most-last, most-weight, ticket-limit, slot-at, last-at, next-at, used-at, head-zeros-at, ticket-at, due-at, weight-at, kind-at, row-zeros-at, slot-bytes, wide-bytes, kind-bytes}
 use Rattle.rules.specs.Rows.{Row, In}
 use Rattle.rules.specs.Plan.{plan, in-plan, listed}
 use Rattle.rules.specs.Table.{field, rows-of, round-in}
-use Rattle.rules.specs.Calls.{Call, opening, taking, sending, marking, totalling}
+use Rattle.rules.specs.Calls.{Act, taking, sending, Question, marking, totalling, Call, opening, acting, asking}
 use Rattle.rules.specs.Lines.{Command, text, stands}
 
 infix 10 _⟺_
@@ -99,22 +99,46 @@ when k H later n = (H × (n ≡ k)) ⊎ ((H → ⊥) × later n)
 abbrev pub accepted : ℕ → Type 0
 accepted n = n ≡ 0
 
-abbrev pub if-sound : List ℕ → (later : ℕ → Type 0) → ℕ → Type 0
-if-sound t later = when 2 (Length-bad t) (when 3 (Unsound t) (when 5 (Past t) later))
+-- A CONDITION with the number that it gives, and the number that a list of them gives
+pub record Condition : Type 1 where
+  pub holds : Type 0
+  pub number : ℕ
+
+infix 10 _gives_
+abbrev pub _gives_ : (holds : Type 0) → (number : ℕ) → Condition
+H gives n = record { holds = H; number = n }
+
+abbrev pub Given : List Condition → ℕ → Type 0
+Given [] = accepted
+Given (c ∷ cs) = when (c .number) (c .holds) (Given cs)
+
+-- CONDITIONS of each call in their order; of opening the length alone
+abbrev pub if-sound : List ℕ → (later : List Condition) → List Condition
+if-sound t cs = (Length-bad t gives 2) ∷ (Unsound t gives 3) ∷ cs
+
+unfoldable pub act-conditions : Act → List ℕ → List Condition
+act-conditions (taking f) t =
+    (Past t gives 5) ∷ (Weight-bad (f .weight) gives 6) ∷ (Slot-bad (f .due) t gives 7) ∷ ((next-in t ≡ ticket-limit) gives 8)
+    ∷ ((used-in t ≡ rows-of t) gives 9) ∷ []
+act-conditions sending t = (Past t gives 5) ∷ []
+
+unfoldable pub question-conditions : Question → List ℕ → List Condition
+question-conditions (marking s) t = (Past t gives 5) ∷ (Slot-bad s t gives 7) ∷ []
+question-conditions totalling t = (Past t gives 5) ∷ []
+
+unfoldable pub conditions : Call → List ℕ → List Condition
+conditions (opening u) t = (Length-bad t gives 2) ∷ ((most-last < u .last) gives 4) ∷ []
+conditions (acting a) t = if-sound t (act-conditions a t)
+conditions (asking q) t = if-sound t (question-conditions q t)
 
 unfoldable pub refusal-given : Call → List ℕ → ℕ → Type 0
-refusal-given (opening l) t = when 2 (Length-bad t) (when 4 (most-last < l) accepted)
-refusal-given (taking d w) t =
-    if-sound t (when 6 (Weight-bad w) (when 7 (Slot-bad d t) (when 8 (next-in t ≡ ticket-limit) (when 9 (used-in t ≡ rows-of t) accepted))))
-refusal-given sending t = if-sound t accepted
-refusal-given (marking s) t = if-sound t (when 7 (Slot-bad s t) accepted)
-refusal-given totalling t = if-sound t accepted
+refusal-given c t = Given (conditions c t)
 
 unfoldable pub substitute-given : (ticket : ℕ) → List ℕ → ℕ → Type 0
-substitute-given k t = if-sound t (when 10 (No-row k t) (when 11 (Not-planned k t) accepted))
+substitute-given k t = Given (if-sound t ((Past t gives 5) ∷ (No-row k t gives 10) ∷ (Not-planned k t gives 11) ∷ []))
 
 unfoldable pub list-given : (room : ℕ) → List ℕ → ℕ → Type 0
-list-given n t = if-sound t (when 12 (n < length (listed (round-in t))) accepted)
+list-given n t = Given (if-sound t ((Past t gives 5) ∷ ((n < length (listed (round-in t))) gives 12) ∷ []))
 
 unfoldable pub read-given : (line : List ℕ) → ℕ → Type 0
 read-given line = when 1 (No-command line) accepted

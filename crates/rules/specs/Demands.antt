@@ -6,14 +6,14 @@ use Prim.Native.Nat.{ℕ, suc, _+_, _*_, _-_, _≤_, _<_}
 use lib.Dec.{leb, eqb}
 use lib.ListN.{length, getD, take, drop}
 use Rattle.rules.specs.Limits.{head-size, row-size, most-rows, most-last, most-weight}
-use Rattle.rules.specs.Rows.{Row, Round, chosen, slots-left, sorted, heavier, canonical, Heavier, Canonical}
+use Rattle.rules.specs.Rows.{Frame, Setup, Row, Round, chosen, slots-left, sorted, heavier, canonical, Heavier, Canonical}
 use Rattle.rules.specs.Plan.{plan, total, total-weight, mark, feasible, planned, listed, beats-golden, golden-more}
 use Rattle.rules.specs.Steps.{opened, sent}
 use Rattle.rules.specs.Table.{value, table, round-in, round-good, table-refusal}
-use Rattle.rules.specs.Calls.{Call, opening, taking, sending, marking, totalling, Reply, refused, done, ticket, step, amount, number-of, ordinary, silence, refusal, round-refusal, says, answer, left, run, replies, at}
+use Rattle.rules.specs.Calls.{taking, sending, marking, totalling, Call, opening, acting, asking, Reply, refused, done, ticket, step, amount, number-of, ordinary, silence, refusal, round-refusal, says, answer, left, run, replies, at}
 use Rattle.rules.specs.Looking.{substitute-answer, list-refusal, list-answer, list-left}
 use Rattle.rules.specs.Lines.{Command, command, text, stands, read, read-refusal, payload-at, Place, payload-place, payload, write-refusal, write-answer, write-left, fresh-table, printed}
-use Rattle.rules.specs.Reads.{complete-from, begun-from, calls-of, Between, written-for, between-after, Some-bytes, joined}
+use Rattle.rules.specs.Reads.{complete-from, begun-from, calls-of, written-for, between-after, Some-bytes, joined}
 use Rattle.rules.specs.Conditions.{_⟺_, Bytes, Length-bad, Sound, when, accepted, No-command, refusal-given, substitute-given, list-given, read-given}
 use Rattle.rules.specs.PlanM.{PlanM, Above-golden, Golden-more, score}
 use Rattle.rules.specs.StepsOf.{Makes, Steps-of, Answers-of}
@@ -37,11 +37,9 @@ turns a (x ∷ xs) = a ∷ turns (suc a) xs
 -- no accepted opening among the calls
 unfoldable pub No-opening : List Call → Type 0
 No-opening [] = Unit {0}
-No-opening (opening l ∷ cs) = (most-last < l) × No-opening cs
-No-opening (taking d w ∷ cs) = No-opening cs
-No-opening (sending ∷ cs) = No-opening cs
-No-opening (marking s ∷ cs) = No-opening cs
-No-opening (totalling ∷ cs) = No-opening cs
+No-opening (opening u ∷ cs) = (most-last < u .last) × No-opening cs
+No-opening (acting a ∷ cs) = No-opening cs
+No-opening (asking q ∷ cs) = No-opening cs
 
 -- A POINT of a list: the table z is the model's round r; its plan is a best set of the waiting rows; each call answers as defined
 pub record Point (r : Round) (z : List ℕ) : Type 0 where
@@ -57,26 +55,26 @@ pub record Point (r : Round) (z : List ℕ) : Type 0 where
   pub over : r .last < r .slot → (plan r ≡ []) × (total r ≡ 0)
   pub answers : (c : Call) → answer c z ≡ cond (eqb (round-refusal c r) 0) (says c r) (refused (round-refusal c r))
 
--- THE THIRD DEMAND, of a list as a whole, on a table t of k rows opened with last slot l
-pub record Third (k l : ℕ) (t : List ℕ) (cs : List Call) : Type 0 where
-  pub opens : answer (opening l) t ≡ done
-  pub points : (xs ys : List Call) → cs ≡ xs ++ ys → Point (at k l xs) (run xs (left (opening l) t))
+-- THE THIRD DEMAND, of a list as a whole, on a table t of k rows opened with a setup u
+pub record Third (k : ℕ) (u : Setup) (t : List ℕ) (cs : List Call) : Type 0 where
+  pub opens : answer (opening u) t ≡ done
+  pub points : (xs ys : List Call) → cs ≡ xs ++ ys → Point (at k u xs) (run xs (left (opening u) t))
   -- marks of slots ahead never sink
-  pub marks : (xs ys zs : List Call) (s : ℕ) → cs ≡ xs ++ (ys ++ zs) → No-opening ys → at k l (xs ++ ys) .slot ≤ s →
-      s ≤ at k l (xs ++ ys) .last → mark (at k l xs) s ≤ mark (at k l (xs ++ ys)) s
+  pub marks : (xs ys zs : List Call) (s : ℕ) → cs ≡ xs ++ (ys ++ zs) → No-opening ys → at k u (xs ++ ys) .slot ≤ s →
+      s ≤ at k u (xs ++ ys) .last → mark (at k u xs) s ≤ mark (at k u (xs ++ ys)) s
   -- a newcomer raises the total by the part of its weight above the mark
-  pub newcomers : (xs ys : List Call) (d w : ℕ) → cs ≡ xs ++ (taking d w ∷ ys) → round-refusal (taking d w) (at k l xs) ≡ 0 →
-      total (at k l (xs ++ (taking d w ∷ []))) ≡ total (at k l xs) + (w - mark (at k l xs) d)
+  pub newcomers : (xs ys : List Call) (f : Frame) → cs ≡ xs ++ (acting (taking f) ∷ ys) → round-refusal (acting (taking f)) (at k u xs) ≡ 0 →
+      total (at k u (xs ++ (acting (taking f) ∷ []))) ≡ total (at k u xs) + (f .weight - mark (at k u xs) (f .due))
   -- both once more by the replies alone
-  pub marks-answered : (xs ys zs : List Call) (ps qs ts : List Reply) (s m n : ℕ) → cs ≡ xs ++ (marking s ∷ (ys ++ (marking s ∷ zs))) →
-      No-opening ys → replies cs (left (opening l) t) ≡ ps ++ (amount m ∷ (qs ++ (amount n ∷ ts))) → length ps ≡ length xs → length qs ≡ length ys → m ≤ n
-  pub newcomers-answered : (xs ys : List Call) (ps qs : List Reply) (d w k′ a m b : ℕ) →
-      cs ≡ xs ++ (totalling ∷ marking d ∷ taking d w ∷ totalling ∷ ys) →
-      replies cs (left (opening l) t) ≡ ps ++ (amount a ∷ amount m ∷ ticket k′ ∷ amount b ∷ qs) → length ps ≡ length xs → b ≡ a + (w - m)
+  pub marks-answered : (xs ys zs : List Call) (ps qs ts : List Reply) (s m n : ℕ) → cs ≡ xs ++ (asking (marking s) ∷ (ys ++ (asking (marking s) ∷ zs))) →
+      No-opening ys → replies cs (left (opening u) t) ≡ ps ++ (amount m ∷ (qs ++ (amount n ∷ ts))) → length ps ≡ length xs → length qs ≡ length ys → m ≤ n
+  pub newcomers-answered : (xs ys : List Call) (ps qs : List Reply) (f : Frame) (k′ a m b : ℕ) →
+      cs ≡ xs ++ (asking totalling ∷ asking (marking (f .due)) ∷ acting (taking f) ∷ asking totalling ∷ ys) →
+      replies cs (left (opening u) t) ≡ ps ++ (amount a ∷ amount m ∷ ticket k′ ∷ amount b ∷ qs) → length ps ≡ length xs → b ≡ a + (f .weight - m)
 
 unfoldable pub Demand-three : Type 0
 Demand-three =
-    (t : List ℕ) (k l : ℕ) (cs : List Call) → length t ≡ head-size + row-size * k → 1 ≤ k → k ≤ most-rows → l ≤ most-last → Third k l t cs
+    (t : List ℕ) (k : ℕ) (u : Setup) (cs : List Call) → length t ≡ head-size + row-size * k → 1 ≤ k → k ≤ most-rows → u .last ≤ most-last → Third k u t cs
 
 -- DEMAND 1: each number comes under its condition and no other; soundness is document 01's clauses; accepted calls leave sound tables
 unfoldable pub Refusals : Type 0
@@ -93,8 +91,8 @@ Stays-sound = (c : Call) (t : List ℕ) → refusal c t ≡ 0 → (table-refusal
 
 unfoldable pub Opening-alone : Type 0
 Opening-alone =
-    (l : ℕ) (t u : List ℕ) → length t ≡ length u →
-    (answer (opening l) t ≡ answer (opening l) u) × (answer (opening l) t ≡ done → left (opening l) t ≡ left (opening l) u)
+    (s : Setup) (t u : List ℕ) → length t ≡ length u →
+    (answer (opening s) t ≡ answer (opening s) u) × (answer (opening s) t ≡ done → left (opening s) t ≡ left (opening s) u)
 
 -- L8: a word of bytes, however many, is 0 exactly when all of them are
 unfoldable pub Word-zero : Type 0
@@ -162,7 +160,7 @@ unfoldable pub Listed-fits : Type 0
 Listed-fits = (r : Round) → round-good r ≡ true → (xs ys : List Row) (x : Row) → listed r ≡ xs ++ (x ∷ ys) → r .slot + length xs ≤ x .due
 
 unfoldable pub Opened-silent : Type 0
-Opened-silent = (l k : ℕ) → says sending (opened l k) ≡ step (ordinary silence)
+Opened-silent = (u : Setup) (k : ℕ) → says (acting sending) (opened u k) ≡ step (ordinary silence)
 
 -- TEXT LINES: a line is read as a command with a payload exactly where it is their text; reader and writer undo each other; 1 before 12
 unfoldable pub Lines-exact : Type 0

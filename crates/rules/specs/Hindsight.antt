@@ -8,7 +8,8 @@ use Prim.Native.Nat.{ℕ, zero, suc, _+_, _*_, _-_, _≤_, max}
 use lib.Dec.{leb, eqb}
 use lib.ListN.{length}
 use Rattle.rules.specs.Limits.{head-size, row-size, most-rows, most-last}
-use Rattle.rules.specs.Calls.{Call, opening, taking, sending, marking, totalling, Out, silence, frame, kept-blank, ordinary, leap, Reply, refused, done, ticket, step, amount, blank-due, left, run, replies}
+use Rattle.rules.specs.Rows.{Setup}
+use Rattle.rules.specs.Calls.{taking, sending, Call, opening, acting, asking, Out, silence, frame, kept-blank, ordinary, leap, Reply, refused, done, ticket, step, amount, blank-due, left, run, replies}
 use Rattle.rules.specs.Conditions.{Past}
 use Rattle.rules.specs.Demands.{member, No-opening}
 
@@ -36,11 +37,10 @@ went-out (amount n) = nothing
 went-out (blank-due s) = nothing
 
 unfoldable pub told : Call → Reply → Told
-told (opening l) a = nothing
-told (taking d w) a = took-in d w a
-told sending a = went-out a
-told (marking s) a = nothing
-told totalling a = nothing
+told (opening u) a = nothing
+told (acting (taking f)) a = took-in (f .due) (f .weight) a
+told (acting sending) a = went-out a
+told (asking q) a = nothing
 
 unfoldable pub story : List Call → List Reply → List Told
 story [] bs = []
@@ -123,8 +123,8 @@ Most-reckoned = (xs : List Offer) → Most xs (most xs [])
 -- A CLAIM about every list of calls on a table just opened, with no accepted opening among them: of the bytes afterwards and of what is told
 abbrev pub Of-rounds : (claim : (bytes : List ℕ) → List Told → Type 0) → Type 0
 Of-rounds claim =
-    (t : List ℕ) (k l : ℕ) (cs : List Call) → length t ≡ head-size + row-size * k → 1 ≤ k → k ≤ most-rows → l ≤ most-last → No-opening cs →
-    let z = left (opening l) t in claim (run cs z) (story cs (replies cs z))
+    (t : List ℕ) (k : ℕ) (u : Setup) (cs : List Call) → length t ≡ head-size + row-size * k → 1 ≤ k → k ≤ most-rows → u .last ≤ most-last → No-opening cs →
+    let z = left (opening u) t in claim (run cs z) (story cs (replies cs z))
 
 -- what went out could have: S is at most B
 unfoldable pub Sent-could-have : Type 0

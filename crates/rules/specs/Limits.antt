@@ -1,5 +1,6 @@
 -- Sizes, byte places and limits of document 01, each named once.
-use Prim.Native.Nat.{ℕ}
+use mathlib.Core.List.{List, [], _∷_}
+use Prim.Native.Nat.{ℕ, _+_}
 
 -- the table: a head, then rows
 abbrev pub head-size : ℕ
@@ -21,7 +22,28 @@ most-weight = 16777216
 abbrev pub ticket-limit : ℕ
 ticket-limit = 16777216
 
--- places in the head, and where its zeros begin
+-- widths in bytes: a slot or a count of rows; a ticket or a weight; a kind
+abbrev pub slot-bytes : ℕ
+slot-bytes = 2
+
+abbrev pub wide-bytes : ℕ
+wide-bytes = 4
+
+abbrev pub kind-bytes : ℕ
+kind-bytes = 1
+
+-- A LAYOUT: the widths of numbers that stand side by side; its bytes in all
+abbrev pub size : (widths : List ℕ) → ℕ
+size [] = 0
+size (n ∷ ns) = n + size ns
+
+-- the head: current slot, last slot, next ticket, rows in use, its tail; where each begins, and its zeros
+abbrev pub head-tail-widths : List ℕ
+head-tail-widths = []
+
+abbrev pub head-widths : List ℕ
+head-widths = slot-bytes ∷ slot-bytes ∷ wide-bytes ∷ slot-bytes ∷ head-tail-widths
+
 abbrev pub slot-at : ℕ
 slot-at = 0
 
@@ -35,9 +57,15 @@ abbrev pub used-at : ℕ
 used-at = 8
 
 abbrev pub head-zeros-at : ℕ
-head-zeros-at = 10
+head-zeros-at = size head-widths
 
--- places in a row, and where its zeros begin
+-- a row: ticket, due slot, weight, its tail, which is the kind; where each begins, and its zeros
+abbrev pub tail-widths : List ℕ
+tail-widths = kind-bytes ∷ []
+
+abbrev pub row-widths : List ℕ
+row-widths = wide-bytes ∷ slot-bytes ∷ wide-bytes ∷ tail-widths
+
 abbrev pub ticket-at : ℕ
 ticket-at = 0
 
@@ -51,17 +79,7 @@ abbrev pub kind-at : ℕ
 kind-at = 10
 
 abbrev pub row-zeros-at : ℕ
-row-zeros-at = 11
-
--- widths in bytes: a slot or a count of rows; a ticket or a weight; a kind
-abbrev pub slot-bytes : ℕ
-slot-bytes = 2
-
-abbrev pub wide-bytes : ℕ
-wide-bytes = 4
-
-abbrev pub kind-bytes : ℕ
-kind-bytes = 1
+row-zeros-at = size row-widths
 
 -- text lines: digits of a slot and of a weight or ticket, and the most payload digits
 abbrev pub slot-digits : ℕ

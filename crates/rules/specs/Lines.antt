@@ -5,7 +5,8 @@ use Prim.Native.Nat.{ℕ, zero, suc, _+_, _*_, _-_, _/_, _%_, _^_}
 use lib.Dec.{ltb, leb, eqb}
 use lib.ListN.{length, getD, take, drop, replicate}
 use Rattle.rules.specs.Limits.{head-size, row-size, most-rows, slot-digits, wide-digits, most-payload}
-use Rattle.rules.specs.Calls.{Call, opening, taking, sending, Out, silence, frame, kept-blank, ordinary, leap, Reply, refused, done, ticket, step, amount, blank-due, answer, left}
+use Rattle.rules.specs.Rows.{framed, until}
+use Rattle.rules.specs.Calls.{taking, sending, Call, opening, acting, Out, silence, frame, kept-blank, ordinary, leap, Reply, refused, done, ticket, step, amount, blank-due, answer, left}
 
 -- DIGITS 0 to 9 and A to F as bytes, and numbers in digits, high digit first
 unfoldable pub digit : ℕ → ℕ
@@ -36,9 +37,9 @@ pub data Command : Type 0 where
   send-line : Command
 
 unfoldable pub call-of : Command → Call
-call-of (open-line l) = opening l
-call-of (take-line d w) = taking d w
-call-of send-line = sending
+call-of (open-line l) = opening (until l)
+call-of (take-line d w) = acting (taking (framed d w))
+call-of send-line = acting sending
 
 -- THE TEXT of a command with its payload digits, and whether they can stand in a line
 abbrev pub line-end : ℕ

@@ -9,7 +9,7 @@ use lib.ListN.{length, drop}
 use Rattle.rules.specs.Rows.{Row, Round}
 use Rattle.rules.specs.Plan.{plan, substitute, in-plan, listed}
 use Rattle.rules.specs.Table.{round-in, table-refusal}
-use Rattle.rules.specs.Calls.{Reply, refused, ticket, amount, blank-due, first, send-refusal}
+use Rattle.rules.specs.Calls.{Reply, refused, ticket, amount, blank-due, first, first-of, over, _⇒_}
 
 -- WHAT A CALL THAT ONLY LOOKS PROMISES: its reply is the one named, and every byte of the table is as it was
 abbrev pub Looks : (named reply : Reply) → (entry exit : List ℕ) → Type 0
@@ -28,14 +28,14 @@ stand-in r (some x) =
 
 unfoldable pub substitute-answer : (ticket : ℕ) → List ℕ → Reply
 substitute-answer k t =
-    let n = first (table-refusal t) (send-refusal (round-in t)) in
+    let n = first (table-refusal t) (first-of (over (round-in t .slot) (round-in t .last) ∷ [])) in
     cond (eqb n 0) (stand-in (round-in t) (with-ticket k (round-in t .rows))) (refused n)
 
 -- LISTING the plan into a lent list: 2, 3, 5, 12; the count, and the list afterwards, for any form of entry
 unfoldable pub list-refusal : List ℕ → (room : ℕ) → ℕ
 list-refusal t n =
     first (table-refusal t)
-    (first (send-refusal (round-in t)) (cond (ltb n (length (listed (round-in t)))) 12 0))
+    (first-of (over (round-in t .slot) (round-in t .last) ∷ (ltb n (length (listed (round-in t))) ⇒ 12) ∷ []))
 
 unfoldable pub list-answer : List ℕ → (room : ℕ) → Reply
 list-answer t n = cond (eqb (list-refusal t n) 0) (amount (length (listed (round-in t)))) (refused (list-refusal t n))

@@ -6,18 +6,49 @@ use mathlib.Core.List.{List, [], _∷_}
 use Prim.Native.Nat.{ℕ, suc, _-_, _<_}
 use lib.Dec.{ltb, eqb}
 
--- A ROW: a frame (kind 0; a packet in the paper) or a kept blank (1). Ticket 0: a blank without a row (a virtual packet)
+-- A FRAME as it is handed in (the paper's packet)
+pub record Frame : Type 0 where
+  pub due : ℕ
+  pub weight : ℕ
+
+abbrev pub framed : (due weight : ℕ) → Frame
+framed d w = record { due = d; weight = w }
+
+-- A SETUP: what a round is opened with
+pub record Setup : Type 0 where
+  pub last : ℕ
+
+abbrev pub until : (last : ℕ) → Setup
+until l = record { last = l }
+
+-- A ROW's TAIL: what plan, marks and steps hand on unread. The kind is 0 of a frame, 1 of a kept blank
+pub record Tail : Type 0 where
+  pub kind : ℕ
+
+abbrev pub frame-tail : Tail
+frame-tail = record { kind = 0 }
+
+abbrev pub blank-tail : Tail
+blank-tail = record { kind = 1 }
+
+-- A ROW: a frame or a kept blank. Ticket 0: a blank without a row (a virtual packet)
 pub record Row : Type 0 where
   pub ticket : ℕ
   pub due : ℕ
   pub weight : ℕ
-  pub kind : ℕ
+  pub tail : Tail
 
-unfoldable pub row : (ticket due weight kind : ℕ) → Row
-row k d w b = record { ticket = k; due = d; weight = w; kind = b }
+unfoldable pub row : (ticket due weight : ℕ) → Tail → Row
+row k d w m = record { ticket = k; due = d; weight = w; tail = m }
 
 unfoldable pub blank : (due : ℕ) → Row
-blank s = record { ticket = 0; due = s; weight = 0; kind = 0 }
+blank s = record { ticket = 0; due = s; weight = 0; tail = frame-tail }
+
+-- A HEAD's TAIL: what a round has beside its slots, tickets and rows, handed on by taking and sending. Nothing yet
+pub record Head-tail : Type 0 where
+
+abbrev pub no-tail : Head-tail
+no-tail = record {}
 
 -- A ROUND: current slot (the paper's time step t), last slot, next ticket, room for rows, rows in ticket order.
 -- The due slot is the paper's deadline
@@ -27,13 +58,14 @@ pub record Round : Type 0 where
   pub next : ℕ
   pub room : ℕ
   pub rows : List Row
+  pub tail : Head-tail
 
-unfoldable pub round : (slot last next room : ℕ) → List Row → Round
-round t l n k xs = record { slot = t; last = l; next = n; room = k; rows = xs }
+unfoldable pub round : (slot last next room : ℕ) → List Row → Head-tail → Round
+round t l n k xs m = record { slot = t; last = l; next = n; room = k; rows = xs; tail = m }
 
 -- the same round at another slot, next ticket and rows
 abbrev pub going-on : (slot next : ℕ) → List Row → Round → Round
-going-on t n xs r = round t (r .last) n (r .room) xs
+going-on t n xs r = round t (r .last) n (r .room) xs (r .tail)
 
 unfoldable pub slots-left : Round → ℕ
 slots-left r = suc (r .last) - r .slot

@@ -3,16 +3,26 @@ use mathlib.Core.Bool.{Bool, _&&_, cond}
 use mathlib.Core.List.{List, [], _∷_, _++_}
 use Prim.Native.Nat.{ℕ, zero, suc, max}
 use lib.Dec.{ltb, leb, eqb}
-use Rattle.rules.specs.Rows.{Row, Round, row, blank, round, going-on, heavier}
+use Rattle.rules.specs.Rows.{Frame, Setup, Row, Round, row, blank, round, going-on, heavier, frame-tail, blank-tail, no-tail}
 use Rattle.rules.specs.Plan.{plan, mark-in, tight-after, first-end, substitute, best}
 
 -- OPENING
-unfoldable pub opened : (last room : ℕ) → Round
-opened l k = round 0 l 1 k []
+unfoldable pub opened : Setup → (room : ℕ) → Round
+opened u k = round 0 (u .last) 1 k [] no-tail
 
 -- TAKING: the first unused row gets the next ticket
-unfoldable pub taken : Round → (due weight : ℕ) → Round
-taken r d w = going-on (r .slot) (suc (r .next)) (r .rows ++ (row (r .next) d w 0 ∷ [])) r
+abbrev pub taken-row : (ticket : ℕ) → Frame → Row
+taken-row k f = row k (f .due) (f .weight) frame-tail
+
+unfoldable pub taken : Round → Frame → Round
+taken r f = going-on (r .slot) (suc (r .next)) (r .rows ++ (taken-row (r .next) f ∷ [])) r
+
+-- a row at another due slot and weight; a row kept as a blank there
+abbrev pub moved-to : (due weight : ℕ) → Row → Row
+moved-to d w x = row (x .ticket) d w (x .tail)
+
+abbrev pub kept-at : (due weight : ℕ) → Row → Row
+kept-at d w x = row (x .ticket) d w blank-tail
 
 -- a row changed or gone, by its ticket
 unfoldable pub changed : (ticket : ℕ) → (new : Row) → List Row → List Row
@@ -34,7 +44,7 @@ unfoldable pub shifted : (fuel : ℕ) → Round → (ps : List Row) → (e g : �
 shifted zero r ps e g xs = xs
 shifted (suc n) r ps e g xs =
     let h = heaviest-between e g ps (blank (suc g)) in
-    let moved = changed (h .ticket) (row (h .ticket) e (max (h .weight) (mark-in r ps e)) (h .kind)) xs in
+    let moved = changed (h .ticket) (moved-to e (max (h .weight) (mark-in r ps e)) h) xs in
     cond (ltb e g) (shifted n r ps (tight-after r ps (h .due)) g moved) xs
 
 -- step 3: r's weight becomes its mark; a blank becomes a kept blank in p's row where that is above 0
@@ -42,8 +52,8 @@ unfoldable pub replaced : Round → (ps : List Row) → (p sub : Row) → (rows 
 replaced r ps p s xs =
     let m = mark-in r ps (s .due) in
     cond (eqb (s .ticket) 0)
-    (cond (ltb 0 m) (changed (p .ticket) (row (p .ticket) (s .due) m 1) xs) (without (p .ticket) xs))
-    (without (p .ticket) (changed (s .ticket) (row (s .ticket) (s .due) m (s .kind)) xs))
+    (cond (ltb 0 m) (changed (p .ticket) (kept-at (s .due) m p) xs) (without (p .ticket) xs))
+    (without (p .ticket) (changed (s .ticket) (moved-to (s .due) m s) xs))
 
 unfoldable pub leapt : Round → (ps : List Row) → (p : Row) → List Row
 leapt r ps p =

@@ -3,10 +3,10 @@ use mathlib.Core.Path.{_≡_}
 use mathlib.Core.Logic.{_⊎_, _≢_}
 use mathlib.Core.List.{List, [], _∷_}
 use Prim.Native.Nat.{ℕ, suc, _≤_, _<_, max}
-use Rattle.rules.specs.Rows.{Row, Round, row, blank, Heavier, In}
+use Rattle.rules.specs.Rows.{Row, Round, blank, Heavier, In}
 use Rattle.rules.specs.Plan.{plan, tight-after, first-end, mark, substitute, best}
-use Rattle.rules.specs.Steps.{sent}
-use Rattle.rules.specs.Calls.{Out, silence, frame, kept-blank, ordinary, leap, step, sending, says}
+use Rattle.rules.specs.Steps.{moved-to, kept-at, sent}
+use Rattle.rules.specs.Calls.{Out, silence, frame, kept-blank, ordinary, leap, step, acting, sending, says}
 
 -- document 01's p and r, here p and s, and where the segment of a row ends: the first tight slot at or after its due slot
 abbrev pub goes : Round → Row
@@ -70,13 +70,13 @@ Shifted (c ∷ cs) x e = (Is x (c .h) × (e ≡ c .e)) ⊎ Shifted cs x e
 
 -- A LEAP, its marks those before the slot: x shifted to e; x with its mark for weight; the kept blank in x's row
 abbrev pub shifted-to : Round → (e : ℕ) → Row → Row
-shifted-to r e x = row (x .ticket) e (max (x .weight) (mark r e)) (x .kind)
+shifted-to r e x = moved-to e (max (x .weight) (mark r e)) x
 
 abbrev pub at-mark : Round → Row → Row
-at-mark r x = row (x .ticket) (x .due) (mark r (x .due)) (x .kind)
+at-mark r x = moved-to (x .due) (mark r (x .due)) x
 
 abbrev pub kept-in : Round → Row → Row
-kept-in r x = row (x .ticket) (stands-in r .due) (mark r (stands-in r .due)) 1
+kept-in r x = kept-at (stands-in r .due) (mark r (stands-in r .due)) x
 
 -- a blank is kept where s is a blank and its mark is above 0; else p's row leaves
 abbrev pub Kept-blank : Round → Type 0
@@ -107,6 +107,7 @@ pub record Makes (r n : Round) : Type 0 where
   pub last : n .last ≡ r .last
   pub next : n .next ≡ r .next
   pub room : n .room ≡ r .room
+  pub tail : n .tail ≡ r .tail
   pub ordinary : goes r .due ≤ first-end r (plan r) → Slot-over (suc (r .slot)) (Goes-out r) (Unchanged r) (r .rows) (n .rows)
   pub leap : first-end r (plan r) < goes r .due → Leap r (n .rows)
 
@@ -116,12 +117,12 @@ Steps-of r = Makes r (sent r)
 -- WHAT WENT OUT, as the answer says it: a frame's ticket, a kept blank's, or silence where p has no row
 abbrev pub Went : Round → Out → Type 0
 Went r o =
-    (In (goes r) (r .rows) × (goes r .kind ≡ 0) × (o ≡ frame (goes r .ticket)))
-    ⊎ (In (goes r) (r .rows) × (goes r .kind ≡ 1) × (o ≡ kept-blank (goes r .ticket)))
+    (In (goes r) (r .rows) × (goes r .tail .kind ≡ 0) × (o ≡ frame (goes r .ticket)))
+    ⊎ (In (goes r) (r .rows) × (goes r .tail .kind ≡ 1) × (o ≡ kept-blank (goes r .ticket)))
     ⊎ ((goes r ≡ blank (goes r .due)) × (o ≡ silence))
 
 pub record Answers-of (r : Round) : Type 0 where
   pub out : Out
   pub went : Went r out
-  pub ordinary-said : goes r .due ≤ first-end r (plan r) → says sending r ≡ step (ordinary out)
-  pub leap-said : first-end r (plan r) < goes r .due → says sending r ≡ step (leap out)
+  pub ordinary-said : goes r .due ≤ first-end r (plan r) → says (acting sending) r ≡ step (ordinary out)
+  pub leap-said : first-end r (plan r) < goes r .due → says (acting sending) r ≡ step (leap out)

@@ -12,7 +12,8 @@ use Rattle.rules.specs.Limits.{most-weight}
 use Rattle.rules.specs.Rows.{Row, Round, blank, In}
 use Rattle.theory.specs.Tests.{leb?, eqb?}
 use Rattle.theory.specs.All.{all-in}
-use Rattle.theory.specs.Full.{Fine, Row-fine}
+use Rattle.theory.specs.Bounds.{Row-fine}
+use Rattle.theory.specs.Full.{Fine}
 use Rattle.theory.specs.Flags.{raised, Chosen, with-flag, raised-at}
 use Rattle.theory.specs.Index.{chosen-index, flag-in}
 use Rattle.theory.specs.Keys.{getD-in}

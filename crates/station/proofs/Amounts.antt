@@ -11,7 +11,8 @@ use Rattle.rules.specs.Table.{round-in, table-refusal}
 use Rattle.rules.specs.Calls.{totalling, send-refusal, first, round-refusal, table-first, refusal, says, answer}
 use Rattle.theory.specs.Tests.{either, eqb?}
 use Rattle.theory.specs.Sum.{sum, sum-chosen, total-sum}
-use Rattle.theory.specs.Full.{Fine, Row-fine}
+use Rattle.theory.specs.Bounds.{Row-fine}
+use Rattle.theory.specs.Full.{Fine}
 use Rattle.theory.specs.Same.{planned-weighs}
 use Rattle.theory.specs.Sane.{sound}
 use Rattle.packing.specs.Packing.{Small-amount}

@@ -8,7 +8,8 @@ use Rattle.rules.specs.Rows.{Row, row, round, blank}
 use Rattle.rules.specs.Table.{field, rows-in, round-in}
 use Rattle.rules.specs.Conditions.{row-at, used-in}
 use Rattle.theory.specs.All.{all-in}
-use Rattle.theory.specs.Full.{Fine, Row-fine}
+use Rattle.theory.specs.Bounds.{Row-fine}
+use Rattle.theory.specs.Full.{Fine}
 use Rattle.theory.specs.Keys.{getD-in}
 use Rattle.theory.specs.Sane.{sound}
 use Rattle.theory.specs.Clauses.{rows-count, length-long, accepted-length}

@@ -1,6 +1,6 @@
 -- The member that goes, from the plan's rows alone.
 use mathlib.Core.Path.{_≡_, refl, sym, ap, _∙_, subst}
-use mathlib.Core.Logic.{_⊎_, inl, inr, _≢_}
+use mathlib.Core.Logic.{_⊎_, inl, inr}
 use mathlib.Core.Bool.{Bool, true, false, cond, true≢false}
 use mathlib.Core.List.{List, [], _∷_}
 use Prim.Native.Nat.{ℕ, suc, _-_, _≤_, _<_}
@@ -14,7 +14,8 @@ use Rattle.rules.specs.Steps.{is-ordinary}
 use Rattle.theory.specs.Tests.{ltb?, eqb?}
 use Rattle.theory.specs.All.{all-in, all-of-in, Is-blank}
 use Rattle.theory.specs.Order.{Not-over, Not-before, canonical?, canonical-no, not-before-canonical, before-not, not-before-self, not-before-due, not-before-trans, not-before-both, heavier-no}
-use Rattle.theory.specs.Full.{Fine, Row-fine, plan-length}
+use Rattle.theory.specs.Bounds.{Row-fine}
+use Rattle.theory.specs.Full.{Fine, plan-length}
 use Rattle.theory.specs.Change.{rising-same}
 use Rattle.theory.specs.Same.{in-plan?, row-ticket}
 use Rattle.theory.specs.Score.{score-of, sends-by-score}
@@ -124,7 +125,7 @@ some-planned r f x i = of-list (planned r) refl
             l .full,
             ap (λ (zs : List Row). due-by (l .at) zs) e,
             l .from,
-            all-in (Row-fine r) x (r .rows) (f .fine) i .0,
+            all-in (Row-fine r) x (r .rows) (f .fine) i .due-from,
           ))
     ]
       where

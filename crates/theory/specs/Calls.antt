@@ -1,21 +1,24 @@
 -- Every round that a list of calls makes is sound; no mark sinks.
 use mathlib.Core.Path.{_≡_, refl, _∙_}
-use mathlib.Core.Bool.{Bool, true, false, _||_, cond, true≢false}
+use mathlib.Core.Logic.{_≢_}
+use mathlib.Core.Bool.{Bool, true, false, _&&_, _||_, cond, true≢false}
 use mathlib.Core.List.{List, [], _∷_, _++_}
-use Prim.Native.Nat.{ℕ, suc, _≤_}
+use Prim.Native.Nat.{ℕ, suc, _≤_, _<_}
 use native.Mathlib.Omega.{arith}
 use lib.Dec.{ltb, leb, eqb}
-use borrow.Author.Tests.{lt-ltb, ltb-false, leb-true, leb-false, eqb-true, eqb-false}
-use Rattle.rules.specs.Limits.{most-last}
-use Rattle.rules.specs.Rows.{Row, Round, slots-left, round, row, In}
+use borrow.Author.Tests.{ltb-false, leb-true, leb-false, eqb-true, eqb-false}
+use lib.ListN.{length}
+use Rattle.rules.specs.Limits.{most-last, most-weight, ticket-limit}
+use Rattle.rules.specs.Rows.{Frame, Setup, Row, Round, slots-left, round, row, In}
 use Rattle.rules.specs.Plan.{plan, first-end, best, mark}
-use Rattle.rules.specs.Steps.{opened, taken, sent, without, still-due, leapt}
-use Rattle.rules.specs.Calls.{Call, opening, taking, sending, marking, totalling, open-refusal, take-refusal, send-refusal, mark-refusal, round-refusal, leaves, next-round, after}
+use Rattle.rules.specs.Steps.{opened, taken-row, taken, sent, without, still-due, leapt}
+use Rattle.rules.specs.Calls.{Act, taking, sending, Question, marking, totalling, Call, opening, acting, asking, Test, first-of, over, not-ahead, open-tests, take-tests, send-tests, mark-tests, act, question, deed, round-refusal, leaves, next-round, after}
 use Rattle.rules.specs.Demands.{No-opening}
-use Rattle.theory.specs.Tests.{both-ways}
+use Rattle.theory.specs.Tests.{and-true, both-ways}
 use Rattle.theory.specs.Sum.{sum-append}
 use Rattle.theory.specs.All.{all-map, all-append}
-use Rattle.theory.specs.Full.{Fine, Row-fine, Rising, plan-length}
+use Rattle.theory.specs.Bounds.{Row-fine}
+use Rattle.theory.specs.Full.{Fine, Rising, plan-length}
 use Rattle.theory.specs.Marks.{box, mark-stays}
 use Rattle.theory.specs.Change.{all-still, all-without, rising-still, rising-without, still-box}
 use Rattle.theory.specs.Send.{best-in, ordinary-fills}
@@ -30,49 +33,109 @@ pub or-false : (a b : Bool) → (a || b) ≡ false → (a ≡ false) × (b ≡ f
 or-false true b e = absurd (true≢false e)
 or-false false b e = (refl, e)
 
-pub record Takes (r : Round) (d w : ℕ) : Type 0 where
-  pub time : r .slot ≤ r .last
-  pub some : 1 ≤ w
-  pub limit : w ≤ 16777216
-  pub from : r .slot ≤ d
-  pub by : d ≤ r .last
+-- of a list of tests, each with a number above 0: none holds
+abbrev pub None : List Test → Type 0
+None [] = Unit {0}
+None (x ∷ xs) = (x .holds ≡ false) × None xs
 
-pub takes : (r : Round) (d w : ℕ) → take-refusal r d w ≡ 0 → Takes r d w
-unfolding take-refusal
-takes r d w e =
-    let a = no-refusal (ltb (r .last) (r .slot)) 4 _ e in
-    let b = no-refusal (eqb w 0 || ltb 16777216 w) 5 _ (a .1) in
-    let c = no-refusal (ltb d (r .slot) || ltb (r .last) d) 6 _ (b .1) in
-    let p = or-false (eqb w 0) (ltb 16777216 w) (b .0) in
-    let q = or-false (ltb d (r .slot)) (ltb (r .last) d) (c .0) in
-    let n = eqb-false w 0 (p .0) in
+abbrev pub numbered : List Test → Bool
+numbered [] = true
+numbered (x ∷ xs) = leb 1 (x .number) && numbered xs
+
+pub none-first : (b : Bool) (n z : ℕ) → 1 ≤ n → cond b n z ≡ 0 → (b ≡ false) × (z ≡ 0)
+none-first true n z h e = absurd (omega (arith, h, e))
+none-first false n z h e = (refl, e)
+
+pub none-holds : (xs : List Test) → numbered xs ≡ true → first-of xs ≡ 0 → None xs
+none-holds [] n e = tt
+none-holds (x ∷ xs) n e =
+    let p = and-true (leb 1 (x .number)) (numbered xs) n in
+    let h = none-first (x .holds) (x .number) (first-of xs) (leb-true 1 (x .number) (p .0)) e in (h .0, none-holds xs (p .1) (h .1))
+
+-- the round is not over; a slot is ahead
+pub not-over : (r : Round) → over (r .slot) (r .last) .holds ≡ false → r .slot ≤ r .last
+not-over r e = ltb-false (r .last) (r .slot) e
+
+pub ahead : (r : Round) (s : ℕ) → not-ahead (r .slot) (r .last) s .holds ≡ false → (r .slot ≤ s) × (s ≤ r .last)
+ahead r s e =
+    let h = or-false (ltb s (r .slot)) (ltb (r .last) s) e in (ltb-false s (r .slot) (h .0), ltb-false (r .last) s (h .1))
+
+-- AN ACCEPTED TAKING
+pub record Takes (r : Round) (f : Frame) : Type 0 where
+  pub time : r .slot ≤ r .last
+  pub some : 1 ≤ f .weight
+  pub limit : f .weight ≤ most-weight
+  pub from : r .slot ≤ f .due
+  pub by : f .due ≤ r .last
+  pub tickets : r .next ≢ ticket-limit
+  pub free : length (r .rows) < r .room
+
+pub takes : (r : Round) (f : Frame) → round-refusal (acting (taking f)) r ≡ 0 → Takes r f
+unfolding round-refusal deed act
+takes r f e =
+    let h = none-holds (take-tests (r .slot) (r .last) (r .next) (length (r .rows)) (r .room) f) refl e in
+    let w = or-false (eqb (f .weight) 0) (ltb most-weight (f .weight)) (h .1 .0) in
+    let d = ahead r (f .due) (h .1 .1 .0) in
+    let n = eqb-false (f .weight) 0 (w .0) in
     record {
-      time = ltb-false (r .last) (r .slot) (a .0);
+      time = not-over r (h .0);
       some = omega arith;
-      limit = ltb-false 16777216 w (p .1);
-      from = ltb-false d (r .slot) (q .0);
-      by = ltb-false (r .last) d (q .1);
+      limit = ltb-false most-weight (f .weight) (w .1);
+      from = d .0;
+      by = d .1;
+      tickets = eqb-false (r .next) ticket-limit (h .1 .1 .1 .0);
+      free = leb-false (r .room) (length (r .rows)) (h .1 .1 .1 .1 .0);
     }
 
-pub sends : (r : Round) → send-refusal r ≡ 0 → r .slot ≤ r .last
-unfolding send-refusal
-sends r e = ltb-false (r .last) (r .slot) (no-refusal (ltb (r .last) (r .slot)) 4 0 e .0)
+-- an accepted sending; an opening; a mark answered
+pub sends : (r : Round) → round-refusal (acting sending) r ≡ 0 → r .slot ≤ r .last
+unfolding round-refusal deed act
+sends r e = not-over r (none-holds (send-tests (r .slot) (r .last)) refl e .0)
 
-pub opened-fine : (l k : ℕ) → Fine (opened l k)
+pub opens : (u : Setup) (r : Round) → round-refusal (opening u) r ≡ 0 → u .last ≤ most-last
+unfolding round-refusal deed
+opens u r e = ltb-false most-last (u .last) (none-holds (open-tests u) refl e .0)
+
+pub marks-ahead : (r : Round) (s : ℕ) → round-refusal (asking (marking s)) r ≡ 0 → (r .slot ≤ s) × (s ≤ r .last)
+unfolding round-refusal deed question
+marks-ahead r s e = ahead r s (none-holds (mark-tests (r .slot) (r .last) s) refl e .1 .0)
+
+-- WHAT EVERY CALL KEEPS: a claim about rounds needs openings and acts alone, since a question leaves the round
+pub question-leaves : (q : Question) (r : Round) → leaves (asking q) r ≡ r
+unfolding leaves deed question
+question-leaves (marking s) r = refl
+question-leaves totalling r = refl
+
+module _ (P : Round → Type 0) (opened-keeps : (u : Setup) (r : Round) → u .last ≤ most-last → P r → P (opened u (r .room)))
+    (acts-keep : (a : Act) (r : Round) → round-refusal (acting a) r ≡ 0 → P r → P (leaves (acting a) r)) where
+  accepted-keeps : (c : Call) (r : Round) → P r → round-refusal c r ≡ 0 → P (leaves c r)
+  unfolding leaves deed
+  accepted-keeps (opening u) r p e = opened-keeps u r (opens u r e) p
+  accepted-keeps (acting a) r p e = acts-keep a r e p
+  accepted-keeps (asking q) r p e = rw (question-leaves q r) p
+
+  pub next-keeps : (c : Call) (r : Round) → P r → P (next-round c r)
+  unfolding next-round
+  next-keeps c r p =
+      both-ways P (eqb (round-refusal c r) 0) (leaves c r) r (λ e. accepted-keeps c r p (eqb-true (round-refusal c r) 0 e)) (λ e. p)
+
+-- EVERY ROUND is sound
+pub opened-fine : (u : Setup) (k : ℕ) → Fine (opened u k)
 unfolding opened round
-opened-fine l k = record { time = omega arith; fine = tt; rising = omega arith }
+opened-fine u k = record { time = omega arith; fine = tt; rising = omega arith }
 
 pub rising-more : (a b : ℕ) (x : Row) (xs : List Row) → x .ticket ≡ b → Rising a b xs → Rising a (suc b) (xs ++ (x ∷ []))
 rising-more a b x [] e s = (omega arith, omega arith)
 rising-more a b x (y ∷ ys) e s = (s .0, rising-more (suc (y .ticket)) b x ys e (s .1))
 
-pub taken-fine : (r : Round) → Fine r → (d w : ℕ) → Takes r d w → Fine (taken r d w)
+pub taken-fine : (r : Round) → Fine r → (f : Frame) → Takes r f → Fine (taken r f)
 unfolding taken round row
-taken-fine r f d w k =
+taken-fine r g f k =
     record {
-      time = f .time;
-      fine = all-append (Row-fine r) (r .rows) (row (r .next) d w 0 ∷ []) (f .fine) ((k .from, k .by, k .some, k .limit), tt);
-      rising = rising-more 1 (r .next) (row (r .next) d w 0) (r .rows) refl (f .rising);
+      time = g .time;
+      fine = all-append (Row-fine r) (r .rows) (taken-row (r .next) f ∷ []) (g .fine)
+          (record { due-from = k .from; due-by = k .by; some = k .some; most = k .limit }, tt);
+      rising = rising-more 1 (r .next) (taken-row (r .next) f) (r .rows) refl (g .rising);
     }
 
 -- sending
@@ -104,33 +167,31 @@ sent-fine r f o =
     let l = sent-left r f o in
     record {
       time = omega arith;
-      fine = all-map {Q = Row-fine (sent r)} (λ x (h : (suc (r .slot) ≤ x .due) × Row-ok r x). (h .0, h .1 .0, h .1 .1, h .1 .2))
+      fine = all-map {Q = Row-fine (sent r)} (λ x (h : (suc (r .slot) ≤ x .due) × Row-ok r x).
+          record { due-from = h .0; due-by = h .1 .due-by; some = h .1 .some; most = h .1 .most })
           (still-due (suc (r .slot)) (sent-rows r)) (all-still (Row-ok r) (suc (r .slot)) (sent-rows r) (l .okay));
       rising = rising-still 1 (r .next) (suc (r .slot)) (sent-rows r) (l .rising);
     }
 
+pub act-fine : (a : Act) (r : Round) → round-refusal (acting a) r ≡ 0 → Fine r → Fine (leaves (acting a) r)
+unfolding leaves deed act
+act-fine (taking f) r e g = taken-fine r g f (takes r f e)
+act-fine sending r e g = sent-fine r g (sends r e)
+
 pub next-fine : (c : Call) (r : Round) → Fine r → Fine (next-round c r)
-unfolding next-round round-refusal leaves
-next-fine (opening l) r f = both-ways Fine (eqb (open-refusal l) 0) (opened l (r .room)) r (λ e. opened-fine l (r .room)) (λ e. f)
-next-fine (taking d w) r f =
-    both-ways Fine (eqb (take-refusal r d w) 0) (taken r d w) r
-    (λ e. taken-fine r f d w (takes r d w (eqb-true (take-refusal r d w) 0 e))) (λ e. f)
-next-fine sending r f =
-    both-ways Fine (eqb (send-refusal r) 0) (sent r) r (λ e. sent-fine r f (sends r (eqb-true (send-refusal r) 0 e))) (λ e. f)
-next-fine (marking s) r f = both-ways Fine (eqb (mark-refusal r s) 0) r r (λ e. f) (λ e. f)
-next-fine totalling r f = both-ways Fine (eqb (send-refusal r) 0) r r (λ e. f) (λ e. f)
+next-fine = next-keeps Fine (λ u r h g. opened-fine u (r .room)) act-fine
 
 -- NO MARK SINKS
 abbrev pub Stays : ℕ → Round → Round → Type 0
 Stays s r z = (z .last ≡ r .last) × (r .slot ≤ z .slot) × (z .slot ≤ s → s ≤ r .last → mark r s ≤ mark z s)
 
-pub taken-stays : (s : ℕ) (r : Round) → Fine r → (d w : ℕ) → Takes r d w → Stays s r (taken r d w)
+pub taken-stays : (s : ℕ) (r : Round) → Fine r → (f : Frame) → Takes r f → Stays s r (taken r f)
 unfolding taken round
-taken-stays s r f d w k = (
+taken-stays s r g f k = (
   refl,
   omega arith,
-  λ h i. mark-stays r (taken r d w) f (taken-fine r f d w k) (omega arith) refl s h i
-      (λ u e m v a b. omega (arith, plain r f u s e v m a b, sum-append (box u v (suc e)) (r .rows) (row (r .next) d w 0 ∷ []))),
+  λ h i. mark-stays r (taken r f) g (taken-fine r g f k) (omega arith) refl s h i
+      (λ u e m v a b. omega (arith, plain r g u s e v m a b, sum-append (box u v (suc e)) (r .rows) (taken-row (r .next) f ∷ []))),
 )
 
 pub sent-stays : (s : ℕ) (r : Round) → Fine r → r .slot ≤ r .last → Stays s r (sent r)
@@ -145,23 +206,29 @@ sent-stays s r f o = (
 pub same-stays : (s : ℕ) (r : Round) → Stays s r r
 same-stays s r = (refl, omega arith, λ h i. omega arith)
 
+pub act-stays : (s : ℕ) (a : Act) (r : Round) → Fine r → round-refusal (acting a) r ≡ 0 → Stays s r (leaves (acting a) r)
+unfolding leaves deed act
+act-stays s (taking f) r g e = taken-stays s r g f (takes r f e)
+act-stays s sending r g e = sent-stays s r g (sends r e)
+
+-- where an opening among the calls is refused
 pub next-stays : (s : ℕ) (c : Call) (cs : List Call) (r : Round) → Fine r → No-opening (c ∷ cs) → Stays s r (next-round c r) × No-opening cs
-unfolding next-round round-refusal leaves open-refusal No-opening
-next-stays s (opening l) cs r f n = (rw (lt-ltb most-last l (n .0)) (same-stays s r), n .1)
-next-stays s (taking d w) cs r f n = (
-  both-ways (Stays s r) (eqb (take-refusal r d w) 0) (taken r d w) r
-      (λ e. taken-stays s r f d w (takes r d w (eqb-true (take-refusal r d w) 0 e))) (λ e. same-stays s r),
+unfolding next-round No-opening
+next-stays s (opening u) cs r g n = (
+  both-ways (Stays s r) (eqb (round-refusal (opening u) r) 0) (leaves (opening u) r) r
+      (λ e. let h = opens u r (eqb-true (round-refusal (opening u) r) 0 e) in absurd (omega (arith, n .0))) (λ e. same-stays s r),
+  n .1,
+)
+next-stays s (acting a) cs r g n = (
+  both-ways (Stays s r) (eqb (round-refusal (acting a) r) 0) (leaves (acting a) r) r
+      (λ e. act-stays s a r g (eqb-true (round-refusal (acting a) r) 0 e)) (λ e. same-stays s r),
   n,
 )
-next-stays s sending cs r f n = (
-  both-ways (Stays s r) (eqb (send-refusal r) 0) (sent r) r (λ e. sent-stays s r f (sends r (eqb-true (send-refusal r) 0 e)))
-      (λ e. same-stays s r),
+next-stays s (asking q) cs r g n = (
+  both-ways (Stays s r) (eqb (round-refusal (asking q) r) 0) (leaves (asking q) r) r
+      (λ e. rw (question-leaves q r) (same-stays s r)) (λ e. same-stays s r),
   n,
 )
-next-stays s (marking u) cs r f n =
-    (both-ways (Stays s r) (eqb (mark-refusal r u) 0) r r (λ e. same-stays s r) (λ e. same-stays s r), n)
-next-stays s totalling cs r f n =
-    (both-ways (Stays s r) (eqb (send-refusal r) 0) r r (λ e. same-stays s r) (λ e. same-stays s r), n)
 
 pub after-stays : (s : ℕ) (cs : List Call) (r : Round) → Fine r → No-opening cs → Stays s r (after cs r)
 unfolding after

@@ -14,7 +14,8 @@ use Rattle.theory.specs.Tests.{either, ltb?}
 use Rattle.theory.specs.All.{in-mid, all-map, all-in, blank-weight, blank-is}
 use Rattle.theory.specs.Order.{Not-over, over-absurd, over-not, over-over, not-over-both, heavier-yes, heavier-no, over-heavier, not-over-heavier, not-over-weight}
 use Rattle.theory.specs.Feas.{below, num, below-yes, below-late, below-mono, num-mono}
-use Rattle.theory.specs.Full.{Fine, Row-fine, plan-full}
+use Rattle.theory.specs.Bounds.{Row-fine}
+use Rattle.theory.specs.Full.{Fine, plan-full}
 use Rattle.theory.specs.Marks.{Tight-in, Next, next}
 use Rattle.theory.specs.Change.{rising-same}
 use Rattle.theory.specs.Send.{between-count, next-by}
@@ -38,7 +39,7 @@ Chain r rs e g (h ∷ hs) = Heaviest-in rs e g h × Chain r rs (tight-after r (p
 
 -- a link moved to the end before it
 unfoldable pub moved-to : Round → (e : ℕ) → Row → Row
-moved-to r e h = row (h .ticket) e (max (h .weight) (mark r e)) (h .kind)
+moved-to r e h = row (h .ticket) e (max (h .weight) (mark r e)) (h .tail)
 
 unfoldable pub moves : Round → (e : ℕ) → (hs xs : List Row) → List Row
 moves r e [] xs = xs
@@ -49,7 +50,7 @@ module _ (r : Round) (f : Fine r) (rs : List Row) (c : Rows r rs) where
   heaviest-found e g h p =
       let z = heaviest-between e g (plan r) (blank (suc g)) in
       let t = heaviest e g (plan r) (blank (suc g)) in
-      let w = of-rows-fine r f rs c h (p .inside) .2 in
+      let w = of-rows-fine r f rs c h (p .inside) .some in
       let o : Not-over h z = all-in (λ y. (e < y .due) × (y .due ≤ g) → Not-over y z) h (plan r) (t .most) (found-member r f rs c h (p .inside))
       (p .after, p .by) in
       elim (t .found) [
@@ -82,7 +83,7 @@ module _ (r : Round) (f : Fine r) (rs : List Row) (c : Rows r rs) where
       ∙ chain-shifted n (tight-after r (plan r) (h .due)) g hs (changed (h .ticket) (moved-to r e h) xs) (k .1) (omega arith)
 
   pub end-of : (h : Row) → In h rs → Next r (plan r) (h .due) (tight-after r (plan r) (h .due))
-  end-of h i = next r (plan r) (h .due) (of-rows-fine r f rs c h i .1) (plan-full r f)
+  end-of h i = next r (plan r) (h .due) (of-rows-fine r f rs c h i .due-by) (plan-full r f)
 
   pub chain-length : (e g : ℕ) (hs : List Row) → Chain r rs e g hs → length hs ≤ g - e
   chain-length e g [] k = omega arith
@@ -192,7 +193,7 @@ module _ (r : Round) (f : Fine r) (rs : List Row) (c : Rows r rs) where
     | inl b ↦ absurd (over-absurd x s
         (heavier-yes x s (all-in (λ z. z .due ≤ tight-after r (plan r) (s .due) → heavier z s ≡ true) x (plan r)
         (plan-selection r f .out s i (in-plan-is r f rs c s i ∙ n)) j h))
-        (inl (omega (arith, all-in (Row-fine r) s (r .rows) (f .fine) i .2, blank-weight x b))))
+        (inl (omega (arith, all-in (Row-fine r) s (r .rows) (f .fine) i .some, blank-weight x b))))
     | inr b ↦ b
   ]
 
@@ -223,7 +224,7 @@ module _ (r : Round) (f : Fine r) (rs : List Row) (c : Rows r rs) where
   some-chain s i k zero e l t h = ([], omega arith)
   some-chain s i k (suc n) e l t h =
       let g = tight-after r (plan r) (s .due) in
-      let u = next r (plan r) (s .due) (all-in (Row-fine r) s (r .rows) (f .fine) i .1) (plan-full r f) in
+      let u = next r (plan r) (s .due) (all-in (Row-fine r) s (r .rows) (f .fine) i .due-by) (plan-full r f) in
       elim (ltb? e g) [
         | inl a ↦
             let y = stretch-row s i k e g l (a .1) (omega arith) t (u .tight) in

@@ -1,40 +1,27 @@
 -- A SOUND TABLE'S CLAUSES, in the order of a judge: a table of a good length is accepted exactly where they hold.
-use mathlib.Core.Path.{_≡_, refl, sym, ap, ap₂, _∙_}
+use mathlib.Core.Path.{_≡_, refl, sym, ap, _∙_}
 use mathlib.Core.Logic.{inl, inr}
 use mathlib.Core.Bool.{true, _&&_, not}
-use mathlib.Core.List.{List, [], _∷_, _++_, append-assoc, append-nil}
+use mathlib.Core.List.{List, [], _++_, append-assoc, append-nil}
 use Prim.Native.Nat.{ℕ, zero, suc, _+_, _*_, _-_, _/_, _%_, _≤_, _<_}
 use native.Mathlib.Omega.{arith}
 use lib.Dec.{leb, eqb}
 use borrow.Author.Tests.{leb-true, eqb-true, not-false}
 use lib.ListN.{length, drop, replicate, length-drop, drop-of-length-le}
 use lib.Seq.{drop-drop, drop-at}
-use Rattle.rules.specs.Limits.{head-size, row-size, most-rows, most-last, most-weight, ticket-limit}
-use Rattle.rules.specs.Limits.{head-zeros-at, ticket-at, due-at, weight-at, kind-at, row-zeros-at, slot-bytes, wide-bytes, kind-bytes}
+use Rattle.rules.specs.Limits.{head-size, row-size, most-rows, most-last, ticket-limit, row-widths, head-widths}
+use Rattle.rules.specs.Limits.{head-zeros-at, ticket-at, row-zeros-at, wide-bytes}
 use Rattle.rules.specs.Rows.{Row, Round, row, round, All}
-use Rattle.rules.specs.Table.{low, field, row-bytes, rows-bytes, table, rows-in, rows-of, round-in, length-good, round-good, same, table-refusal}
+use Rattle.rules.specs.Table.{field, put, row-values, front-row, head-values, head-bytes, head-tail-in, row-bytes, rows-bytes, table, rows-in, rows-of, round-in, length-good, round-good, same, table-refusal, low}
 use Rattle.rules.specs.Conditions.{Bytes, slot-in, last-in, next-in, used-in}
 use Rattle.theory.specs.Tests.{either, and-true}
-use Rattle.theory.specs.Full.{Row-fine, Rising}
+use Rattle.theory.specs.Bounds.{Row-fine, Row-right, Tail-fine}
+use Rattle.theory.specs.Full.{Rising}
 use Rattle.theory.specs.Calls.{no-refusal}
-use Rattle.theory.specs.Back.{good, same-same, rising-le, length-rows}
+use Rattle.theory.specs.Back.{good, same-same, rising-le, length-row, length-rows, rest-is}
+use Rattle.theory.specs.Layout.{got, put-got}
 use Rattle.theory.specs.Sane.{Stands-for, sound}
-use Rattle.theory.specs.Fields.{Zeros, bytes-drop, low-field, zeros-bytes, bytes-zeros}
-
--- A ROW'S CLAUSES, by its numbers
-pub record Row-right (s l n b : ℕ) (x : Row) : Type 0 where
-  pub from : b < x .ticket
-  pub below : x .ticket < n
-  pub due-from : s ≤ x .due
-  pub due-by : x .due ≤ l
-  pub some : 1 ≤ x .weight
-  pub most : x .weight ≤ most-weight
-  pub kinds : x .kind ≤ 1
-
--- the row that bytes begin with
-abbrev pub front-row : List ℕ → Row
-front-row bs =
-    row (field ticket-at wide-bytes bs) (field due-at slot-bytes bs) (field weight-at wide-bytes bs) (field kind-at kind-bytes bs)
+use Rattle.theory.specs.Fields.{Zeros, bytes-drop, zeros-bytes, bytes-zeros}
 
 -- the rows' clauses: each row on its own bytes, with the ticket of the row before
 abbrev pub Rows-right : (left : ℕ) → (s l n b : ℕ) → List ℕ → Type 0
@@ -55,43 +42,46 @@ pub record Clauses (t : List ℕ) : Type 0 where
 
 -- A ROUND'S TABLE exactly where every clause holds: the rows
 pub rows-stand : (r : Round) (k b : ℕ) (bs : List ℕ) → b < r .next → Rows-right k (r .slot) (r .last) (r .next) b bs →
-    All (Row-fine r) (rows-in k bs) × All (λ x. x .kind < 2) (rows-in k bs) × Rising (suc b) (r .next) (rows-in k bs)
+    All (Row-fine r) (rows-in k bs) × All Tail-fine (rows-in k bs) × Rising (suc b) (r .next) (rows-in k bs)
 unfolding rows-in row
 rows-stand r zero b bs h c = (tt, tt, h)
 rows-stand r (suc k) b bs h c =
     let x = c .0 in
-    let q = rows-stand r k (field 0 4 bs) (drop 24 bs) (x .below) (c .2) in
-    (((x .due-from, x .due-by, x .some, x .most), q .0), (omega (arith, x .kinds), q .1), (x .from, q .2))
+    let q = rows-stand r k (field ticket-at wide-bytes bs) (drop row-size bs) (x .below) (c .2) in
+    ((x .bounds, q .0), (x .tail, q .1), (x .from, q .2))
 
-pub row-bytes-are : (bs : List ℕ) → Bytes bs → row-size ≤ length bs → field kind-at kind-bytes bs ≤ 1 → Zeros row-zeros-at row-size bs →
-    bs ≡ row-bytes (front-row bs) ++ drop row-size bs
-unfolding row-bytes row low
-row-bytes-are bs h l k z =
-    let e : field 10 1 bs % 256 ≡ field 10 1 bs = omega arith in
-    low-field 0 4 bs h (omega arith)
-    ∙ ap (λ (cs : List ℕ). low 4 (field 0 4 bs) ++ cs) (low-field 4 2 bs h (omega arith)
-    ∙ ap (λ (cs : List ℕ). low 2 (field 4 2 bs) ++ cs) (low-field 6 4 bs h (omega arith)
-    ∙ ap (λ (cs : List ℕ). low 4 (field 6 4 bs) ++ cs) (low-field 10 1 bs h (omega arith)
-    ∙ ap₂ (λ (c : ℕ) (cs : List ℕ). c ∷ cs) e (zeros-bytes 11 13 bs z l))))
+pub row-bytes-are : (bs : List ℕ) → Bytes bs → row-size ≤ length bs → Zeros row-zeros-at row-size bs → bs ≡ row-bytes (front-row bs) ++ drop row-size bs
+unfolding row-bytes row got
+row-bytes-are bs h l z =
+    let vs = row-values (front-row bs) in
+    let n = row-size - row-zeros-at in
+    put-got row-widths 0 bs h (omega arith)
+    ∙ ap (λ (cs : List ℕ). put row-widths vs ++ cs) (zeros-bytes row-zeros-at n bs z l)
+    ∙ sym (append-assoc (put row-widths vs) (replicate n 0) (drop row-size bs))
+
+-- behind a row's numbers stand its zeros
+pub row-behind : (x : Row) (bs : List ℕ) → drop row-zeros-at (row-bytes x ++ bs) ≡ replicate (row-size - row-zeros-at) 0 ++ bs
+unfolding row-bytes put low
+row-behind x bs = refl
 
 pub rows-bytes-are : (k s l n b : ℕ) (bs : List ℕ) → Bytes bs → row-size * k ≤ length bs → Rows-right k s l n b bs →
     bs ≡ rows-bytes (rows-in k bs) ++ drop (row-size * k) bs
 unfolding rows-in rows-bytes row
 rows-bytes-are zero s l n b bs h m c = refl
 rows-bytes-are (suc k) s l n b bs h m c =
-    let ds = drop 24 bs in
+    let ds = drop row-size bs in
     let xs = rows-bytes (rows-in k ds) in
-    let e : 24 + 24 * k ≡ 24 * suc k = omega arith in
-    row-bytes-are bs h (omega arith) (c .0 .kinds) (c .1)
+    let e : row-size + row-size * k ≡ row-size * suc k = omega arith in
+    row-bytes-are bs h (omega arith) (c .1)
     ∙ ap (λ (cs : List ℕ). row-bytes (front-row bs) ++ cs)
-    (rows-bytes-are k s l n (field 0 4 bs) ds (bytes-drop 24 bs h) (omega (arith, length-drop 24 bs)) (c .2)
-    ∙ ap (λ (cs : List ℕ). xs ++ cs) (drop-drop (24 * k) 24 bs ∙ ap (λ (j : ℕ). drop j bs) e))
-    ∙ sym (append-assoc (row-bytes (front-row bs)) xs (drop (24 * suc k) bs))
+    (rows-bytes-are k s l n (field ticket-at wide-bytes bs) ds (bytes-drop row-size bs h) (omega (arith, length-drop row-size bs)) (c .2)
+    ∙ ap (λ (cs : List ℕ). xs ++ cs) (drop-drop (row-size * k) row-size bs ∙ ap (λ (j : ℕ). drop j bs) e))
+    ∙ sym (append-assoc (row-bytes (front-row bs)) xs (drop (row-size * suc k) bs))
 
 pub rows-count : (k : ℕ) (bs : List ℕ) → length (rows-in k bs) ≡ k
 unfolding rows-in
 rows-count zero bs = refl
-rows-count (suc k) bs = ap suc (rows-count k (drop 24 bs))
+rows-count (suc k) bs = ap suc (rows-count k (drop row-size bs))
 
 -- the whole, of a length of a head and rows
 abbrev pub Long : List ℕ → Type 0
@@ -100,56 +90,56 @@ Long t = (length t ≡ head-size + row-size * rows-of t) × (1 ≤ rows-of t) ×
 pub length-long : (t : List ℕ) → length-good (length t) ≡ true → Long t
 unfolding length-good rows-of
 length-long t e =
-    let a = and-true (leb 40 (length t)) (eqb ((length t - 16) % 24) 0 && leb ((length t - 16) / 24) 1024) e in
-    let b = and-true (eqb ((length t - 16) % 24) 0) (leb ((length t - 16) / 24) 1024) (a .1) in
-    let h = leb-true 40 (length t) (a .0) in
-    let m = eqb-true ((length t - 16) % 24) 0 (b .0) in
-    (omega arith, omega arith, leb-true ((length t - 16) / 24) 1024 (b .1))
+    let a = and-true (leb (head-size + row-size) (length t)) (eqb ((length t - head-size) % row-size) 0 && leb ((length t - head-size) / row-size) most-rows) e in
+    let b = and-true (eqb ((length t - head-size) % row-size) 0) (leb ((length t - head-size) / row-size) most-rows) (a .1) in
+    let h = leb-true (head-size + row-size) (length t) (a .0) in
+    let m = eqb-true ((length t - head-size) % row-size) 0 (b .0) in
+    (omega arith, omega arith, leb-true ((length t - head-size) / row-size) most-rows (b .1))
 
 pub rest-bytes-are : (t : List ℕ) → Long t → Clauses t →
     drop (head-size + row-size * used-in t) t ≡ replicate (row-size * (rows-of t - used-in t)) 0
 rest-bytes-are t h c =
-    let m = 16 + 24 * used-in t in
-    let n = 24 * (rows-of t - used-in t) in
+    let m = head-size + row-size * used-in t in
+    let n = row-size * (rows-of t - used-in t) in
     let e : m + n ≡ length t = omega (arith, h .0, c .fit) in
     zeros-bytes m n t (λ i p q. c .rest-zeros i p (omega arith)) (omega arith)
     ∙ ap (λ (cs : List ℕ). replicate n 0 ++ cs) (drop-of-length-le t {i = m + n} (omega arith))
     ∙ append-nil (replicate n 0)
 
 pub head-bytes-are : (t : List ℕ) → Bytes t → head-size ≤ length t → Zeros head-zeros-at head-size t →
-    t ≡ low 2 (slot-in t) ++ low 2 (last-in t) ++ low 4 (next-in t) ++ low 2 (used-in t) ++ replicate 6 0 ++ drop head-size t
-unfolding low
+    t ≡ head-bytes (slot-in t) (last-in t) (next-in t) (used-in t) (head-tail-in t) ++ drop head-size t
+unfolding head-bytes got
 head-bytes-are t h l z =
-    low-field 0 2 t h (omega arith)
-    ∙ ap (λ (cs : List ℕ). low 2 (slot-in t) ++ cs) (low-field 2 2 t h (omega arith)
-    ∙ ap (λ (cs : List ℕ). low 2 (last-in t) ++ cs) (low-field 4 4 t h (omega arith)
-    ∙ ap (λ (cs : List ℕ). low 4 (next-in t) ++ cs) (low-field 8 2 t h (omega arith)
-    ∙ ap (λ (cs : List ℕ). low 2 (used-in t) ++ cs) (zeros-bytes 10 6 t z l))))
+    let vs = head-values (slot-in t) (last-in t) (next-in t) (used-in t) (head-tail-in t) in
+    let n = head-size - head-zeros-at in
+    put-got head-widths 0 t h (omega arith)
+    ∙ ap (λ (cs : List ℕ). put head-widths vs ++ cs) (zeros-bytes head-zeros-at n t z l)
+    ∙ sym (append-assoc (put head-widths vs) (replicate n 0) (drop head-size t))
 
 pub bytes-are : (t : List ℕ) → Bytes t → Long t → Clauses t → table (round-in t) ≡ t
-unfolding table round-in round low
+unfolding table round-in round
 bytes-are t h g c =
     let u = used-in t in
-    let xs = rows-in u (drop 16 t) in
-    let e : length xs ≡ u = rows-count u (drop 16 t) in
-    let ds : List ℕ → List ℕ = λ cs. low 2 (slot-in t) ++ low 2 (last-in t) ++ low 4 (next-in t) ++ low 2 u ++ replicate 6 0 ++ cs in
+    let xs = rows-in u (drop head-size t) in
+    let e : length xs ≡ u = rows-count u (drop head-size t) in
+    let hd = head-bytes (slot-in t) (last-in t) (next-in t) u (head-tail-in t) in
     rw e (sym (head-bytes-are t h (omega (arith, g .0)) (c .head-zeros)
-    ∙ ap ds (rows-bytes-are u (slot-in t) (last-in t) (next-in t) 0 (drop 16 t) (bytes-drop 16 t h)
-    (omega (arith, length-drop 16 t, g .0, c .fit)) (c .rows)
-    ∙ ap (λ (cs : List ℕ). rows-bytes xs ++ cs) (drop-drop (24 * u) 16 t ∙ rest-bytes-are t g c))))
+    ∙ ap (λ (cs : List ℕ). hd ++ cs) (rows-bytes-are u (slot-in t) (last-in t) (next-in t) 0 (drop head-size t) (bytes-drop head-size t h)
+    (omega (arith, length-drop head-size t, g .0, c .fit)) (c .rows)
+    ∙ ap (λ (cs : List ℕ). rows-bytes xs ++ cs) (drop-drop (row-size * u) head-size t ∙ rest-bytes-are t g c))))
 
 -- every clause holds: accepted
 pub clauses-good : (t : List ℕ) → Long t → Clauses t → round-good (round-in t) ≡ true
 unfolding round-in round
 clauses-good t h c =
-    let q = rows-stand (round-in t) (used-in t) 0 (drop 16 t) (c .next-least) (c .rows) in
+    let q = rows-stand (round-in t) (used-in t) 0 (drop head-size t) (c .next-least) (c .rows) in
     good (round-in t) (record { time = c .slot-most; fine = q .0; rising = q .2 })
     (record {
       last = c .last-most;
       room = h .2;
       next = c .next-most;
-      long = omega (arith, rows-count (used-in t) (drop 16 t), c .fit);
-      kinds = q .1;
+      long = omega (arith, rows-count (used-in t) (drop head-size t), c .fit);
+      tails = q .1;
     })
 
 pub clauses-accepted : (t : List ℕ) → Bytes t → length-good (length t) ≡ true → Clauses t → table-refusal t ≡ 0
@@ -158,53 +148,53 @@ clauses-accepted t h g c =
     let l = length-long t g in rw (g, clauses-good t l c, bytes-are t h l c, same-same t)
 
 -- accepted: every clause holds
-pub rows-clauses : (r : Round) (k b : ℕ) (bs zs : List ℕ) → All (Row-fine r) (rows-in k bs) → All (λ x. x .kind < 2) (rows-in k bs) →
+pub rows-clauses : (r : Round) (k b : ℕ) (bs zs : List ℕ) → All (Row-fine r) (rows-in k bs) → All Tail-fine (rows-in k bs) →
     Rising (suc b) (r .next) (rows-in k bs) → bs ≡ rows-bytes (rows-in k bs) ++ zs → Rows-right k (r .slot) (r .last) (r .next) b bs
-unfolding rows-in row rows-bytes row-bytes low
+unfolding rows-in row rows-bytes
 rows-clauses r zero b bs zs f k s e = tt
 rows-clauses r (suc k) b bs zs f h s e =
     let x = front-row bs in
-    let xs = rows-in k (drop 24 bs) in (
-      record {
-        from = s .0;
-        below = rising-le (suc (x .ticket)) (r .next) xs (s .1);
-        due-from = f .0 .0;
-        due-by = f .0 .1;
-        some = f .0 .2;
-        most = f .0 .3;
-        kinds = omega (arith, h .0);
-      },
-      bytes-zeros 11 13 bs (rows-bytes xs ++ zs) (ap (λ (cs : List ℕ). drop 11 cs) e),
-      rows-clauses r k (x .ticket) (drop 24 bs) zs (f .1) (h .1) (s .1) (ap (λ (cs : List ℕ). drop 24 cs) e),
+    let xs = rows-in k (drop row-size bs) in
+    let ds = rows-bytes xs ++ zs in
+    let d : bs ≡ row-bytes x ++ ds = e ∙ append-assoc (row-bytes x) (rows-bytes xs) zs in (
+      record { from = s .0; below = rising-le (suc (x .ticket)) (r .next) xs (s .1); bounds = f .0; tail = h .0 },
+      bytes-zeros row-zeros-at (row-size - row-zeros-at) bs ds (ap (drop row-zeros-at) d ∙ row-behind x ds),
+      rows-clauses r k (x .ticket) (drop row-size bs) zs (f .1) (h .1) (s .1) (ap (drop row-size) d ∙ drop-at (row-bytes x) ds row-size (length-row x)),
     )
+
+-- behind a head's numbers stand its zeros
+pub head-behind : (r : Round) → drop head-zeros-at (table r) ≡ replicate (head-size - head-zeros-at) 0 ++ drop head-size (table r)
+unfolding table head-bytes put low
+head-behind r = refl
 
 module _ (t : List ℕ) (s : Stands-for t) where
   stands-count : length (round-in t .rows) ≡ used-in t
   unfolding round-in round
-  stands-count = rows-count (used-in t) (drop 16 t)
+  stands-count = rows-count (used-in t) (drop head-size t)
 
-  stands-rest : drop 16 t ≡ rows-bytes (round-in t .rows) ++ replicate (24 * (rows-of t - used-in t)) 0
-  unfolding table round-in round low
+  stands-rest : drop head-size t ≡ rows-bytes (round-in t .rows) ++ replicate (row-size * (rows-of t - used-in t)) 0
+  unfolding round-in round
   stands-rest =
-      ap (λ (cs : List ℕ). drop 16 cs) (sym (s .bytes))
-      ∙ ap (λ (n : ℕ). rows-bytes (round-in t .rows) ++ replicate (24 * (rows-of t - n)) 0) stands-count
+      ap (drop head-size) (sym (s .bytes)) ∙ rest-is (round-in t)
+      ∙ ap (λ (n : ℕ). rows-bytes (round-in t .rows) ++ replicate (row-size * (rows-of t - n)) 0) stands-count
 
-  stands-head : Zeros 10 16 t
-  unfolding table low
-  stands-head = bytes-zeros 10 6 t (drop 16 (table (round-in t))) (ap (λ (cs : List ℕ). drop 10 cs) (sym (s .bytes)))
+  stands-head : Zeros head-zeros-at head-size t
+  stands-head =
+      bytes-zeros head-zeros-at (head-size - head-zeros-at) t (drop head-size (table (round-in t)))
+      (ap (drop head-zeros-at) (sym (s .bytes)) ∙ head-behind (round-in t))
 
-  stands-behind : length t ≡ 16 + 24 * rows-of t → Zeros (16 + 24 * used-in t) (length t) t
+  stands-behind : length t ≡ head-size + row-size * rows-of t → Zeros (head-size + row-size * used-in t) (length t) t
   stands-behind l i h k =
-      let m = 24 * used-in t in
-      let n = 24 * (rows-of t - used-in t) in
+      let m = row-size * used-in t in
+      let n = row-size * (rows-of t - used-in t) in
       let xs = round-in t .rows in
-      bytes-zeros (16 + m) n t []
-      (sym (drop-drop m 16 t) ∙ ap (λ (cs : List ℕ). drop m cs) stands-rest
-      ∙ drop-at (rows-bytes xs) (replicate n 0) m (length-rows xs ∙ ap (λ (j : ℕ). 24 * j) stands-count)
+      bytes-zeros (head-size + m) n t []
+      (sym (drop-drop m head-size t) ∙ ap (λ (cs : List ℕ). drop m cs) stands-rest
+      ∙ drop-at (rows-bytes xs) (replicate n 0) m (length-rows xs ∙ ap (λ (j : ℕ). row-size * j) stands-count)
       ∙ sym (append-nil (replicate n 0)))
       i h (omega arith)
 
-  pub stands-clauses : length t ≡ 16 + 24 * rows-of t → Clauses t
+  pub stands-clauses : length t ≡ head-size + row-size * rows-of t → Clauses t
   unfolding round-in round
   stands-clauses l =
       let r = round-in t in
@@ -217,7 +207,7 @@ module _ (t : List ℕ) (s : Stands-for t) where
         next-least = rising-le 1 (r .next) (r .rows) (f .rising);
         next-most = z .next;
         head-zeros = stands-head;
-        rows = rows-clauses r (used-in t) 0 (drop 16 t) _ (f .fine) (z .kinds) (f .rising) stands-rest;
+        rows = rows-clauses r (used-in t) 0 (drop head-size t) _ (f .fine) (z .tails) (f .rising) stands-rest;
         rest-zeros = stands-behind l;
       }
 

@@ -7,12 +7,14 @@ use Prim.Native.Nat.{ℕ, suc, _+_, _*_, _-_, _≤_, _<_}
 use native.Mathlib.Omega.{arith}
 use lib.Dec.{leb, eqb}
 use borrow.Author.Tests.{le-leb, lt-leb, lt-ltb, le-ltb, ne-eqb}
-use lib.ListN.{length, getD, take, drop, replicate, length-append, length-drop, take-append-drop}
+use lib.ListN.{length, getD, take, drop, length-append, length-drop, take-append-drop}
 use lib.Seq.{take-suc, drop-cons, take-at, drop-at, drop-drop, take-add, take-length, take-take, paste, length-paste, take-paste, drop-paste, length-take-le}
-use Rattle.rules.specs.Rows.{Row, Round, blank, round, row, All, In}
+use Rattle.rules.specs.Limits.{head-size, row-size}
+use Rattle.rules.specs.Rows.{Row, Round, blank, row, All, In, going-on}
 use Rattle.rules.specs.Plan.{plan, tight-after, segment-start, mark, first-end, substitute, best}
-use Rattle.rules.specs.Steps.{changed, without, still-due, sent}
-use Rattle.rules.specs.Table.{low, row-bytes, rows-bytes, table}
+use Rattle.rules.specs.Steps.{moved-to, kept-at, changed, without, still-due, sent}
+use Rattle.rules.specs.Table.{row-bytes, rows-bytes}
+use Rattle.rules.specs.Conditions.{row-at}
 use Rattle.theory.specs.Tests.{either, eqb?}
 use Rattle.theory.specs.All.{all-of-in}
 use Rattle.theory.specs.Full.{Fine, Rising}
@@ -91,7 +93,7 @@ length-closed t k (x ∷ xs) = elim (either (stays t k x)) [
 
 -- THE ROUND AFTER, by the kind of step
 abbrev pub after-slot : Round → List Row → Round
-after-slot r xs = round (suc (r .slot)) (r .last) (r .next) (r .room) xs
+after-slot r xs = going-on (suc (r .slot)) (r .next) xs r
 
 module _ (r : Round) (f : Fine r) (rs : List Row) (c : Rows r rs) where
   pub sent-none : r .rows ≡ [] → (p : Row) → best r (plan r) ≡ p → p .due ≤ first-end r (plan r) → sent r ≡ after-slot r []
@@ -106,7 +108,7 @@ module _ (r : Round) (f : Fine r) (rs : List Row) (c : Rows r rs) where
   pub sent-row : (p s : Row) (hs : List Row) → best r (plan r) ≡ p → first-end r (plan r) < p .due → substitute r (plan r) p ≡ s → In s (r .rows) →
       Chain r rs (tight-after r (plan r) (p .due)) (tight-after r (plan r) (s .due)) hs →
       sent r ≡ after-slot r (closed (suc (r .slot)) (p .ticket)
-      (changed (s .ticket) (row (s .ticket) (s .due) (mark r (s .due)) (s .kind)) (moves r (tight-after r (plan r) (p .due)) hs (r .rows))))
+      (changed (s .ticket) (moved-to (s .due) (mark r (s .due)) s) (moves r (tight-after r (plan r) (p .due)) hs (r .rows))))
   unfolding sent row
   sent-row p s hs e h u i k =
       rw (
@@ -114,8 +116,8 @@ module _ (r : Round) (f : Fine r) (rs : List Row) (c : Rows r rs) where
         lt-leb (p .due) (first-end r (plan r)) h,
         leapt-row r f rs c p s hs u i k,
         closed-without (suc (r .slot)) (p .ticket) 1 (r .next)
-            (changed (s .ticket) (row (s .ticket) (s .due) (mark r (s .due)) (s .kind)) (moves r (tight-after r (plan r) (p .due)) hs (r .rows)))
-            (rising-changed 1 (r .next) (s .ticket) (row (s .ticket) (s .due) (mark r (s .due)) (s .kind)) refl
+            (changed (s .ticket) (moved-to (s .due) (mark r (s .due)) s) (moves r (tight-after r (plan r) (p .due)) hs (r .rows)))
+            (rising-changed 1 (r .next) (s .ticket) (moved-to (s .due) (mark r (s .due)) s) refl
             (moves r (tight-after r (plan r) (p .due)) hs (r .rows)) (rising-moves r 1 (r .next) (tight-after r (plan r) (p .due)) hs (r .rows) (f .rising))),
       )
 
@@ -123,7 +125,7 @@ module _ (r : Round) (f : Fine r) (rs : List Row) (c : Rows r rs) where
   pub sent-kept : (p : Row) → best r (plan r) ≡ p → In p (plan r) → first-end r (plan r) < p .due →
       substitute r (plan r) p ≡ blank (segment-start r (plan r) (p .due)) → 1 ≤ mark r (p .due) →
       sent r ≡ after-slot r (closed (suc (r .slot)) 0
-      (changed (p .ticket) (row (p .ticket) (segment-start r (plan r) (p .due)) (mark r (p .due)) 1) (r .rows)))
+      (changed (p .ticket) (kept-at (segment-start r (plan r) (p .due)) (mark r (p .due)) p) (r .rows)))
   unfolding sent row
   sent-kept p e i h u m =
       rw (
@@ -131,9 +133,9 @@ module _ (r : Round) (f : Fine r) (rs : List Row) (c : Rows r rs) where
         lt-leb (p .due) (first-end r (plan r)) h,
         leapt-blank r f rs c p i u,
         lt-ltb 0 (mark r (p .due)) m,
-        closed-all (suc (r .slot)) 1 (r .next) (changed (p .ticket) (row (p .ticket) (segment-start r (plan r) (p .due)) (mark r (p .due)) 1)
+        closed-all (suc (r .slot)) 1 (r .next) (changed (p .ticket) (kept-at (segment-start r (plan r) (p .due)) (mark r (p .due)) p)
             (r .rows)) (omega arith)
-            (rising-changed 1 (r .next) (p .ticket) (row (p .ticket) (segment-start r (plan r) (p .due)) (mark r (p .due)) 1) refl (r .rows) (f .rising)),
+            (rising-changed 1 (r .next) (p .ticket) (kept-at (segment-start r (plan r) (p .due)) (mark r (p .due)) p) refl (r .rows) (f .rising)),
       )
 
   -- onto one that isn't
@@ -151,18 +153,6 @@ module _ (r : Round) (f : Fine r) (rs : List Row) (c : Rows r rs) where
       )
 
 -- BYTES
-unfoldable pub head-bytes : (slot last next count : ℕ) → List ℕ
-head-bytes t l n c = low 2 t ++ low 2 l ++ low 4 n ++ low 2 c ++ replicate 6 0
-
-pub length-head : (t l n c : ℕ) → length (head-bytes t l n c) ≡ 16
-unfolding head-bytes low
-length-head t l n c = refl
-
-pub table-is : (t l n k : ℕ) (xs : List Row) →
-    table (round t l n k xs) ≡ head-bytes t l n (length xs) ++ (rows-bytes xs ++ replicate (24 * (k - length xs)) 0)
-unfolding table round head-bytes low
-table-is t l n k xs = refl
-
 pub rows-append : (xs ys : List Row) → rows-bytes (xs ++ ys) ≡ rows-bytes xs ++ rows-bytes ys
 unfolding rows-bytes
 rows-append [] ys = refl
@@ -179,7 +169,7 @@ rows-split xs i bs =
     ∙ ap (λ (cs : List ℕ). cs ++ bs) (rows-append (take i xs) (drop i xs))
     ∙ append-assoc (rows-bytes (take i xs)) (rows-bytes (drop i xs)) bs
 
-pub rows-long : (xs : List Row) (i : ℕ) → i ≤ length xs → length (rows-bytes (take i xs)) ≡ 24 * i
+pub rows-long : (xs : List Row) (i : ℕ) → i ≤ length xs → length (rows-bytes (take i xs)) ≡ row-size * i
 rows-long xs i h = omega (arith, length-rows (take i xs), length-take-le i xs h)
 
 -- what was pasted, read back
@@ -195,18 +185,18 @@ kept-of t k xs i = length (closed t k (take i xs))
 
 pub record Closing (t k : ℕ) (hd : List ℕ) (xs : List Row) (zs : List ℕ) (i : ℕ) (w : List ℕ) : Type 0 where
   pub ahead : i ≤ length xs
-  pub long : length w ≡ 16 + 24 * length xs + length zs
-  pub first : take (16 + 24 * kept-of t k xs i) w ≡ hd ++ rows-bytes (closed t k (take i xs))
-  pub rest : drop (16 + 24 * i) w ≡ rows-bytes (drop i xs) ++ zs
+  pub long : length w ≡ row-at (length xs) + length zs
+  pub first : take (row-at (kept-of t k xs i)) w ≡ hd ++ rows-bytes (closed t k (take i xs))
+  pub rest : drop (row-at i) w ≡ rows-bytes (drop i xs) ++ zs
 
-pub closing-start : (t k : ℕ) (hd : List ℕ) (xs : List Row) (zs : List ℕ) → length hd ≡ 16 → Closing t k hd xs zs 0 (hd ++ (rows-bytes xs ++ zs))
+pub closing-start : (t k : ℕ) (hd : List ℕ) (xs : List Row) (zs : List ℕ) → length hd ≡ head-size → Closing t k hd xs zs 0 (hd ++ (rows-bytes xs ++ zs))
 unfolding closed rows-bytes
 closing-start t k hd xs zs e =
     record {
       ahead = omega arith;
       long = omega (arith, e, length-append hd (rows-bytes xs ++ zs), length-append (rows-bytes xs) zs, length-rows xs);
-      first = take-at hd (rows-bytes xs ++ zs) 16 e ∙ sym (append-nil hd);
-      rest = drop-at hd (rows-bytes xs ++ zs) 16 e;
+      first = take-at hd (rows-bytes xs ++ zs) head-size e ∙ sym (append-nil hd);
+      rest = drop-at hd (rows-bytes xs ++ zs) head-size e;
     }
 
 pub closed-next : (t k : ℕ) (xs : List Row) (i : ℕ) (z : Row) → i < length xs →
@@ -241,22 +231,22 @@ module _ (t k : ℕ) (hd : List ℕ) (xs : List Row) (zs : List ℕ) where
   row-here i z h =
       ap (λ (ys : List Row). rows-bytes ys ++ zs) (drop-cons xs i z h) ∙ append-assoc (row-bytes (getD xs i z)) (rows-bytes (drop (suc i) xs)) zs
 
-  pub bytes-here : (i : ℕ) (z : Row) (w : List ℕ) → i < length xs → Closing t k hd xs zs i w → take 24 (drop (16 + 24 * i) w) ≡ row-bytes (getD xs i z)
+  pub bytes-here : (i : ℕ) (z : Row) (w : List ℕ) → i < length xs → Closing t k hd xs zs i w → take row-size (drop (row-at i) w) ≡ row-bytes (getD xs i z)
   bytes-here i z w h q =
-      ap (λ (cs : List ℕ). take 24 cs) (q .rest ∙ row-here i z h)
-      ∙ take-at (row-bytes (getD xs i z)) (rows-bytes (drop (suc i) xs) ++ zs) 24 (length-row (getD xs i z))
+      ap (λ (cs : List ℕ). take row-size cs) (q .rest ∙ row-here i z h)
+      ∙ take-at (row-bytes (getD xs i z)) (rows-bytes (drop (suc i) xs) ++ zs) row-size (length-row (getD xs i z))
 
-  pub rest-here : (i : ℕ) (z : Row) (w : List ℕ) → i < length xs → Closing t k hd xs zs i w → drop (16 + 24 * suc i) w ≡ rows-bytes (drop (suc i) xs) ++ zs
+  pub rest-here : (i : ℕ) (z : Row) (w : List ℕ) → i < length xs → Closing t k hd xs zs i w → drop (row-at (suc i)) w ≡ rows-bytes (drop (suc i) xs) ++ zs
   rest-here i z w h q =
-      let e : 16 + 24 * suc i ≡ 16 + 24 * i + 24 = omega arith in
+      let e : row-at (suc i) ≡ row-at i + row-size = omega arith in
       ap (λ (n : ℕ). drop n w) e
-      ∙ sym (drop-drop 24 (16 + 24 * i) w)
-      ∙ ap (λ (cs : List ℕ). drop 24 cs) (q .rest ∙ row-here i z h)
-      ∙ drop-at (row-bytes (getD xs i z)) (rows-bytes (drop (suc i) xs) ++ zs) 24 (length-row (getD xs i z))
+      ∙ sym (drop-drop row-size (row-at i) w)
+      ∙ ap (λ (cs : List ℕ). drop row-size cs) (q .rest ∙ row-here i z h)
+      ∙ drop-at (row-bytes (getD xs i z)) (rows-bytes (drop (suc i) xs) ++ zs) row-size (length-row (getD xs i z))
 
   -- a row that goes: nothing is written, or anything behind the kept rows and not past it
   pub closing-skip : (i : ℕ) (z : Row) (w v : List ℕ) → i < length xs → Closing t k hd xs zs i w → stays t k (getD xs i z) ≡ false →
-      length v ≡ length w → take (16 + 24 * kept-of t k xs i) v ≡ take (16 + 24 * kept-of t k xs i) w → drop (16 + 24 * suc i) v ≡ drop (16 + 24 * suc i) w →
+      length v ≡ length w → take (row-at (kept-of t k xs i)) v ≡ take (row-at (kept-of t k xs i)) w → drop (row-at (suc i)) v ≡ drop (row-at (suc i)) w →
       Closing t k hd xs zs (suc i) v
   closing-skip i z w v h q e a b d =
       let c : closed t k (take (suc i) xs) ≡ closed t k (take i xs) =
@@ -264,27 +254,27 @@ module _ (t k : ℕ) (hd : List ℕ) (xs : List Row) (zs : List ℕ) where
       record {
         ahead = h;
         long = omega (arith, a, q .long);
-        first = ap (λ (n : ℕ). take (16 + 24 * n) v) (kept-still t k xs i z h e) ∙ b ∙ q .first ∙ ap (λ (ys : List Row). hd ++ rows-bytes ys) (sym c);
+        first = ap (λ (n : ℕ). take (row-at n) v) (kept-still t k xs i z h e) ∙ b ∙ q .first ∙ ap (λ (ys : List Row). hd ++ rows-bytes ys) (sym c);
         rest = d ∙ rest-here i z w h q;
       }
 
   -- a row that stays: its bytes are copied behind the kept rows
   pub closing-copy : (i : ℕ) (z : Row) (w v : List ℕ) → i < length xs → Closing t k hd xs zs i w → stays t k (getD xs i z) ≡ true →
-      length v ≡ length w → take (16 + 24 * kept-of t k xs i) v ≡ take (16 + 24 * kept-of t k xs i) w →
-      take 24 (drop (16 + 24 * kept-of t k xs i) v) ≡ take 24 (drop (16 + 24 * i) w) → drop (16 + 24 * suc i) v ≡ drop (16 + 24 * suc i) w →
+      length v ≡ length w → take (row-at (kept-of t k xs i)) v ≡ take (row-at (kept-of t k xs i)) w →
+      take row-size (drop (row-at (kept-of t k xs i)) v) ≡ take row-size (drop (row-at i) w) → drop (row-at (suc i)) v ≡ drop (row-at (suc i)) w →
       Closing t k hd xs zs (suc i) v
   closing-copy i z w v h q e a b m d =
       let x = getD xs i z in
       let n = kept-of t k xs i in
       let c : closed t k (take (suc i) xs) ≡ closed t k (take i xs) ++ (x ∷ []) =
       closed-next t k xs i z h ∙ ap (λ (ys : List Row). closed t k (take i xs) ++ ys) (closed-yes t k x e) in
-      let j : 16 + 24 * kept-of t k xs (suc i) ≡ 16 + 24 * n + 24 = omega (arith, kept-more t k xs i z h e) in
+      let j : row-at (kept-of t k xs (suc i)) ≡ row-at n + row-size = omega (arith, kept-more t k xs i z h e) in
       record {
         ahead = h;
         long = omega (arith, a, q .long);
         first =
             ap (λ (l : ℕ). take l v) j
-            ∙ take-add (16 + 24 * n) 24 v
+            ∙ take-add (row-at n) row-size v
             ∙ ap₂ (λ (us : List ℕ) (vs : List ℕ). us ++ vs) (b ∙ q .first) (m ∙ bytes-here i z w h q ∙ sym (rows-one x))
             ∙ append-assoc hd (rows-bytes (closed t k (take i xs))) (rows-bytes (x ∷ []))
             ∙ ap (λ (cs : List ℕ). hd ++ cs) (sym (rows-append (closed t k (take i xs)) (x ∷ [])))
@@ -294,28 +284,28 @@ module _ (t k : ℕ) (hd : List ℕ) (xs : List Row) (zs : List ℕ) where
 
   -- the copy as one paste
   pub closing-paste : (i : ℕ) (z : Row) (w : List ℕ) → i < length xs → Closing t k hd xs zs i w → stays t k (getD xs i z) ≡ true →
-      Closing t k hd xs zs (suc i) (paste w (16 + 24 * kept-of t k xs i) (drop (16 + 24 * i) w) 24)
+      Closing t k hd xs zs (suc i) (paste w (row-at (kept-of t k xs i)) (drop (row-at i) w) row-size)
   closing-paste i z w h q e =
       let n = kept-of t k xs i in
       let l = kept-most t k xs i (q .ahead) in
-      let s = drop (16 + 24 * i) w in
-      let v = paste w (16 + 24 * n) s 24 in
-      let a : 16 + 24 * n ≤ length w = omega (arith, q .long, l, h) in
-      let b : 24 ≤ length s = omega (arith, q .long, h, length-drop (16 + 24 * i) w) in
-      let d : take (16 + 24 * n + 24) v ≡ take (16 + 24 * n) w ++ take 24 s = take-paste w (16 + 24 * n) s 24 a b in
-      let y : length (take (16 + 24 * n) w) ≡ 16 + 24 * n = length-take-le (16 + 24 * n) w a in
-      let g : 16 + 24 * suc i ≡ 16 + 24 * n + 24 + (24 * i - 24 * n) = omega (arith, l) in
-      closing-copy i z w v h q e (length-paste w (16 + 24 * n) s 24 (omega (arith, q .long, l, h)) b)
-      (sym (take-take (16 + 24 * n) (16 + 24 * n + 24) v (omega arith)) ∙ ap (λ (cs : List ℕ). take (16 + 24 * n) cs) d
-      ∙ take-at (take (16 + 24 * n) w) (take 24 s) (16 + 24 * n) y)
-      (drop-take-paste w (16 + 24 * n) s 24 a b)
-      (ap (λ (m : ℕ). drop m v) g ∙ sym (drop-drop (24 * i - 24 * n) (16 + 24 * n + 24) v)
-      ∙ ap (λ (cs : List ℕ). drop (24 * i - 24 * n) cs) (drop-paste w (16 + 24 * n) s 24 a b)
-      ∙ drop-drop (24 * i - 24 * n) (16 + 24 * n + 24) w ∙ ap (λ (m : ℕ). drop m w) (sym g))
+      let s = drop (row-at i) w in
+      let v = paste w (row-at n) s row-size in
+      let a : row-at n ≤ length w = omega (arith, q .long, l, h) in
+      let b : row-size ≤ length s = omega (arith, q .long, h, length-drop (row-at i) w) in
+      let d : take (row-at n + row-size) v ≡ take (row-at n) w ++ take row-size s = take-paste w (row-at n) s row-size a b in
+      let y : length (take (row-at n) w) ≡ row-at n = length-take-le (row-at n) w a in
+      let g : row-at (suc i) ≡ row-at n + row-size + (row-size * i - row-size * n) = omega (arith, l) in
+      closing-copy i z w v h q e (length-paste w (row-at n) s row-size (omega (arith, q .long, l, h)) b)
+      (sym (take-take (row-at n) (row-at n + row-size) v (omega arith)) ∙ ap (λ (cs : List ℕ). take (row-at n) cs) d
+      ∙ take-at (take (row-at n) w) (take row-size s) (row-at n) y)
+      (drop-take-paste w (row-at n) s row-size a b)
+      (ap (λ (m : ℕ). drop m v) g ∙ sym (drop-drop (row-size * i - row-size * n) (row-at n + row-size) v)
+      ∙ ap (λ (cs : List ℕ). drop (row-size * i - row-size * n) cs) (drop-paste w (row-at n) s row-size a b)
+      ∙ drop-drop (row-size * i - row-size * n) (row-at n + row-size) w ∙ ap (λ (m : ℕ). drop m w) (sym g))
 
   -- at the end
-  pub closing-rows : (w : List ℕ) → length hd ≡ 16 → Closing t k hd xs zs (length xs) w →
-      (kept-of t k xs (length xs) ≡ length (closed t k xs)) × (take (16 + 24 * length (closed t k xs)) w ≡ hd ++ rows-bytes (closed t k xs))
+  pub closing-rows : (w : List ℕ) → length hd ≡ head-size → Closing t k hd xs zs (length xs) w →
+      (kept-of t k xs (length xs) ≡ length (closed t k xs)) × (take (row-at (length (closed t k xs))) w ≡ hd ++ rows-bytes (closed t k xs))
   closing-rows w e q =
       let a : closed t k (take (length xs) xs) ≡ closed t k xs = ap (closed t k) (take-length xs) in
-      (ap length a, ap (λ (n : ℕ). take (16 + 24 * n) w) (sym (ap length a)) ∙ q .first ∙ ap (λ (ys : List Row). hd ++ rows-bytes ys) a)
+      (ap length a, ap (λ (n : ℕ). take (row-at n) w) (sym (ap length a)) ∙ q .first ∙ ap (λ (ys : List Row). hd ++ rows-bytes ys) a)

@@ -14,7 +14,8 @@ use Rattle.theory.specs.Tests.{either, leb?, ltb?, eqb?, one-if}
 use Rattle.theory.specs.Sum.{sum, sum-le, length-sum}
 use Rattle.theory.specs.All.{all-map, all-in, all-of-in}
 use Rattle.theory.specs.Feas.{below, num, below-yes, below-late, below-1}
-use Rattle.theory.specs.Full.{Fine, Row-fine, num-length}
+use Rattle.theory.specs.Bounds.{Row-fine}
+use Rattle.theory.specs.Full.{Fine, num-length}
 use Rattle.theory.specs.Same.{of-plan, of-yes, of-chosen, row-ticket, planned-same, in-plan?}
 use Rattle.theory.specs.Members.{Rows, of-rows-fine, in-plan-is}
 use Rattle.theory.specs.Near.{Near, near-all, near-edge, near-out}
@@ -137,7 +138,7 @@ sweep-idle F m s q z n w e h =
 module _ (r : Round) (f : Fine r) (top q z : ℕ) (span : r .slot + top ≤ r .last)
     (enough : (top ≡ length (r .rows)) ⊎ (r .slot + top ≡ r .last)) (w : Sweep (λ s. sum (under (r .slot) top s) (r .rows)) (suc top) 0 q z) where
   pub rows-from : All (λ x. r .slot ≤ x .due) (r .rows)
-  rows-from = all-map {Q = λ x. r .slot ≤ x .due} (λ x (h : Row-fine r x). h .0) (r .rows) (f .fine)
+  rows-from = all-map {Q = λ x. r .slot ≤ x .due} (λ x (h : Row-fine r x). h .due-from) (r .rows) (f .fine)
 
   pub rows-many : (e : ℕ) → num 0 e (r .rows) ≤ length (r .rows)
   rows-many e = omega (arith, length-sum (r .rows), sum-le (below 0 e) (λ x. 1) (below-1 0 e) (r .rows))
@@ -160,7 +161,7 @@ module _ (r : Round) (f : Fine r) (top q z : ℕ) (span : r .slot + top ≤ r .l
             ap (λ v. sum (under (r .slot) top v) (r .rows)) d,
             counts-all (r .slot) top (r .rows),
             num-length (r .slot + z) (r .rows)
-                (all-map {Q = λ x. x .due < r .slot + z} (λ x (h : Row-fine r x). omega (arith, h .1, b, d)) (r .rows) (f .fine)),
+                (all-map {Q = λ x. x .due < r .slot + z} (λ x (h : Row-fine r x). omega (arith, h .due-by, b, d)) (r .rows) (f .fine)),
           )
     ]
   ]
@@ -210,7 +211,7 @@ module _ (r : Round) (f : Fine r) (top q z : ℕ) (span : r .slot + top ≤ r .l
   -- counts of the plan's rows, up to where it ends
   pub kept-counts : (rs : List Row) → Rows r rs → (s : ℕ) → s ≤ z → sum (under (r .slot) top s) rs ≡ num 0 (r .slot + s) rs
   kept-counts rs c s h = elim (leb? s top) [
-    | inl a ↦ counts-below (r .slot) top s rs (a .1) (all-of-in (λ x. r .slot ≤ x .due) rs (λ x i. of-rows-fine r f rs c x i .0))
+    | inl a ↦ counts-below (r .slot) top s rs (a .1) (all-of-in (λ x. r .slot ≤ x .due) rs (λ x i. of-rows-fine r f rs c x i .due-from))
     | inr a ↦
         let d : s ≡ suc top = omega (arith, a .1, h, w .high) in
         elim enough [
@@ -219,7 +220,7 @@ module _ (r : Round) (f : Fine r) (top q z : ℕ) (span : r .slot + top ≤ r .l
             arith,
             ap (λ v. sum (under (r .slot) top v) rs) d,
             counts-all (r .slot) top rs,
-            num-length (r .slot + s) rs (all-of-in (λ x. x .due < r .slot + s) rs (λ x i. omega (arith, of-rows-fine r f rs c x i .1, b, d))),
+            num-length (r .slot + s) rs (all-of-in (λ x. x .due < r .slot + s) rs (λ x i. omega (arith, of-rows-fine r f rs c x i .due-by, b, d))),
           )
         ]
   ]

@@ -11,7 +11,8 @@ use Rattle.theory.specs.Tests.{ltb?}
 use Rattle.theory.specs.All.{all-in, blank-weight, blank-is}
 use Rattle.theory.specs.Order.{Not-over, not-over-weight, not-before-canonical}
 use Rattle.theory.specs.Feas.{num}
-use Rattle.theory.specs.Full.{Fine, Row-fine, plan-feas, plan-full}
+use Rattle.theory.specs.Bounds.{Row-fine}
+use Rattle.theory.specs.Full.{Fine, plan-feas, plan-full}
 use Rattle.theory.specs.Marks.{Tight-in, next, Start, start}
 use Rattle.theory.specs.Members.{Rows, of-rows-fine, found-member, in-plan-is}
 use Rattle.theory.specs.Top.{lightest, Left-from, outside-top}
@@ -43,7 +44,7 @@ module _ (r : Round) (f : Fine r) (o : r .slot ≤ r .last) (rs : List Row) (c :
       let j = best-row r f o rs c x i in
       record {
         inside = j;
-        from = of-rows-fine r f rs c (best r (plan r)) j .0;
+        from = of-rows-fine r f rs c (best r (plan r)) j .due-from;
         ahead = λ q k _. behind q (g .first q (found-member r f rs c q k));
       }
     where
@@ -73,7 +74,7 @@ module _ (r : Round) (f : Fine r) (o : r .slot ≤ r .last) (rs : List Row) (c :
         | inl a ↦ a .1
         | inr a ↦ absurd (omega (
           arith,
-          all-in (Row-fine r) y (r .rows) (f .fine) i .2,
+          all-in (Row-fine r) y (r .rows) (f .fine) i .some,
           not-over-weight y v (all-in (λ y. Left-from b (plan r) y → Not-over y v) y (r .rows) (t .most) i (a .1, in-plan-is r f rs c y i ∙ n)),
           ap (λ (x : Row). x .weight) (sym (later-is r p h) ∙ e),
           blank-weight (blank b) (blank-is b),
@@ -114,7 +115,7 @@ module _ (r : Round) (f : Fine r) (o : r .slot ≤ r .last) (rs : List Row) (c :
         let u = of-rows-fine r f rs c p (l .inside) in
         elim (ltb? (p .due) z) [
           | inr h ↦ (false, p .ticket, r .rows, sends-far r f o rs c z k p l (h .1))
-          | inl h ↦ near-sends p l (u .0) (h .1)
+          | inl h ↦ near-sends p l (u .due-from) (h .1)
         ]
       where
         near-sends : (p : Row) → Leads r rs (r .slot) p → r .slot ≤ p .due → p .due < z → (plain : Bool) × (gone : ℕ) × (xs : List Row)
@@ -140,9 +141,9 @@ module _ (r : Round) (f : Fine r) (o : r .slot ≤ r .last) (rs : List Row) (c :
                         let y = substitute r (plan r) p in
                         let v = all-in (Row-fine r) y (r .rows) (f .fine) (d .waiting) in
                         let yz = near-out r f rs c z k y (d .waiting) (d .outside) in
-                        let ny = next r (plan r) (y .due) (v .1) (plan-full r f) in
-                        let ey = near-after r f rs c z k (y .due) (v .0) yz in
-                        let sy = start r (plan r) (y .due) (plan-feas r f) (f .time) (v .0) in
+                        let ny = next r (plan r) (y .due) (v .due-by) (plan-full r f) in
+                        let ey = near-after r f rs c z k (y .due) (v .due-from) yz in
+                        let sy = start r (plan r) (y .due) (plan-feas r f) (f .time) (v .due-from) in
                         let ch = some-chain r f rs c y (d .waiting) (d .outside) (suc (r .last)) e (omega (arith, h, nx .from)) (nx .tight)
                         (omega (arith, ny .by)) in
                         let m = some-least (tight-after r (plan r) (y .due)) p (l .inside) (far-end p y st d (nx .from)) in (
@@ -150,7 +151,7 @@ module _ (r : Round) (f : Fine r) (o : r .slot ≤ r .last) (rs : List Row) (c :
                           p .ticket,
                           _,
                           sends-row r f o rs c z k p l b e (en .0) s (g .1) (st .by) (nx .from) y (d .waiting) (d .outside) (d .from) (d .most)
-                              (segment-start r (plan r) (y .due)) (tight-after r (plan r) (y .due)) (ey .0) (some-segment (y .due) (v .0) yz)
+                              (segment-start r (plan r) (y .due)) (tight-after r (plan r) (y .due)) (ey .0) (some-segment (y .due) (v .due-from) yz)
                               (sy .by) (ny .from) (ch .0) (ch .1)
                               (m .0) (m .1) (m .2) (m .3),
                         )
@@ -162,7 +163,7 @@ module _ (r : Round) (f : Fine r) (o : r .slot ≤ r .last) (rs : List Row) (c :
                 p .due ≤ tight-after r (plan r) (y .due)
             far-end p y st d q =
                 let v = all-in (Row-fine r) y (r .rows) (f .fine) (d .waiting) in
-                let ny = next r (plan r) (y .due) (v .1) (plan-full r f) in
+                let ny = next r (plan r) (y .due) (v .due-by) (plan-full r f) in
                 elim (ltb? (tight-after r (plan r) (y .due)) (p .due)) [
                   | inl a ↦ absurd (st .none (tight-after r (plan r) (y .due)) (omega (arith, d .from, ny .from)) (a .1) (ny .tight))
                   | inr a ↦ a .1

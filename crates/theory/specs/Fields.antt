@@ -3,7 +3,8 @@ use mathlib.Core.Path.{_≡_, refl, sym, ap, ap₂, _∙_}
 use mathlib.Core.Logic.{inl, inr}
 use mathlib.Core.Bool.{true}
 use mathlib.Core.List.{List, [], _∷_, _++_}
-use Prim.Native.Nat.{ℕ, zero, suc, _+_, _*_, _-_, _/_, _%_, _≤_, _<_}
+use Prim.Native.Nat.{ℕ, zero, suc, _+_, _*_, _-_, _/_, _%_, _^_, _≤_, _<_}
+use native.Mathlib.Nat.{pow-suc}
 use native.Mathlib.Omega.{arith}
 use lib.Dec.{eqb}
 use borrow.Author.Tests.{eqb-true, eq-eqb}
@@ -17,6 +18,17 @@ use Rattle.theory.specs.Judge.{zeros}
 
 pub bytes-drop : (k : ℕ) (bs : List ℕ) → Bytes bs → Bytes (drop k bs)
 bytes-drop k bs h i = rw (getD-drop k bs i 0) (h (k + i))
+
+-- A NUMBER's bytes, and back
+pub value-low : (n v : ℕ) → v < 256 ^ n → value (low n v) ≡ v
+unfolding value low
+value-low zero v h = omega arith
+value-low (suc n) v h = omega (arith, value-low n (v / 256) (omega (arith, pow-suc 256 n)))
+
+pub length-low : (n v : ℕ) → length (low n v) ≡ n
+unfolding low
+length-low zero v = refl
+length-low (suc n) v = omega (arith, length-low n (v / 256))
 
 -- BYTES OF A NUMBER: the first n bytes are the low bytes of the number they make
 pub low-value : (n : ℕ) (bs : List ℕ) → Bytes bs → n ≤ length bs → bs ≡ low n (value (take n bs)) ++ drop n bs

@@ -13,15 +13,13 @@ use Rattle.theory.specs.Tests.{leb?, ltb?}
 use Rattle.theory.specs.Sum.{sum, sum-append, sum-sorted, sum-kept, rejected}
 use Rattle.theory.specs.All.{all-in, all-of-in, all-blanks, all-map, all-append, all-sorted, all-kept, falling-append, light-blanks, all-rejected}
 use Rattle.theory.specs.Order.{ordered-sorted, ordered-falling}
+use Rattle.theory.specs.Bounds.{Row-fine}
 use Rattle.theory.specs.Feas.{below, num, below-yes, below-late, num-mono, num-light, num-early, Feas, feas-made, kept-feas, Edge, run-edge}
 
 -- tickets rise, from a number on, below another
 abbrev pub Rising : (a b : ℕ) → List Row → Type 0
 Rising a b [] = a ≤ b
 Rising a b (x ∷ xs) = (a ≤ x .ticket) × Rising (suc (x .ticket)) b xs
-
-abbrev pub Row-fine : Round → Row → Type 0
-Row-fine r x = (r .slot ≤ x .due) × (x .due ≤ r .last) × (1 ≤ x .weight) × (x .weight ≤ 16777216)
 
 -- A SOUND ROUND
 pub record Fine (r : Round) : Type 0 where
@@ -64,13 +62,13 @@ outside-member r x i =
     (all-rejected (Member r) r (pool r) [] (pool-all (Member r) r (all-of-in (Member r) (r .rows) (λ x i. inl i)) (λ s h k. inr (refl, h, k)))) i
 
 pub member-due : (r : Round) → Fine r → (x : Row) → Member r x → (r .slot ≤ x .due) × (x .due ≤ r .last)
-member-due r g x (inl i) = let h = all-in (Row-fine r) x (r .rows) (g .fine) i in (h .0, h .1)
+member-due r g x (inl i) = let h = all-in (Row-fine r) x (r .rows) (g .fine) i in (h .due-from, h .due-by)
 member-due r g x (inr b) = (b .1, b .2)
 
 pub pool-from : (r : Round) → Fine r → All (λ x. r .slot ≤ x .due) (pool r)
 unfolding blank
 pool-from r g =
-    pool-all (λ x. r .slot ≤ x .due) r (all-map {Q = λ x. r .slot ≤ x .due} (λ x (h : Row-fine r x). h .0) (r .rows) (g .fine)) (λ s h k. h)
+    pool-all (λ x. r .slot ≤ x .due) r (all-map {Q = λ x. r .slot ≤ x .due} (λ x (h : Row-fine r x). h .due-from) (r .rows) (g .fine)) (λ s h k. h)
 
 pub feas-none : (r : Round) → Feas r []
 feas-none r e h k = omega arith

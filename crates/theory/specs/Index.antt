@@ -12,7 +12,8 @@ use Rattle.rules.specs.Rows.{Row, Round, blank, heavier, chosen, In}
 use Rattle.rules.specs.Plan.{plan, in-plan, segment-start, first-end, substitute}
 use Rattle.theory.specs.Sum.{sum}
 use Rattle.theory.specs.All.{all-in}
-use Rattle.theory.specs.Full.{Fine, Row-fine}
+use Rattle.theory.specs.Bounds.{Row-fine}
+use Rattle.theory.specs.Full.{Fine}
 use Rattle.theory.specs.Unique.{Certified, flags-chosen, flag-at}
 use Rattle.theory.specs.Keys.{key, getD-in, rows-key}
 use Rattle.theory.specs.Members.{certified-found}
@@ -85,7 +86,7 @@ module _ (r : Round) (f : Fine r) (fs : List Bool) (w : Certified r fs) (small :
 
   pub heavier-at : (i j : ℕ) → i < length (r .rows) → j < length (r .rows) → heavier (at i) (at j) ≡ ltb (key-at j) (key-at i)
   heavier-at i j h k =
-      rows-key 1 (r .next) (r .rows) z i j (f .rising) small h k (omega (arith, last, at-fine i h .1)) (omega (arith, last, at-fine j k .1))
+      rows-key 1 (r .next) (r .rows) z i j (f .rising) small h k (omega (arith, last, at-fine i h .due-by)) (omega (arith, last, at-fine j k .due-by))
 
   pub not-heavier-at : (i j : ℕ) → i < length (r .rows) → j < length (r .rows) → key-at i ≤ key-at j → heavier (at i) (at j) ≡ false
   not-heavier-at i j h k l = heavier-at i j h k ∙ le-ltb (key-at j) (key-at i) l

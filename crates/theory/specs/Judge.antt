@@ -1,11 +1,11 @@
 -- Soundness byte by byte, in the order in which a judge reads a table: head, each row on its own bytes, unused rows.
 use mathlib.Core.Bool.{Bool, true, _&&_}
 use mathlib.Core.List.{List, [], _∷_}
-use Prim.Native.Nat.{ℕ, zero, suc, _+_, _*_}
-use lib.Dec.{ltb, leb, eqb}
+use Prim.Native.Nat.{ℕ, zero, suc, _+_, _*_, _-_}
+use lib.Dec.{eqb}
 use lib.ListN.{take, drop}
-use Rattle.rules.specs.Limits.{head-size, row-size, most-last, most-weight, ticket-limit, head-zeros-at, ticket-at, due-at, weight-at, kind-at, row-zeros-at, slot-bytes, wide-bytes, kind-bytes}
-use Rattle.rules.specs.Table.{field, rows-of}
+use Rattle.rules.specs.Limits.{head-size, row-size, head-zeros-at, ticket-at, row-zeros-at, wide-bytes}
+use Rattle.rules.specs.Table.{field, every, front-row, row-tests, head-tests, rows-of}
 use Rattle.rules.specs.Conditions.{slot-in, last-in, next-in, used-in}
 
 unfoldable pub zeros : List ℕ → Bool
@@ -14,11 +14,7 @@ zeros (b ∷ bs) = eqb b 0 && zeros bs
 
 -- a row's own bytes, with the slot, the last, the next ticket and the ticket of the row before beside them
 unfoldable pub row-judged : (slot last next before : ℕ) → (row : List ℕ) → Bool
-row-judged s l n b xs =
-    ((ltb b (field ticket-at wide-bytes xs) && ltb (field ticket-at wide-bytes xs) n)
-    && (leb s (field due-at slot-bytes xs) && leb (field due-at slot-bytes xs) l))
-    && ((leb 1 (field weight-at wide-bytes xs) && leb (field weight-at wide-bytes xs) most-weight)
-    && (leb (field kind-at kind-bytes xs) 1 && zeros (drop row-zeros-at xs)))
+row-judged s l n b xs = every (row-tests s l n b (front-row xs)) && zeros (drop row-zeros-at xs)
 
 unfoldable pub rows-judged : (left : ℕ) → (slot last next before : ℕ) → List ℕ → Bool
 rows-judged zero s l n b bs = true
@@ -27,8 +23,7 @@ rows-judged (suc k) s l n b bs =
 
 unfoldable pub head-judged : List ℕ → Bool
 head-judged t =
-    (leb (used-in t) (rows-of t) && leb (last-in t) most-last)
-    && ((leb (slot-in t) (suc (last-in t)) && (leb 1 (next-in t) && leb (next-in t) ticket-limit)) && zeros (take 6 (drop head-zeros-at t)))
+    every (head-tests (slot-in t) (last-in t) (next-in t) (used-in t) (rows-of t)) && zeros (take (head-size - head-zeros-at) (drop head-zeros-at t))
 
 unfoldable pub judged : List ℕ → Bool
 judged t =

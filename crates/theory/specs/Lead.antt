@@ -62,7 +62,7 @@ module _ (r : Round) (f : Fine r) (o : r .slot ≤ r .last) (rs : List Row) (c :
 
   -- THE LEADER of all goes
   pub lead-best : (p : Row) → Leads r rs (r .slot) p → best r (plan r) ≡ p
-  lead-best p l = best-is r f o rs c p (l .inside) (λ q i. l .ahead q i (of-rows-fine r f rs c q i .0))
+  lead-best p l = best-is r f o rs c p (l .inside) (λ q i. l .ahead q i (of-rows-fine r f rs c q i .due-from))
 
   -- the heaviest far row, and a segment's
   pub lead-far : (z : ℕ) → Near r z → (p : Row) → In p rs → z ≤ p .due → ((q : Row) → In q rs → z ≤ q .due → heavier q p ≡ false) → Leads r rs z p

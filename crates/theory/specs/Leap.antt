@@ -7,20 +7,25 @@ use Prim.Native.Nat.{ℕ, zero, suc, _+_, _-_, _≤_, _<_, max}
 use native.Mathlib.Omega.{arith}
 use lib.Dec.{ltb}
 use borrow.Author.Tests.{le-ltb, lt-leb, ltb-true, ltb-false, ne-eqb}
-use Rattle.rules.specs.Rows.{Row, Round, blank, row, All, In}
+use Rattle.rules.specs.Limits.{most-weight}
+use Rattle.rules.specs.Rows.{Row, Round, blank, row, All, In, blank-tail}
 use Rattle.rules.specs.Plan.{plan, in-plan, tight-after, segment-start, mark-in, first-end, heaviest-outside, substitute}
 use Rattle.rules.specs.Steps.{changed, without, heaviest-between, shifted, replaced, leapt}
 use Rattle.theory.specs.Tests.{leb?, ltb?, both-ways}
 use Rattle.theory.specs.Sum.{sum}
 use Rattle.theory.specs.All.{blank-weight, blank-ticket, all-map, all-in, all-of-in}
 use Rattle.theory.specs.Feas.{num}
-use Rattle.theory.specs.Full.{plan-member, Fine, Row-fine, Rising, outside, plan-feas, plan-edge, plan-full, plan-due}
+use Rattle.theory.specs.Bounds.{Row-fine, In-bounds}
+use Rattle.theory.specs.Full.{plan-member, Fine, Rising, outside, plan-feas, plan-edge, plan-full, plan-due}
 use Rattle.theory.specs.Marks.{Tight-in, Next, next, Start, start, box, box?, box-yes, filled, Marked, mark-above, mark-all, mark-limit}
 use Rattle.theory.specs.Change.{First, changed-sum, without-sum, changed-first, rising-above, rising-first, rising-same, in-sum, not-in-plan, row-outside, without-none, changed-none, all-changed, all-without, rising-changed, rising-without}
 use Rattle.theory.specs.Send.{outside-in, Between, between-finds, between-count, next-by, point, point?, point-yes}
 
 abbrev pub Row-ok : Round → Row → Type 0
-Row-ok r x = (x .due ≤ r .last) × (1 ≤ x .weight) × (x .weight ≤ 16777216)
+Row-ok r x = In-bounds 0 (r .last) x
+
+pub row-ok : (r : Round) (x : Row) → x .due ≤ r .last → 1 ≤ x .weight → x .weight ≤ most-weight → Row-ok r x
+row-ok r x a b c = record { due-from = omega arith; due-by = a; some = b; most = c }
 
 abbrev pub Heavy-to : Round → ℕ → Type 0
 Heavy-to r g = All (λ y. y .due ≤ g → 1 ≤ y .weight) (plan r)
@@ -36,7 +41,7 @@ pub record Shift (r : Round) (e g : ℕ) (h : Row) (e′ : ℕ) : Type 0 where
   pub end : e′ ≤ g
 
 abbrev pub moved : Round → ℕ → Row → List Row → List Row
-moved r e h xs = changed (h .ticket) (row (h .ticket) e (max (h .weight) (mark-in r (plan r) e)) (h .kind)) xs
+moved r e h xs = changed (h .ticket) (row (h .ticket) e (max (h .weight) (mark-in r (plan r) e)) (h .tail)) xs
 
 pub shift : (r : Round) → Fine r → (e g : ℕ) → r .slot ≤ e → e < g → g ≤ r .last → Tight-in r (plan r) e → Tight-in r (plan r) g → Heavy-to r g →
     (let h = heaviest-between e g (plan r) (blank (suc g)) in Shift r e g h (tight-after r (plan r) (h .due)))
@@ -98,7 +103,7 @@ pub shift-sum : (r : Round) → Fine r → (e g : ℕ) (h : Row) (e′ : ℕ) �
     v ≤ suc s → sum (box w v (suc s)) xs + point v (suc s) e ≤ sum (box w v (suc s)) (moved r e h xs) + point v (suc s) e′
 unfolding row
 shift-sum r f e g h e′ p xs i w d s v m k =
-    let h′ = row (h .ticket) e (max (h .weight) (mark-in r (plan r) e)) (h .kind) in
+    let h′ = row (h .ticket) e (max (h .weight) (mark-in r (plan r) e)) (h .tail) in
     let c = changed-sum (box w v (suc s)) h h′ xs i in
     let new : point v (suc s) e ≤ box w v (suc s) h′ = elim (point? v (suc s) e) [
       | inl a ↦ omega (arith, box-yes w v (suc s) h′ (omega (arith, mark-in-reach r f w d s e m (p .low) (omega (arith, a .2)))) (a .1) (a .2))
@@ -125,15 +130,15 @@ shift-kept r f a e g h e′ xs b p q =
     record {
       past = omega (arith, q .past, p .after, p .next .from);
       ahead = λ z j k l.
-          changed-first (h .ticket) (row (h .ticket) e (max (h .weight) (mark-in r (plan r) e)) (h .kind)) z
+          changed-first (h .ticket) (row (h .ticket) e (max (h .weight) (mark-in r (plan r) e)) (h .tail)) z
           (λ c. omega (arith, p .next .from, l, ap (λ (x : Row). x .due) (rising-same 1 (r .next) h z (r .rows) (f .rising) hr k c))) refl xs
           (q .ahead z j k (omega (arith, p .after, p .next .from)));
       others = λ z k n.
-          changed-first (h .ticket) (row (h .ticket) e (max (h .weight) (mark-in r (plan r) e)) (h .kind)) z
+          changed-first (h .ticket) (row (h .ticket) e (max (h .weight) (mark-in r (plan r) e)) (h .tail)) z
           (n h (p .inside) (omega (arith, q .past, p .after))) refl xs (q .others z k n);
-      okay = all-changed (Row-ok r) (h .ticket) (row (h .ticket) e (max (h .weight) (mark-in r (plan r) e)) (h .kind))
-          (omega (arith, p .after, p .by), omega (arith, p .heavy), omega (arith, o .3, mark-limit r (plan r) e)) xs (q .okay);
-      rising = rising-changed 1 (r .next) (h .ticket) (row (h .ticket) e (max (h .weight) (mark-in r (plan r) e)) (h .kind)) refl xs (q .rising);
+      okay = all-changed (Row-ok r) (h .ticket) (row (h .ticket) e (max (h .weight) (mark-in r (plan r) e)) (h .tail))
+          (row-ok r _ (omega (arith, p .after, p .by)) (omega (arith, p .heavy)) (omega (arith, o .most, mark-limit r (plan r) e))) xs (q .okay);
+      rising = rising-changed 1 (r .next) (h .ticket) (row (h .ticket) e (max (h .weight) (mark-in r (plan r) e)) (h .tail)) refl xs (q .rising);
       sums = λ w d s v m k. omega (arith, q .sums w d s v m k, shift-sum r f e g h e′ p xs i w d s v m k);
     }
 
@@ -200,7 +205,7 @@ rows-kept r f a =
       past = omega arith;
       ahead = λ z i j k. rising-first 1 (r .next) z (r .rows) (f .rising) j;
       others = λ z j n. rising-first 1 (r .next) z (r .rows) (f .rising) j;
-      okay = all-map {Q = Row-ok r} (λ x (h : Row-fine r x). (h .1, h .2, h .3)) (r .rows) (f .fine);
+      okay = all-map {Q = Row-ok r} (λ x (h : Row-fine r x). row-ok r x (h .due-by) (h .some) (h .most)) (r .rows) (f .fine);
       rising = f .rising;
       sums = λ w d s v m k. omega arith;
     }
@@ -236,10 +241,10 @@ outside-heavy r f s i n =
     let d = plan-edge r f (s .weight) in
     let h : s .due < d .at =
     all-in (λ x. s .weight ≤ x .weight → x .due < d .at) s (outside r) (d .out) (row-outside r s i n) (omega arith) in
-    mark-above r (plan r) (plan-feas r f) (plan-full r f) (s .weight) (s .due) (d .at) (o .3) (o .0) h (d .high) (d .full)
+    mark-above r (plan r) (plan-feas r f) (plan-full r f) (s .weight) (s .due) (d .at) (o .most) (o .due-from) h (d .high) (d .full)
 
 abbrev pub at-its-mark : Round → Row → Row
-at-its-mark r s = row (s .ticket) (s .due) (mark-in r (plan r) (s .due)) (s .kind)
+at-its-mark r s = row (s .ticket) (s .due) (mark-in r (plan r) (s .due)) (s .tail)
 
 pub leap-row : (r : Round) → Fine r → (p s : Row) (e g : ℕ) → In p (plan r) → Ends r p s e g → In s (r .rows) → in-plan s (plan r) ≡ false →
     (ys : List Row) → Kept r e g ys → Left r (without (p .ticket) (changed (s .ticket) (at-its-mark r s) ys))
@@ -263,7 +268,7 @@ leap-row r f p s e g i en j n ys q =
     let rs = rising-changed 1 (r .next) (s .ticket) s′ refl ys (q .rising) in
     record {
       okay = all-without (Row-ok r) (p .ticket) ys′ (all-changed (Row-ok r) (s .ticket) s′
-          (o .1, omega (arith, o .2, outside-heavy r f s j n), mark-limit r (plan r) (s .due)) ys (q .okay));
+          (row-ok r s′ (o .due-by) (omega (arith, o .some, outside-heavy r f s j n)) (mark-limit r (plan r) (s .due))) ys (q .okay));
       rising = rising-without 1 (r .next) (p .ticket) ys′ rs;
       fills = λ w d t v m k l.
           let c = stands-in r f s′ g (en .last) (en .low) refl w d t v m k l in
@@ -296,16 +301,16 @@ plain r f w d e v m k l =
     )
 
 pub leap-kept : (r : Round) → Fine r → (p : Row) (b e : ℕ) → In p (plan r) → Next r (plan r) (p .due) e → Next r (plan r) b e → r .slot ≤ b →
-    1 ≤ mark-in r (plan r) b → Left r (changed (p .ticket) (row (p .ticket) b (mark-in r (plan r) b) 1) (r .rows))
+    1 ≤ mark-in r (plan r) b → Left r (changed (p .ticket) (row (p .ticket) b (mark-in r (plan r) b) blank-tail) (r .rows))
 unfolding row
 leap-kept r f p b e i n o h j =
-    let x = row (p .ticket) b (mark-in r (plan r) b) 1 in
+    let x = row (p .ticket) b (mark-in r (plan r) b) blank-tail in
     record {
-      okay = all-changed (Row-ok r) (p .ticket) x (omega (arith, o .from, o .by), j, mark-limit r (plan r) b) (r .rows)
+      okay = all-changed (Row-ok r) (p .ticket) x (row-ok r x (omega (arith, o .from, o .by)) j (mark-limit r (plan r) b)) (r .rows)
           (rows-kept r f 0 .okay);
       rising = rising-changed 1 (r .next) (p .ticket) x refl (r .rows) (f .rising);
       fills = λ w d t v m k l. elim (plan-member r p i) [
-        | inr a ↦ rw (blank-ticket p (a .0), changed-none 1 (r .next) 0 (row 0 b (mark-in r (plan r) b) 1) (r .rows) (omega arith) (f .rising))
+        | inr a ↦ rw (blank-ticket p (a .0), changed-none 1 (r .next) 0 (row 0 b (mark-in r (plan r) b) blank-tail) (r .rows) (omega arith) (f .rising))
             (plain r f w d t v m (omega arith) l)
         | inl a ↦
             let c = stands-in r f x e o h refl w d t v m k l in
@@ -357,9 +362,9 @@ leap-with-row r f p s b i st j h n =
     let u = all-in (λ x. (r .slot ≤ x .due) × (x .due ≤ r .last)) p (plan r) (plan-due r f) i in
     let e = tight-after r (plan r) (p .due) in
     let g = tight-after r (plan r) (s .due) in
-    let en = ends-of r f p s b (u .1) (u .0) st h (o .1) in
+    let en = ends-of r f p s b (u .1) (u .0) st h (o .due-by) in
     let hv : Heavy-to r g = all-map {Q = λ y. y .due ≤ g → 1 ≤ y .weight}
-    (λ y (a : y .due ≤ g → mark-in r (plan r) (s .due) ≤ y .weight) (c : y .due ≤ g). omega (arith, a c, outside-heavy r f s j n, o .2))
+    (λ y (a : y .due ≤ g → mark-in r (plan r) (s .due) ≤ y .weight) (c : y .due ≤ g). omega (arith, a c, outside-heavy r f s j n, o .some))
     (plan r) (mark-all r (plan r) (s .due)) in
     let q : Kept r e g (shifted (suc (r .last)) r (plan r) e g (r .rows)) =
     shift-ind r f g (en .last .by) (en .last .tight) hv (Kept r e) (λ e′ xs h e″ p′ k. shift-kept r f e e′ g h e″ xs (en .last .by) p′ k)
@@ -379,7 +384,7 @@ leap-with-blank r f p b i st =
     let same : tight-after r (plan r) b ≡ e = omega (arith, en .order) in
     let o : Next r (plan r) b e = rw same at (en .last) in
     rw (no-shift (suc (r .last)) r e (tight-after r (plan r) b) (r .rows) back)
-    (both-ways (Left r) (ltb 0 (mark-in r (plan r) b)) (changed (p .ticket) (row (p .ticket) b (mark-in r (plan r) b) 1) (r .rows))
+    (both-ways (Left r) (ltb 0 (mark-in r (plan r) b)) (changed (p .ticket) (row (p .ticket) b (mark-in r (plan r) b) blank-tail) (r .rows))
     (without (p .ticket) (r .rows))
     (λ a. leap-kept r f p b e i (en .first) o (st .low) (ltb-true 0 (mark-in r (plan r) b) a))
     (λ a. leap-gone r f p b i (st .low) (st .by) (ltb-false 0 (mark-in r (plan r) b) a)))

@@ -6,13 +6,14 @@ use mathlib.Core.List.{List, []}
 use Prim.Native.Nat.{ℕ, suc, _≤_, _<_}
 use native.Mathlib.Omega.{arith}
 use borrow.Author.Tests.{lt-leb}
-use Rattle.rules.specs.Rows.{Row, Round, blank, row, round, All, In}
+use Rattle.rules.specs.Rows.{Row, Round, blank, row, round, All, In, going-on, Tail, blank-tail}
 use Rattle.rules.specs.Plan.{plan, in-plan, planned, mark, tight-after, segment-start, first-end, substitute}
 use Rattle.rules.specs.Steps.{changed, sent}
 use Rattle.rules.specs.StepsOf.{goes, stands-in, end-of, Other, Slot-over, at-mark, Leaves, Becomes, Leap}
 use Rattle.theory.specs.Tests.{ltb?}
 use Rattle.theory.specs.All.{all-map, all-in, all-of-in, blank-ticket, due-of-blank}
-use Rattle.theory.specs.Full.{Fine, Row-fine, plan-member, plan-due, plan-feas}
+use Rattle.theory.specs.Bounds.{Row-fine}
+use Rattle.theory.specs.Full.{Fine, plan-member, plan-due, plan-feas}
 use Rattle.theory.specs.Marks.{start}
 use Rattle.theory.specs.Change.{rising-above, rising-same, not-in-plan}
 use Rattle.theory.specs.Send.{outside-in}
@@ -35,14 +36,14 @@ substitute? r p h =
     (outside-in r (plan r) b (r .rows) (blank b) (r .rows) (blank b) (inl refl) (all-of-in (λ x. In x (r .rows)) (r .rows) (λ x j. j)))
 
 -- the rows of a round
-pub rows-sent : (r : Round) (t : ℕ) (xs : List Row) → sent r ≡ round t (r .last) (r .next) (r .room) xs → sent r .rows ≡ xs
+pub rows-sent : (r : Round) (t : ℕ) (xs : List Row) → sent r ≡ going-on t (r .next) xs r → sent r .rows ≡ xs
 unfolding round
 rows-sent r t xs e = ap (λ (z : Round). z .rows) e
 
 -- a row's ticket
-pub ticket-of-row : (k d w b : ℕ) → row k d w b .ticket ≡ k
+pub ticket-of-row : (k d w : ℕ) (m : Tail) → row k d w m .ticket ≡ k
 unfolding row
-ticket-of-row k d w b = refl
+ticket-of-row k d w m = refl
 
 module _ (r : Round) (f : Fine r) (i : In (goes r) (plan r)) (h : first-end r (plan r) < goes r .due) where
   -- document 01's p and r, the end of p's segment, the next slot
@@ -98,7 +99,7 @@ module _ (r : Round) (f : Fine r) (i : In (goes r) (plan r)) (h : first-end r (p
         let c = planned-rows r f in
         let u = all-in (λ x. (r .slot ≤ x .due) × (x .due ≤ r .last)) p (plan r) (plan-due r f) i in
         let st = start r (plan r) (p .due) (plan-feas r f) (f .time) (u .0) in
-        let en = ends-of r f p s (segment-start r (plan r) (p .due)) (u .1) (u .0) st b (all-in (Row-fine r) s (r .rows) (f .fine) j .1) in
+        let en = ends-of r f p s (segment-start r (plan r) (p .due)) (u .1) (u .0) st b (all-in (Row-fine r) s (r .rows) (f .fine) j .due-by) in
         let g = end-of r s in
         let m : in-plan s (planned r) ≡ false = sym (in-plan-is r f (planned r) c s j) ∙ n in
         let k = some-chain r f (planned r) c s j m g a (omega (arith, u .0, en .first .from)) (en .first .tight) (omega arith) in
@@ -113,7 +114,7 @@ module _ (r : Round) (f : Fine r) (i : In (goes r) (plan r)) (h : first-end r (p
           distinct = links-distinct r f (planned r) c g a hs (k .1);
           each-row = rw (e, moves-each r f (planned r) c 1 (r .next) a g hs (r .rows) (f .rising) (k .1))
               (changed-over t (p .ticket) (Leaves r) (Becomes r (links r a hs)) (s .ticket) (at-mark r s)
-              (ticket-of-row (s .ticket) (s .due) (mark r (s .due)) (s .kind)) (final-row r a hs) (final-ticket r a hs) 1 (r .next) (r .rows) (f .rising)
+              (ticket-of-row (s .ticket) (s .due) (mark r (s .due)) (s .tail)) (final-row r a hs) (final-ticket r a hs) 1 (r .next) (r .rows) (f .rising)
               (λ x _ q. (q, λ v. ticketed s j s (blank-ticket s (v .0)) refl)) (row-becomes hs w-in));
         }
 
@@ -149,13 +150,13 @@ module _ (r : Round) (f : Fine r) (i : In (goes r) (plan r)) (h : first-end r (p
           distinct = tt;
           each-row = elim (ltb? 0 (mark r (p .due))) [
             | inl m ↦
-                let y = row (p .ticket) b (mark r (p .due)) 1 in
+                let y = row (p .ticket) b (mark r (p .due)) blank-tail in
                 let q = rows-sent r t (closed t 0 (changed (p .ticket) y (r .rows)))
                 (sent-kept r f (planned r) (planned-rows r f) p refl i h e (m .1)) in
                 let v : closed t 0 (changed (p .ticket) y (each (λ x. x) (r .rows))) ≡ sent r .rows =
                 ap (λ (zs : List Row). closed t 0 (changed (p .ticket) y zs)) (each-same (r .rows)) ∙ sym q in
                 subst (λ (zs : List Row). Slot-over t (Leaves r) (Becomes r []) (r .rows) zs) v
-                (changed-over t 0 (Leaves r) (Becomes r []) (p .ticket) y (ticket-of-row (p .ticket) b (mark r (p .due)) 1) (λ x. x) (λ x. refl)
+                (changed-over t 0 (Leaves r) (Becomes r []) (p .ticket) y (ticket-of-row (p .ticket) b (mark r (p .due)) blank-tail) (λ x. x) (λ x. refl)
                 1 (r .next) (r .rows) (f .rising) (λ x k z. absurd (ticketed x k x z refl)) (λ x k _. (
                   λ z. inl (z, (is-blank, omega (arith, its-mark, m .1)), rw (z, its-mark, its-due)),
                   λ z. other-stays x k z,

@@ -8,13 +8,14 @@ use native.Mathlib.Omega.{arith}
 use lib.Dec.{ltb, eqb}
 use borrow.Author.Tests.{eq-eqb, ne-eqb}
 use lib.ListN.{length, getD, set}
-use Rattle.rules.specs.Rows.{Row, Round, blank, row, All, In}
+use Rattle.rules.specs.Rows.{Row, Round, blank, row, All, In, blank-tail}
 use Rattle.rules.specs.Plan.{plan, in-plan, tight-after, segment-start, least-weight, mark-in, mark, substitute, planned}
 use Rattle.rules.specs.Steps.{changed, without, replaced, leapt}
 use Rattle.theory.specs.Tests.{either, ltb?, eqb?}
 use Rattle.theory.specs.Sum.{length-sum}
 use Rattle.theory.specs.All.{in-mid, all-map, all-in}
-use Rattle.theory.specs.Full.{Fine, Row-fine, Rising, plan-feas, plan-full, plan-due}
+use Rattle.theory.specs.Bounds.{Row-fine}
+use Rattle.theory.specs.Full.{Fine, Rising, plan-feas, plan-full, plan-due}
 use Rattle.theory.specs.Marks.{next, start}
 use Rattle.theory.specs.Change.{rising-above, rising-changed}
 use Rattle.theory.specs.Send.{next-by}
@@ -186,10 +187,10 @@ module _ (r : Round) (f : Fine r) (rs : List Row) (c : Rows r rs) where
   pub leapt-row : (p s : Row) (hs : List Row) → substitute r (plan r) p ≡ s → In s (r .rows) →
       Chain r rs (tight-after r (plan r) (p .due)) (tight-after r (plan r) (s .due)) hs →
       leapt r (plan r) p ≡ without (p .ticket)
-      (changed (s .ticket) (row (s .ticket) (s .due) (mark r (s .due)) (s .kind)) (moves r (tight-after r (plan r) (p .due)) hs (r .rows)))
+      (changed (s .ticket) (row (s .ticket) (s .due) (mark r (s .due)) (s .tail)) (moves r (tight-after r (plan r) (p .due)) hs (r .rows)))
   unfolding leapt replaced mark
   leapt-row p s hs e i k =
-      let n = next r (plan r) (s .due) (all-in (Row-fine r) s (r .rows) (f .fine) i .1) (plan-full r f) in
+      let n = next r (plan r) (s .due) (all-in (Row-fine r) s (r .rows) (f .fine) i .due-by) (plan-full r f) in
       let t = all-in (λ y. 1 ≤ y .ticket) s (r .rows) (row-ticket r f) i in
       rw (
         e,
@@ -221,7 +222,7 @@ module _ (r : Round) (f : Fine r) (rs : List Row) (c : Rows r rs) where
   -- WITH A BLANK
   pub leapt-blank : (p : Row) → In p (plan r) → substitute r (plan r) p ≡ blank (segment-start r (plan r) (p .due)) →
       leapt r (plan r) p ≡ cond (ltb 0 (mark r (p .due)))
-      (changed (p .ticket) (row (p .ticket) (segment-start r (plan r) (p .due)) (mark r (p .due)) 1) (r .rows)) (without (p .ticket) (r .rows))
+      (changed (p .ticket) (row (p .ticket) (segment-start r (plan r) (p .due)) (mark r (p .due)) blank-tail) (r .rows)) (without (p .ticket) (r .rows))
   unfolding leapt replaced blank
   leapt-blank p i e =
       let b = segment-start r (plan r) (p .due) in

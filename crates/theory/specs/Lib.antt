@@ -3,6 +3,7 @@ pub mod Sum
 pub mod All
 pub mod Order
 pub mod Feas
+pub mod Bounds
 pub mod Full
 pub mod Marks
 pub mod Tights
@@ -12,6 +13,7 @@ pub mod Leap
 pub mod Calls
 pub mod Totals
 pub mod Times
+pub mod Layout
 pub mod Back
 pub mod Border
 pub mod Same

@@ -52,7 +52,7 @@ module _ (r : Round) (f : Fine r) (rs : List Row) (c : Rows r rs) where
         after = p .after;
         by = p .by;
         heaviest = λ x i a b o. elim (member? r f rs c x i) [
-          | inl z ↦ over-absurd x h o (inl (omega (arith, blank-weight x z, of-rows-fine r f rs c h (p .inside) .2)))
+          | inl z ↦ over-absurd x h o (inl (omega (arith, blank-weight x z, of-rows-fine r f rs c h (p .inside) .some)))
           | inr j ↦ over-absurd x h o (heavier-no x h (p .most x j a b))
         ];
       }

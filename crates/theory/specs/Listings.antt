@@ -1,7 +1,6 @@
 -- A LISTING ACCEPTED: the count, the entries of the plan's rows in canonical order, the old entries behind them: listings.
-use mathlib.Core.Path.{_≡_, ap, _∙_}
-use mathlib.Core.Logic.{inl, inr}
-use mathlib.Core.List.{List, map}
+use mathlib.Core.Path.{_≡_, refl, ap, _∙_}
+use mathlib.Core.List.{List, map, _∷_, []}
 use Prim.Native.Nat.{ℕ, _≤_}
 use native.Mathlib.Omega.{arith}
 use lib.ListN.{length, drop, length-map}
@@ -9,14 +8,17 @@ use lib.Seq.{take-at, drop-at}
 use Rattle.rules.specs.Rows.{Row, Round, sorted, canonical}
 use Rattle.rules.specs.Plan.{planned, listed}
 use Rattle.rules.specs.Table.{round-in, table-refusal}
-use Rattle.rules.specs.Calls.{send-refusal}
+
 use Rattle.rules.specs.Looking.{list-refusal, list-answer, list-left}
 use Rattle.rules.specs.Demands.{Listings}
-use Rattle.theory.specs.Tests.{ltb?}
 use Rattle.theory.specs.Sum.{sum-sorted, length-sum}
 use Rattle.theory.specs.Full.{Fine}
 use Rattle.theory.specs.Same.{listed-planned}
 use Rattle.theory.specs.Sane.{sound}
+use lib.Dec.{ltb}
+use borrow.Author.Tests.{ltb-false}
+use Rattle.rules.specs.Calls.{over, _⇒_}
+use Rattle.theory.specs.Calls.{none-holds}
 use Rattle.theory.specs.Stays.{first-none}
 
 -- as many rows listed as the plan has
@@ -31,8 +33,8 @@ pub list-accepted : (t : List ℕ) (n : ℕ) → list-refusal t n ≡ 0 → (tab
 unfolding list-refusal
 list-accepted t n e =
     let a = first-none (table-refusal t) _ e in
-    let b = first-none (send-refusal (round-in t)) _ (a .1) in
-    (a .0, elim (ltb? n (length (listed (round-in t)))) [ inl h ↦ absurd (omega (arith, rw (h .0) at (b .1))) | inr h ↦ h .1 ])
+    let m = length (listed (round-in t)) in
+    let h = none-holds (over (round-in t .slot) (round-in t .last) ∷ (ltb n m ⇒ 12) ∷ []) refl (a .1) in (a .0, ltb-false n m (h .1 .0))
 
 pub listings : Listings
 unfolding Listings list-answer list-left

@@ -10,7 +10,8 @@ use Rattle.rules.specs.Plan.{plan, in-plan, total, total-weight, planned}
 use Rattle.theory.specs.Tests.{eqb?}
 use Rattle.theory.specs.Sum.{total-sum}
 use Rattle.theory.specs.All.{blank-ticket, Is-blank, all-in}
-use Rattle.theory.specs.Full.{plan-member, Fine, Row-fine}
+use Rattle.theory.specs.Bounds.{Row-fine}
+use Rattle.theory.specs.Full.{plan-member, Fine}
 use Rattle.theory.specs.Change.{rising-same, in-sum}
 use Rattle.theory.specs.Times.{ticks}
 use Rattle.theory.specs.Same.{Same, in-plan?, with-tick, tick-self, row-ticket, planned-same, planned-in, chosen-in, planned-weighs}

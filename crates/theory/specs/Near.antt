@@ -14,7 +14,8 @@ use Rattle.theory.specs.Tests.{leb?, ltb?, eqb?}
 use Rattle.theory.specs.Sum.{sum, sum-chosen}
 use Rattle.theory.specs.All.{all-map, all-in, all-of-in, blank-weight, blank-is}
 use Rattle.theory.specs.Feas.{below, num, below-yes, below-light, num-heavy, num-weight, due-below, feas-made}
-use Rattle.theory.specs.Full.{Fine, Row-fine, plan-feas, plan-full}
+use Rattle.theory.specs.Bounds.{Row-fine}
+use Rattle.theory.specs.Full.{Fine, plan-feas, plan-full}
 use Rattle.theory.specs.Marks.{Tight-in, tight?, Next, next, Start, start, box, box-num, spans, least-above, least-all}
 use Rattle.theory.specs.Change.{in-sum}
 use Rattle.theory.specs.Send.{next-by}
@@ -113,7 +114,7 @@ module _ (r : Round) (f : Fine r) (rs : List Row) (c : Rows r rs) (z : ℕ) (k :
   -- NONE up to it
   pub near-edge : num 0 z rs ≡ z - r .slot
   near-edge =
-      let w : All (λ x. 1 ≤ x .weight) (r .rows) = all-map {Q = λ x. 1 ≤ x .weight} (λ x (h : Row-fine r x). h .2) (r .rows) (f .fine) in
+      let w : All (λ x. 1 ≤ x .weight) (r .rows) = all-map {Q = λ x. 1 ≤ x .weight} (λ x (h : Row-fine r x). h .some) (r .rows) (f .fine) in
       let s = spans r f 1 z (omega arith) (k .from) (k .by) (λ v a b. omega (arith, k .full v a b, num-heavy 1 v (r .rows) w, num-heavy 1 z (r .rows) w)) in
       let e = s .0 in
       elim (leb? e z) [
@@ -143,7 +144,7 @@ module _ (r : Round) (f : Fine r) (rs : List Row) (c : Rows r rs) (z : ℕ) (k :
         | inr h ↦ absurd (omega (
           arith,
           near-slack (l .at) (omega (arith, h .1, l .from)) (l .by),
-          slack-is r f rs (c .same) (l .at) (omega (arith, g .0, l .from)) (l .by),
+          slack-is r f rs (c .same) (l .at) (omega (arith, g .due-from, l .from)) (l .by),
           l .full,
           due-below (l .at) (planned r),
           planned-same r f (below 0 (suc (l .at))),
@@ -249,7 +250,7 @@ module _ (r : Round) (f : Fine r) (rs : List Row) (c : Rows r rs) (z : ℕ) (k :
         arith,
         near-mark s h i,
         all-in (λ y. y .due ≤ e → least-weight e rs 16777216 ≤ y .weight) x rs (least-all e rs 16777216) j a,
-        least-above (x .weight) e rs 16777216 (of-rows-fine r f rs c x j .3) (all-of-in (λ y. y .due ≤ e → x .weight ≤ y .weight) rs g),
+        least-above (x .weight) e rs 16777216 (of-rows-fine r f rs c x j .most) (all-of-in (λ y. y .due ≤ e → x .weight ≤ y .weight) rs g),
       )
 
   -- FAR ROWS: due from z on, none is due by the first end, each has a blank for substitute
@@ -292,7 +293,7 @@ module _ (r : Round) (f : Fine r) (rs : List Row) (c : Rows r rs) (z : ℕ) (k :
   pub far-start : (p : Row) → In p rs → z ≤ p .due → z ≤ segment-start r (plan r) (p .due)
   far-start p i h =
       let u = of-rows-fine r f rs c p i in
-      let st = start r (plan r) (p .due) (plan-feas r f) (f .time) (u .0) in
+      let st = start r (plan r) (p .due) (plan-feas r f) (f .time) (u .due-from) in
       elim (leb? z (segment-start r (plan r) (p .due))) [
         | inl a ↦ a .1
         | inr a ↦ absurd (st .none (z - 1) (omega (arith, a .1)) (omega (arith, a .1, h)) (near-last (omega (arith, a .1, st .low))))
@@ -323,5 +324,5 @@ module _ (r : Round) (f : Fine r) (rs : List Row) (c : Rows r rs) (z : ℕ) (k :
       (is-ordinary r ≡ false) × (sent r ≡ after-slot r (closed (suc (r .slot)) (p .ticket) (r .rows)))
   far-sent o p e i h = (
     ordinary-is r f o rs c p e ∙ lt-leb (p .due) (first-end r (plan r)) (far-later o p i h),
-    sent-gone r f rs c p e (found-member r f rs c p i) (far-later o p i h) (far-sub o p i h) (far-mark (p .due) h (of-rows-fine r f rs c p i .1)),
+    sent-gone r f rs c p e (found-member r f rs c p i) (far-later o p i h) (far-sub o p i h) (far-mark (p .due) h (of-rows-fine r f rs c p i .due-by)),
   )

@@ -5,9 +5,10 @@ use mathlib.Core.List.{List}
 use Prim.Native.Nat.{ℕ}
 use borrow.Author.Tests.{ne-eqb}
 use lib.ListN.{length}
+use Rattle.rules.specs.Rows.{Setup}
 use Rattle.rules.specs.Plan.{total, mark}
 use Rattle.rules.specs.Table.{table, round-in, table-refusal, length-good}
-use Rattle.rules.specs.Calls.{Call, opening, taking, sending, marking, totalling, refused, amount, first, open-refusal, table-first, round-refusal}
+use Rattle.rules.specs.Calls.{Act, Question, marking, totalling, Call, opening, acting, asking, first-of, open-tests, question, deed, refused, amount, first, table-first, round-refusal}
 use Rattle.rules.specs.Calls.{refusal, says, leaves, answer, left, Says}
 use Rattle.rules.specs.Demands.{Tables-back}
 use Rattle.theory.specs.Stays.{tables-back}
@@ -28,30 +29,36 @@ unchanged : (t : List ℕ) → table-refusal t ≡ 0 → t ≡ table (round-in t
 unfolding Tables-back
 unchanged t e = sym (tables-back .1 t e .0)
 
-pub mark-said : (s : ℕ) (t : List ℕ) (n : ℕ) → table-refusal t ≡ 0 → refusal (marking s) t ≡ 0 → n ≡ mark (round-in t) s → Says (marking s) (amount n) t t
-unfolding says leaves
-mark-said s t n e f g = let h = says-accepted (marking s) t t f (unchanged t e) in (ap amount g ∙ h .0, h .1)
+pub mark-said : (s : ℕ) (t : List ℕ) (n : ℕ) → table-refusal t ≡ 0 → refusal (asking (marking s)) t ≡ 0 → n ≡ mark (round-in t) s →
+    Says (asking (marking s)) (amount n) t t
+unfolding says leaves deed question
+mark-said s t n e f g = let h = says-accepted (asking (marking s)) t t f (unchanged t e) in (ap amount g ∙ h .0, h .1)
 
-pub total-said : (t : List ℕ) (n : ℕ) → table-refusal t ≡ 0 → refusal totalling t ≡ 0 → n ≡ total (round-in t) → Says totalling (amount n) t t
-unfolding says leaves
-total-said t n e f g = let h = says-accepted totalling t t f (unchanged t e) in (ap amount g ∙ h .0, h .1)
+pub total-said : (t : List ℕ) (n : ℕ) → table-refusal t ≡ 0 → refusal (asking totalling) t ≡ 0 → n ≡ total (round-in t) →
+    Says (asking totalling) (amount n) t t
+unfolding says leaves deed question
+total-said t n e f g = let h = says-accepted (asking totalling) t t f (unchanged t e) in (ap amount g ∙ h .0, h .1)
 
 -- opening: 2, then 4
-pub opening-length : (l : ℕ) (t : List ℕ) → length-good (length t) ≡ false → refusal (opening l) t ≡ 2
+pub opening-length : (u : Setup) (t : List ℕ) → length-good (length t) ≡ false → refusal (opening u) t ≡ 2
 unfolding refusal first table-first
-opening-length l t e = rw e
+opening-length u t e = rw e
 
-pub opening-number : (l : ℕ) (t : List ℕ) → length-good (length t) ≡ true → refusal (opening l) t ≡ open-refusal l
-unfolding refusal first table-first round-refusal
-opening-number l t e = rw e
+pub opening-number : (u : Setup) (t : List ℕ) → length-good (length t) ≡ true → refusal (opening u) t ≡ first-of (open-tests u)
+unfolding refusal first table-first round-refusal deed
+opening-number u t e = rw e
 
 -- ON ANY TABLE a call but opening is judged by the table first
 abbrev pub Judges : Call → Type 0
 Judges c = (t : List ℕ) → table-first c t ≡ table-refusal t
 
-pub judges : (d w s : ℕ) → Judges (taking d w) × Judges sending × Judges (marking s) × Judges totalling
+pub act-judges : (a : Act) → Judges (acting a)
 unfolding table-first
-judges d w s = (λ t. refl, λ t. refl, λ t. refl, λ t. refl)
+act-judges a t = refl
+
+pub question-judges : (q : Question) → Judges (asking q)
+unfolding table-first
+question-judges q t = refl
 
 pub by-table : (c : Call) (t : List ℕ) (n : ℕ) → Judges c → n ≡ table-refusal t → (n ≡ 0 → ⊥) → refusal c t ≡ n
 unfolding refusal first

@@ -12,14 +12,14 @@ use Rattle.rules.specs.Rows.{Row, Round, row, round, In}
 use Rattle.rules.specs.Plan.{plan, substitute, in-plan, listed}
 use Rattle.rules.specs.Table.{rows-in, round-in, table-refusal}
 use Rattle.rules.specs.Calls.{Reply, refused, ticket, amount, blank-due, number-of}
-use Rattle.rules.specs.Calls.{first, send-refusal}
+use Rattle.rules.specs.Calls.{Test, _⇒_, first-of, over, first}
 use Rattle.rules.specs.Looking.{with-ticket, stand-in, substitute-answer, list-refusal, list-answer}
-use Rattle.rules.specs.Conditions.{row-at, Bytes, No-row, Not-planned, substitute-given, list-given, used-in}
+use Rattle.rules.specs.Conditions.{row-at, Bytes, No-row, Not-planned, substitute-given, list-given, used-in, Past, _gives_}
 use Rattle.rules.specs.Demands.{Refusals}
 use Rattle.theory.specs.Tests.{either, eqb?}
 use Rattle.theory.specs.Unique.{in-plan-ticket}
 use Rattle.theory.specs.Soundness.{row-in, row-there, row-next}
-use Rattle.theory.specs.Checks.{Decides, less?, passed, check, table-checked, checks-past, calls-given}
+use Rattle.theory.specs.Checks.{Decides, less?, ground, given, past, table-given, calls-given}
 
 -- 10 AND 11: rows by their places in the table
 pub row-member : (t : List ℕ) (k i j : ℕ) → i ≤ j → j < i + k → In (row-in t j) (rows-in k (drop (row-at i) t))
@@ -100,52 +100,51 @@ unfolding first
 first-zero n = elim (eqb? n 0) [ inl e ↦ rw (e .0) (sym (e .1)) | inr e ↦ rw (e .0) ]
 
 -- 5 after 2 and 3, before the rest
-pub first-past : (a z : ℕ) (r : Round) → first a (first (send-refusal r) z) ≡ first a (cond (ltb (r .last) (r .slot)) 5 z)
-unfolding first send-refusal
-first-past a z r = elim (either (ltb (r .last) (r .slot))) [ inl e ↦ rw e | inr e ↦ rw e ]
+pub first-past : (a : ℕ) (r : Round) (xs : List Test) →
+    first a (first (first-of (over (r .slot) (r .last) ∷ [])) (first-of xs)) ≡ first a (first-of (over (r .slot) (r .last) ∷ xs))
+unfolding first
+first-past a r xs = elim (either (ltb (r .last) (r .slot))) [ inl e ↦ rw e | inr e ↦ rw e ]
 
 pub first-first : (a b z : ℕ) → first (first a b) z ≡ first a (first b z)
 unfolding first
 first-first a b z = elim (eqb? a 0) [ inl e ↦ rw (e .0) | inr e ↦ rw (e .0, e .0) ]
 
 -- THE SUBSTITUTE AND THE LISTING
-pub substitute-number : (k : ℕ) (t : List ℕ) →
-    number-of (substitute-answer k t) ≡ first (table-refusal t) (cond (ltb (round-in t .last) (round-in t .slot)) 5
-    (cond (missing (with-ticket k (round-in t .rows))) 10 (cond (unplanned (round-in t) (with-ticket k (round-in t .rows))) 11 0)))
+abbrev pub substitute-tests : Round → Option Row → List Test
+substitute-tests r o = (missing o ⇒ 10) ∷ (unplanned r o ⇒ 11) ∷ []
+
+pub substitute-number : (k : ℕ) (t : List ℕ) → number-of (substitute-answer k t) ≡ first (table-refusal t)
+    (first-of (over (round-in t .slot) (round-in t .last) ∷ substitute-tests (round-in t) (with-ticket k (round-in t .rows))))
 unfolding substitute-answer
 substitute-number k t =
     let r = round-in t in
-    let x = stand-in r (with-ticket k (r .rows)) in
-    number-first (first (table-refusal t) (send-refusal r)) x
-    ∙ first-first (table-refusal t) (send-refusal r) (number-of x)
-    ∙ first-past (table-refusal t) (number-of x) r
-    ∙ ap (λ (n : ℕ). first (table-refusal t) (cond (ltb (r .last) (r .slot)) 5 n)) (stand-in-number r (with-ticket k (r .rows)))
+    let o = with-ticket k (r .rows) in
+    let n = first-of (over (r .slot) (r .last) ∷ []) in
+    number-first (first (table-refusal t) n) (stand-in r o)
+    ∙ first-first (table-refusal t) n (number-of (stand-in r o))
+    ∙ ap (λ (m : ℕ). first (table-refusal t) (first n m)) (stand-in-number r o)
+    ∙ first-past (table-refusal t) r (substitute-tests r o)
 
 pub substitute-is-given : (k : ℕ) (t : List ℕ) → Bytes t → substitute-given k t (number-of (substitute-answer k t))
 unfolding substitute-given
 substitute-is-given k t h =
     let r = round-in t in
     let o = with-ticket k (r .rows) in
+    let f = ticket-found k (r .rows) in
     rw (substitute-number k t)
-    (table-checked t h
-    (checks-past t
-    (check 10 (missing o) (No-row k t) (λ e. missing? k t o (ticket-found k (r .rows)))
-    (check 11 (unplanned r o) (Not-planned k t) (λ e. unplanned? k t o (ticket-found k (r .rows))) passed))))
+    (table-given t h ((Past t gives 5) ∷ (No-row k t gives 10) ∷ (Not-planned k t gives 11) ∷ []) _
+    (given (past t ∷ ground 10 (missing o) (No-row k t) (λ e. missing? k t o f) ∷ ground 11 (unplanned r o) (Not-planned k t) (λ e. unplanned? k t o f) ∷ [])))
 
-pub list-number : (n : ℕ) (t : List ℕ) → number-of (list-answer t n)
-    ≡ first (table-refusal t) (cond (ltb (round-in t .last) (round-in t .slot)) 5 (cond (ltb n (length (listed (round-in t)))) 12 0))
-unfolding list-answer list-refusal number-of
-list-number n t =
-    let m = length (listed (round-in t)) in
-    number-first (list-refusal t n) (amount m)
-    ∙ first-zero (list-refusal t n)
-    ∙ first-past (table-refusal t) (cond (ltb n m) 12 0) (round-in t)
+pub list-number : (n : ℕ) (t : List ℕ) → number-of (list-answer t n) ≡ list-refusal t n
+unfolding list-answer number-of
+list-number n t = number-first (list-refusal t n) (amount (length (listed (round-in t)))) ∙ first-zero (list-refusal t n)
 
 pub list-is-given : (n : ℕ) (t : List ℕ) → Bytes t → list-given n t (number-of (list-answer t n))
-unfolding list-given
+unfolding list-given list-refusal
 list-is-given n t h =
     let m = length (listed (round-in t)) in
-    rw (list-number n t) (table-checked t h (checks-past t (check 12 (ltb n m) (n < m) (λ e. less? n m) passed)))
+    rw (list-number n t) (table-given t h ((Past t gives 5) ∷ ((n < m) gives 12) ∷ []) _
+    (given (past t ∷ ground 12 (ltb n m) (n < m) (λ e. less? n m) ∷ [])))
 
 pub refusals : Refusals
 unfolding Refusals

@@ -9,12 +9,13 @@ use lib.Dec.{eqb}
 use borrow.Author.Tests.{eq-eqb}
 use lib.ListN.{length, drop}
 use lib.Seq.{drop-at}
-use Rattle.rules.specs.Rows.{Round}
+use Rattle.rules.specs.Rows.{Frame, Round}
 use Rattle.rules.specs.Plan.{total, mark}
 use Rattle.rules.specs.Steps.{taken}
 use Rattle.rules.specs.Table.{table}
-use Rattle.rules.specs.Calls.{Call, taking, marking, totalling, Reply, refused, ticket, amount, round-refusal, take-refusal, mark-refusal, says, leaves, answer, left, run, replies, next-round}
+use Rattle.rules.specs.Calls.{taking, Question, marking, totalling, Call, acting, asking, act, question, deed, Reply, refused, ticket, amount, round-refusal, says, leaves, answer, left, run, replies, next-round}
 use Rattle.theory.specs.Tests.{eqb?}
+use Rattle.theory.specs.Calls.{question-leaves}
 use Rattle.theory.specs.Sane.{Sane, answer-is, left-is}
 
 pub replies-append : (xs ys : List Call) (t : List ℕ) → replies (xs ++ ys) t ≡ replies xs t ++ replies ys (run xs t)
@@ -42,31 +43,30 @@ module _ (r : Round) (s : Sane r) where
     | inr h ↦ absurd (n (round-refusal c r) (sym e ∙ answer-is c r s ∙ rw (h .0)))
   ]
 
-  pub mark-answered : (u m : ℕ) → answer (marking u) (table r) ≡ amount m → (mark-refusal r u ≡ 0) × (mark r u ≡ m)
-  unfolding round-refusal says
+  pub mark-answered : (u m : ℕ) → answer (asking (marking u)) (table r) ≡ amount m → (round-refusal (asking (marking u)) r ≡ 0) × (mark r u ≡ m)
+  unfolding says deed question
   mark-answered u m e =
-      let a = not-refused (marking u) (amount m) e (λ n h. let z : _≡_ {A = ℕ} 0 1 = cc in omega arith) in
+      let a = not-refused (asking (marking u)) (amount m) e (λ n h. let z : _≡_ {A = ℕ} 0 1 = cc in omega arith) in
       let b : amount (mark r u) ≡ amount m = a .1 in (a .0, cc)
 
-  pub total-answered : (m : ℕ) → answer totalling (table r) ≡ amount m → total r ≡ m
-  unfolding says
+  pub total-answered : (m : ℕ) → answer (asking totalling) (table r) ≡ amount m → total r ≡ m
+  unfolding says deed question
   total-answered m e =
-      let a = not-refused totalling (amount m) e (λ n h. let z : _≡_ {A = ℕ} 0 1 = cc in omega arith) in
+      let a = not-refused (asking totalling) (amount m) e (λ n h. let z : _≡_ {A = ℕ} 0 1 = cc in omega arith) in
       let b : amount (total r) ≡ amount m = a .1 in cc
 
-  pub taking-answered : (d w k : ℕ) → answer (taking d w) (table r) ≡ ticket k → take-refusal r d w ≡ 0
-  unfolding round-refusal
-  taking-answered d w k e = not-refused (taking d w) (ticket k) e (λ n h. let z : _≡_ {A = ℕ} 0 1 = cc in omega arith) .0
+  pub taking-answered : (f : Frame) (k : ℕ) → answer (acting (taking f)) (table r) ≡ ticket k → round-refusal (acting (taking f)) r ≡ 0
+  taking-answered f k e = not-refused (acting (taking f)) (ticket k) e (λ n h. let z : _≡_ {A = ℕ} 0 1 = cc in omega arith) .0
 
-  -- a call that leaves the round leaves the table
-  pub asking-leaves : (c : Call) → leaves c r ≡ r → left c (table r) ≡ table r
+  -- a question leaves the table
+  pub asking-leaves : (q : Question) → left (asking q) (table r) ≡ table r
   unfolding next-round
-  asking-leaves c e = left-is c r s ∙ ap table (rw e (same (eqb (round-refusal c r) 0)))
+  asking-leaves q = left-is (asking q) r s ∙ ap table (rw (question-leaves q r) (same (eqb (round-refusal (asking q) r) 0)))
     where
       same : (t : Bool) → cond t r r ≡ r
       same true = refl
       same false = refl
 
-  pub taking-leaves : (d w : ℕ) → take-refusal r d w ≡ 0 → left (taking d w) (table r) ≡ table (taken r d w)
-  unfolding next-round round-refusal leaves
-  taking-leaves d w e = left-is (taking d w) r s ∙ rw (eq-eqb (take-refusal r d w) 0 e)
+  pub taking-leaves : (f : Frame) → round-refusal (acting (taking f)) r ≡ 0 → left (acting (taking f)) (table r) ≡ table (taken r f)
+  unfolding next-round leaves deed act
+  taking-leaves f e = left-is (acting (taking f)) r s ∙ rw (eq-eqb (round-refusal (acting (taking f)) r) 0 e)

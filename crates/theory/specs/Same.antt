@@ -16,7 +16,8 @@ use Rattle.theory.specs.Sum.{sum, sum-sorted, total-sum}
 use Rattle.theory.specs.All.{blank-weight, blank-ticket, ticketless-blanks, all-map, all-in, all-sorted, all-of-in}
 use Rattle.theory.specs.Order.{Sorted, Not-before, sorted-sorted, not-before-both, not-before-due}
 use Rattle.theory.specs.Feas.{below, num, below-yes, Feas}
-use Rattle.theory.specs.Full.{plan-members, Fine, Row-fine, Rising, blanks, outside, plan-feas, plan-sum, plan-due}
+use Rattle.theory.specs.Bounds.{Row-fine}
+use Rattle.theory.specs.Full.{plan-members, Fine, Rising, blanks, outside, plan-feas, plan-sum, plan-due}
 use Rattle.theory.specs.Change.{rising-same, rising-above, in-sum, not-in-plan}
 use Rattle.theory.specs.Times.{is?, ticks, no-ticks, rising-ticks, apart-of, rank-due, in-slots, slots-of, rank, all-of-chosen, sum-rows-only, all-rows-only, plan-ticks}
 
@@ -251,7 +252,7 @@ pub planned-in-time : (r : Round) → Fine r → in-time (r .slot) (planned r) (
 planned-in-time r f =
     goes-in-time r (planned r) (planned-feas r f)
     (all-planned (λ x. (r .slot ≤ x .due) × (x .due ≤ r .last)) r
-    (all-map {Q = λ x. (r .slot ≤ x .due) × (x .due ≤ r .last)} (λ x (h : Row-fine r x). (h .0, h .1)) (r .rows) (f .fine)))
+    (all-map {Q = λ x. (r .slot ≤ x .due) × (x .due ≤ r .last)} (λ x (h : Row-fine r x). (h .due-from, h .due-by)) (r .rows) (f .fine)))
     (all-planned (λ x. 1 ≤ x .ticket) r (row-ticket r f)) (λ k h. omega (arith, planned-same r f (ticks k), plan-ticks r f k h))
 
 -- in canonical order, one slot after another

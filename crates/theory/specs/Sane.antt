@@ -2,16 +2,18 @@
 use mathlib.Core.Path.{_≡_, refl, ap₂}
 use mathlib.Core.Bool.{Bool, true, false, _&&_, not, cond, true≢false, false≢true}
 use mathlib.Core.List.{List, [], _∷_}
-use Prim.Native.Nat.{ℕ, suc, _-_, _/_, _%_, _≤_, _<_}
+use Prim.Native.Nat.{ℕ, suc, _+_, _-_, _/_, _%_, _≤_, _<_}
 use native.Mathlib.Omega.{arith}
-use lib.Dec.{ltb, leb, eqb}
-use borrow.Author.Tests.{ltb-true, leb-true, eqb-true}
+use lib.Dec.{leb, eqb}
+use borrow.Author.Tests.{leb-true, eqb-true}
 use lib.ListN.{length}
+use Rattle.rules.specs.Limits.{head-size, row-size, most-rows, most-last, ticket-limit}
 use Rattle.rules.specs.Rows.{Row, Round, round, All}
-use Rattle.rules.specs.Table.{table, rows-of, round-in, length-good, rows-good, round-good, same, table-refusal}
-use Rattle.rules.specs.Calls.{Call, opening, taking, sending, marking, totalling, Reply, refused, first, round-refusal, table-first, refusal, says, leaves, answer, left, run, replies, next-round, after}
+use Rattle.rules.specs.Table.{every, row-tests, head-tests, table, rows-of, round-in, length-good, rows-good, round-good, same, table-refusal}
+use Rattle.rules.specs.Calls.{Call, opening, acting, asking, Reply, refused, first, round-refusal, table-first, refusal, says, leaves, answer, left, run, replies, next-round, after}
 use Rattle.theory.specs.Tests.{and-true}
-use Rattle.theory.specs.Full.{Fine, Row-fine, Rising}
+use Rattle.theory.specs.Bounds.{every-hold, Row-fine, Tail-fine, tests-right}
+use Rattle.theory.specs.Full.{Fine, Rising}
 use Rattle.theory.specs.Calls.{no-refusal, next-fine}
 use Rattle.theory.specs.Back.{Sized, next-sized, read-back, table-good, length-good-yes}
 
@@ -22,7 +24,7 @@ pub record Sane (r : Round) : Type 0 where
 
 pub next-sane : (c : Call) (r : Round) → Sane r → Sane (next-round c r)
 next-sane c r s =
-    let h = next-sized (r .room) (s .size .room) c r (refl, s .size) in
+    let h = next-sized (r .room) c r (refl, s .size) in
     record { fine = next-fine c r (s .fine); size = h .1; some = omega (arith, h .0, s .some) }
 
 pub after-sane : (cs : List Call) (r : Round) → Sane r → Sane (after cs r)
@@ -39,41 +41,30 @@ same-true (x ∷ xs) [] e = absurd (false≢true e)
 same-true (x ∷ xs) (y ∷ ys) e =
     let a = and-true (eqb x y) (same xs ys) e in ap₂ (λ (z : ℕ) (zs : List ℕ). z ∷ zs) (eqb-true x y (a .0)) (same-true xs ys (a .1))
 
-pub rows-good-true : (r : Round) (a : ℕ) (xs : List Row) → a ≤ r .next → rows-good r a xs ≡ true →
-    (All (Row-fine r) xs) × (All (λ x. x .kind < 2) xs) × (Rising a (r .next) xs)
+pub rows-good-true : (r : Round) (b : ℕ) (xs : List Row) → b < r .next → rows-good r b xs ≡ true →
+    (All (Row-fine r) xs) × (All Tail-fine xs) × (Rising (suc b) (r .next) xs)
 unfolding rows-good
-rows-good-true r a [] h e = (tt, tt, h)
-rows-good-true r a (x ∷ xs) h e =
-    let b = and-true ((leb a (x .ticket) && ltb (x .ticket) (r .next)) && (leb (r .slot) (x .due) && leb (x .due) (r .last))) _ e in
-    let c = and-true (leb a (x .ticket) && ltb (x .ticket) (r .next)) (leb (r .slot) (x .due) && leb (x .due) (r .last)) (b .0) in
-    let d = and-true (leb a (x .ticket)) (ltb (x .ticket) (r .next)) (c .0) in
-    let g = and-true (leb (r .slot) (x .due)) (leb (x .due) (r .last)) (c .1) in
-    let i = and-true ((leb 1 (x .weight) && leb (x .weight) 16777216) && ltb (x .kind) 2) (rows-good r (suc (x .ticket)) xs) (b .1) in
-    let j = and-true (leb 1 (x .weight) && leb (x .weight) 16777216) (ltb (x .kind) 2) (i .0) in
-    let k = and-true (leb 1 (x .weight)) (leb (x .weight) 16777216) (j .0) in
-    let q = rows-good-true r (suc (x .ticket)) xs (ltb-true (x .ticket) (r .next) (d .1)) (i .1) in (
-      ((leb-true (r .slot) (x .due) (g .0), leb-true (x .due) (r .last) (g .1), leb-true 1 (x .weight) (k .0), leb-true (x .weight) 16777216 (k .1)), q .0),
-      (ltb-true (x .kind) 2 (j .1), q .1),
-      (leb-true a (x .ticket) (d .0), q .2),
-    )
+rows-good-true r b [] h e = (tt, tt, h)
+rows-good-true r b (x ∷ xs) h e =
+    let a = and-true (every (row-tests (r .slot) (r .last) (r .next) b x)) (rows-good r (x .ticket) xs) e in
+    let k = tests-right (r .slot) (r .last) (r .next) b x (a .0) in
+    let q = rows-good-true r (x .ticket) xs (k .below) (a .1) in ((k .bounds, q .0), (k .tail, q .1), (k .from, q .2))
 
--- a round within bounds is fine, and sized where its room is; its kinds are two
-pub good-true : (r : Round) → round-good r ≡ true → Fine r × (r .room ≤ 1024 → Sized r) × All (λ x. x .kind < 2) (r .rows)
+-- a round within bounds is fine, and sized where its room is; its tails are good
+pub good-true : (r : Round) → round-good r ≡ true → Fine r × (r .room ≤ most-rows → Sized r) × All Tail-fine (r .rows)
 unfolding round-good
 good-true r e =
-    let a = and-true ((leb (r .last) 4095 && leb (r .slot) (suc (r .last))) && (leb 1 (r .next) && leb (r .next) 16777216)) _ e in
-    let b = and-true (leb (r .last) 4095 && leb (r .slot) (suc (r .last))) (leb 1 (r .next) && leb (r .next) 16777216) (a .0) in
-    let c = and-true (leb (r .last) 4095) (leb (r .slot) (suc (r .last))) (b .0) in
-    let d = and-true (leb 1 (r .next)) (leb (r .next) 16777216) (b .1) in
-    let g = and-true (leb (length (r .rows)) (r .room)) (rows-good r 1 (r .rows)) (a .1) in
-    let q = rows-good-true r 1 (r .rows) (leb-true 1 (r .next) (d .0)) (g .1) in (
-      record { time = leb-true (r .slot) (suc (r .last)) (c .1); fine = q .0; rising = q .2 },
+    let tests = head-tests (r .slot) (r .last) (r .next) (length (r .rows)) (r .room) in
+    let a = and-true (every tests) (rows-good r 0 (r .rows)) e in
+    let (fit, (last, (time, (least, (most, _))))) = every-hold tests (a .0) in
+    let q = rows-good-true r 0 (r .rows) (leb-true 1 (r .next) least) (a .1) in (
+      record { time = leb-true (r .slot) (suc (r .last)) time; fine = q .0; rising = q .2 },
       λ k. record {
-        last = leb-true (r .last) 4095 (c .0);
+        last = leb-true (r .last) most-last last;
         room = k;
-        next = leb-true (r .next) 16777216 (d .1);
-        long = leb-true (length (r .rows)) (r .room) (g .0);
-        kinds = q .1;
+        next = leb-true (r .next) ticket-limit most;
+        long = leb-true (length (r .rows)) (r .room) fit;
+        tails = q .1;
       },
       q .1,
     )
@@ -81,10 +72,10 @@ good-true r e =
 pub good-fine : (r : Round) → round-good r ≡ true → Fine r
 good-fine r e = good-true r e .0
 
-pub good-kinds : (r : Round) → round-good r ≡ true → All (λ x. x .kind < 2) (r .rows)
-good-kinds r e = good-true r e .2
+pub good-tails : (r : Round) → round-good r ≡ true → All Tail-fine (r .rows)
+good-tails r e = good-true r e .2
 
-pub good-sane : (r : Round) → round-good r ≡ true → 1 ≤ r .room → r .room ≤ 1024 → Sane r
+pub good-sane : (r : Round) → round-good r ≡ true → 1 ≤ r .room → r .room ≤ most-rows → Sane r
 good-sane r e h k = record { fine = good-fine r e; size = good-true r e .1 k; some = h }
 
 pub record Stands-for (t : List ℕ) : Type 0 where
@@ -96,12 +87,14 @@ unfolding table-refusal length-good round-in rows-of round
 sound t e =
     let a = no-refusal (not (length-good (length t))) 1 _ e in
     let b = and-true (round-good (round-in t)) (same (table (round-in t)) t) (accepted (round-good (round-in t) && same (table (round-in t)) t) (a .1)) in
-    let l : (leb 40 (length t) && (eqb ((length t - 16) % 24) 0 && leb ((length t - 16) / 24) 1024)) ≡ true = not-not (length-good (length t)) (a .0) in
-    let c = and-true (leb 40 (length t)) (eqb ((length t - 16) % 24) 0 && leb ((length t - 16) / 24) 1024) l in
-    let d = and-true (eqb ((length t - 16) % 24) 0) (leb ((length t - 16) / 24) 1024) (c .1) in
+    let long = length t - head-size in
+    let l : (leb (head-size + row-size) (length t) && (eqb (long % row-size) 0 && leb (long / row-size) most-rows)) ≡ true =
+    not-not (length-good (length t)) (a .0) in
+    let c = and-true (leb (head-size + row-size) (length t)) (eqb (long % row-size) 0 && leb (long / row-size) most-rows) l in
+    let d = and-true (eqb (long % row-size) 0) (leb (long / row-size) most-rows) (c .1) in
     record {
       bytes = same-true (table (round-in t)) t (b .1);
-      sane = good-sane (round-in t) (b .0) (omega (arith, leb-true 40 (length t) (c .0))) (leb-true ((length t - 16) / 24) 1024 (d .1));
+      sane = good-sane (round-in t) (b .0) (omega (arith, leb-true (head-size + row-size) (length t) (c .0))) (leb-true (long / row-size) most-rows (d .1));
     }
   where
     accepted : (c : Bool) → _≡_ {A = ℕ} (cond c 0 3) 0 → c ≡ true
@@ -115,11 +108,9 @@ sound t e =
 -- CALLS on a sound round's table
 pub table-accepts : (c : Call) (r : Round) → Sane r → table-first c (table r) ≡ 0
 unfolding table-first
-table-accepts (opening l) r s = rw (length-good-yes r (s .size .long) (s .some) (s .size .room))
-table-accepts (taking d w) r s = table-good r (s .fine) (s .size) (s .some)
-table-accepts sending r s = table-good r (s .fine) (s .size) (s .some)
-table-accepts (marking u) r s = table-good r (s .fine) (s .size) (s .some)
-table-accepts totalling r s = table-good r (s .fine) (s .size) (s .some)
+table-accepts (opening u) r s = rw (length-good-yes r (s .size .long) (s .some) (s .size .room))
+table-accepts (acting a) r s = table-good r (s .fine) (s .size) (s .some)
+table-accepts (asking q) r s = table-good r (s .fine) (s .size) (s .some)
 
 pub refusal-is : (c : Call) (r : Round) → Sane r → refusal c (table r) ≡ round-refusal c r
 unfolding refusal first

@@ -11,7 +11,8 @@ use Rattle.rules.specs.Plan.{plan, first-end, segment-start, substitute, sends-
 use Rattle.rules.specs.PlanM.{score}
 use Rattle.theory.specs.Tests.{ltb?, both-ways}
 use Rattle.theory.specs.All.{all-map, all-in}
-use Rattle.theory.specs.Full.{Fine, Row-fine}
+use Rattle.theory.specs.Bounds.{Row-fine}
+use Rattle.theory.specs.Full.{Fine}
 use Rattle.theory.specs.Totals.{plan-weights}
 use Rattle.theory.specs.Back.{lightest-all, outside-all}
 use Rattle.theory.specs.Golden.{golden-score}
@@ -32,7 +33,7 @@ unfolding substitute
 substitute-bounded r f p h =
     both-ways Bounded (leb (p .due) (first-end r (plan r))) _ _ (λ _. lightest-all Bounded (first-end r (plan r)) (plan r) p h (plan-bounded r f))
     (λ _. outside-all Bounded (segment-start r (plan r) (p .due)) (plan r) (r .rows) (blank (segment-start r (plan r) (p .due))) (blank-bounded _)
-    (all-map {Q = Bounded} (λ x (k : Row-fine r x). k .3) (r .rows) (f .fine)))
+    (all-map {Q = Bounded} (λ x (k : Row-fine r x). k .most) (r .rows) (f .fine)))
 
 -- THE SCORE of a plan member; it fits 51 bits
 unfoldable pub score-of : Round → Row → ℕ

@@ -12,7 +12,8 @@ use Rattle.theory.specs.Tests.{leb?, eqb?}
 use Rattle.theory.specs.Sum.{sum, sum-le}
 use Rattle.theory.specs.All.{all-in, all-of-in}
 use Rattle.theory.specs.Feas.{below, num, due-below, feas-made}
-use Rattle.theory.specs.Full.{plan-members, Fine, Row-fine, Rising, plan-feas, plan-full}
+use Rattle.theory.specs.Bounds.{Row-fine}
+use Rattle.theory.specs.Full.{plan-members, Fine, Rising, plan-feas, plan-full}
 use Rattle.theory.specs.Marks.{next}
 use Rattle.theory.specs.Change.{row-outside, not-in-plan, rising-above, in-sum}
 use Rattle.theory.specs.Times.{ticks}
@@ -98,12 +99,12 @@ plan-selection r f =
     lighter : (x : Row) → In x (r .rows) → in-plan x (plan r) ≡ false → All (λ y. y .due ≤ tight-after r (plan r) (x .due) → heavier y x ≡ true) (plan r)
     lighter x i n =
         let g = all-in (Row-fine r) x (r .rows) (f .fine) i in
-        let b = outside-by-order r f x (g .2) (row-outside r x i n) in
+        let b = outside-by-order r f x (g .some) (row-outside r x i n) in
         let e = b .0 in
         let z : suc (e - 1) ≡ e = omega (arith, b .1) in
-        let k : num 0 e (plan r) ≤ e - r .slot = plan-feas r f e (omega (arith, b .1, g .0)) (b .2) in
+        let k : num 0 e (plan r) ≤ e - r .slot = plan-feas r f e (omega (arith, b .1, g .due-from)) (b .2) in
         let t : num 0 e (plan r) ≡ e - r .slot = omega (arith, k, b .3, sum-le (within (from-row x) e) (below 0 e) (within-below (from-row x) e) (plan r)) in
-        let q = next r (plan r) (x .due) (g .1) (plan-full r f) in
+        let q = next r (plan r) (x .due) (g .due-by) (plan-full r f) in
         let m : tight-after r (plan r) (x .due) ≤ e - 1 = elim (leb? (tight-after r (plan r) (x .due)) (e - 1)) [
           | inl h ↦ h .1
           | inr h ↦ absurd (q .first (e - 1) (omega (arith, b .1)) (h .1) (omega (arith, t, z, ap (λ v. num 0 v (plan r)) z)))

@@ -2,13 +2,13 @@
 use mathlib.Core.Path.{_≡_, refl, sym, subst}
 use mathlib.Core.Logic.{_⊎_, inl, inr}
 use mathlib.Core.List.{List}
-use Prim.Native.Nat.{ℕ, suc, _≤_, _<_}
+use Prim.Native.Nat.{ℕ, suc, _≤_}
 use native.Mathlib.Omega.{arith}
 use borrow.Author.Tests.{le-leb, lt-leb, ne-eqb}
 use Rattle.rules.specs.Rows.{Row, Round, round, slots-left, All, In}
 use Rattle.rules.specs.Plan.{plan, first-end, planned}
 use Rattle.rules.specs.Steps.{sent, is-ordinary}
-use Rattle.rules.specs.Calls.{out-of, says}
+use Rattle.rules.specs.Calls.{out-of, says, deed, act}
 use Rattle.rules.specs.StepsOf.{goes, Goes-out, Unchanged, Slot-over, Steps-of, Went, Answers-of}
 use Rattle.rules.specs.Demands.{Steps}
 use Rattle.theory.specs.Tests.{eqb?}
@@ -18,7 +18,8 @@ use Rattle.theory.specs.Change.{rising-above}
 use Rattle.theory.specs.Send.{best-in}
 use Rattle.theory.specs.Members.{planned-rows}
 use Rattle.theory.specs.Close.{closed, sent-ordinary}
-use Rattle.theory.specs.Sane.{good-fine, good-kinds}
+use Rattle.theory.specs.Bounds.{Tail-fine}
+use Rattle.theory.specs.Sane.{good-fine, good-tails}
 use Rattle.theory.specs.SlotOver.{same-over}
 use Rattle.theory.specs.LeapRows.{rows-sent, leap-of}
 
@@ -45,15 +46,16 @@ makes r f o =
       last = refl;
       next = refl;
       room = refl;
+      tail = refl;
       ordinary = ordinary-of r f;
       leap = leap-of r f (goes-in r f o);
     }
 
 -- WHAT WENT OUT: a row has a ticket and kind 0 or 1, a blank has neither
-pub kind? : (k : ℕ) → k < 2 → (k ≡ 0) ⊎ (k ≡ 1)
+pub kind? : (k : ℕ) → k ≤ 1 → (k ≡ 0) ⊎ (k ≡ 1)
 kind? k h = elim (eqb? k 0) [ inl e ↦ inl (e .1) | inr e ↦ let n = e .1 in inr (omega arith) ]
 
-pub went-of : (r : Round) → Fine r → All (λ x. x .kind < 2) (r .rows) → r .slot ≤ r .last → Went r (out-of (goes r))
+pub went-of : (r : Round) → Fine r → All Tail-fine (r .rows) → r .slot ≤ r .last → Went r (out-of (goes r))
 unfolding out-of
 went-of r f ks o =
     let p = goes r in
@@ -61,15 +63,15 @@ went-of r f ks o =
       | inl i ↦
           let t = rising-above 1 (r .next) p (r .rows) (f .rising) i in
           let n = ne-eqb (p .ticket) 0 (λ e. omega (arith, e, t)) in
-          elim (kind? (p .kind) (all-in (λ x. x .kind < 2) p (r .rows) ks i)) [
+          elim (kind? (p .tail .kind) (all-in Tail-fine p (r .rows) ks i .kinds)) [
             | inl k ↦ inl (i, k, rw (n, k))
             | inr k ↦ inr (inl (i, k, rw (n, k)))
           ]
       | inr b ↦ inr (inr (b .0, rw (blank-ticket p (b .0))))
     ]
 
-pub answers : (r : Round) → Fine r → All (λ x. x .kind < 2) (r .rows) → r .slot ≤ r .last → Answers-of r
-unfolding says is-ordinary
+pub answers : (r : Round) → Fine r → All Tail-fine (r .rows) → r .slot ≤ r .last → Answers-of r
+unfolding says deed act is-ordinary
 answers r f ks o =
     record {
       out = out-of (goes r);
@@ -80,4 +82,4 @@ answers r f ks o =
 
 pub steps : Steps
 unfolding Steps
-steps r g o = (makes r (good-fine r g) o, answers r (good-fine r g) (good-kinds r g) o)
+steps r g o = (makes r (good-fine r g) o, answers r (good-fine r g) (good-tails r g) o)

@@ -118,14 +118,15 @@ leap-one r f ys zs a b =
     (becomes-one r (a .shifts) (a .waiting) (a .distinct)) (r .rows) ys zs (a .each-row)
     (subst (λ (cs : List Shift). Slot-over (suc (r .slot)) (Leaves r) (Becomes r cs) (r .rows) zs) q (b .each-row))
 
-pub round-same : (m n : Round) → m .slot ≡ n .slot → m .last ≡ n .last → m .next ≡ n .next → m .room ≡ n .room → m .rows ≡ n .rows → m ≡ n
-round-same m n a b c d e = λ i. record { slot = a i; last = b i; next = c i; room = d i; rows = e i }
+pub round-same : (m n : Round) → m .slot ≡ n .slot → m .last ≡ n .last → m .next ≡ n .next → m .room ≡ n .room → m .tail ≡ n .tail →
+    m .rows ≡ n .rows → m ≡ n
+round-same m n a b c d t e = λ i. record { slot = a i; last = b i; next = c i; room = d i; rows = e i; tail = t i }
 
 -- ONLY the round after
 pub makes-only : (r : Round) → Fine r → r .slot ≤ r .last → (n : Round) → Makes r n → n ≡ sent r
 makes-only r f o n m =
     let k = makes r f o in
-    round-same n (sent r) (m .slot ∙ sym (k .slot)) (m .last ∙ sym (k .last)) (m .next ∙ sym (k .next)) (m .room ∙ sym (k .room))
+    round-same n (sent r) (m .slot ∙ sym (k .slot)) (m .last ∙ sym (k .last)) (m .next ∙ sym (k .next)) (m .room ∙ sym (k .room)) (m .tail ∙ sym (k .tail))
     (elim (leb? (goes r .due) (first-end r (plan r))) [
       | inl h ↦ over-one (suc (r .slot)) (Goes-out r) (Unchanged r) (λ x y l b. b .0 l) (λ x y z a b. a .1 ∙ sym (b .1)) (r .rows) (n .rows)
           (sent r .rows) (m .ordinary (h .1)) (k .ordinary (h .1))

@@ -12,7 +12,8 @@ use Rattle.theory.specs.Tests.{positive, leb?, ltb?, eqb?}
 use Rattle.theory.specs.All.{all-in, all-of-in, Is-blank, blank-ticket, blank-weight, blank-is}
 use Rattle.theory.specs.Order.{Not-over, over-absurd, not-over-both, heavier-yes, heavier-no, not-over-heavier, not-over-weight}
 use Rattle.theory.specs.Feas.{below, below-yes, below-late, below-mono}
-use Rattle.theory.specs.Full.{Fine, Row-fine, plan-feas, plan-full, plan-due}
+use Rattle.theory.specs.Bounds.{Row-fine}
+use Rattle.theory.specs.Full.{Fine, plan-feas, plan-full, plan-due}
 use Rattle.theory.specs.Marks.{tight?, next, start, least-above, mark-all}
 use Rattle.theory.specs.Change.{rising-same, in-sum}
 use Rattle.theory.specs.Send.{next-by}
@@ -192,7 +193,7 @@ module _ (r : Round) (f : Fine r) (rs : List Row) (c : Rows r rs) where
       ∙ (elim (t .found) [
         | inl e ↦ absurd (omega (
           arith,
-          all-in (Row-fine r) x (r .rows) (f .fine) i .2,
+          all-in (Row-fine r) x (r .rows) (f .fine) i .some,
           not-over-weight x z o,
           ap (λ (v : Row). v .weight) e,
           blank-weight (blank b) (blank-is b),
@@ -255,14 +256,14 @@ module _ (r : Round) (f : Fine r) (rs : List Row) (c : Rows r rs) where
       let g = all-in (Row-fine r) y (r .rows) (f .fine) j in
       let st = start r (plan r) (x .due) (plan-feas r f) (f .time) (u .0) in
       let e = tight-after r (plan r) (y .due) in
-      let k = next r (plan r) (y .due) (g .1) (plan-full r f) in
+      let k = next r (plan r) (y .due) (g .due-by) (plan-full r f) in
       elim (ltb? (y .due) d) [
         | inl a ↦ a .1
         | inr a ↦ elim (ltb? e (x .due)) [
           | inl l ↦ absurd (st .none e (omega (arith, a .1, k .from)) (l .1) (k .tight))
           | inr l ↦ absurd (over-absurd x y
               (heavier-yes x y (all-in (λ z. z .due ≤ e → heavier z y ≡ true) x (plan r) (plan-selection r f .out y j (in-plan-is r f rs c y j ∙ n)) i (l .1)))
-              (inl (omega (arith, g .2, blank-weight x b))))
+              (inl (omega (arith, g .some, blank-weight x b))))
         ]
       ]
 
@@ -294,4 +295,4 @@ module _ (r : Round) (f : Fine r) (rs : List Row) (c : Rows r rs) where
 
   pub score-row : (x : Row) → In x rs → 1 ≤ score-of r x
   unfolding score-of
-  score-row x i = omega (arith, of-rows-fine r f rs c x i .2)
+  score-row x i = omega (arith, of-rows-fine r f rs c x i .some)

@@ -6,14 +6,16 @@ use mathlib.Core.List.{List, [], _∷_}
 use Prim.Native.Nat.{ℕ, zero, suc, _+_, _-_, _≤_, _<_, min}
 use native.Mathlib.Omega.{arith}
 use lib.Dec.{ltb, leb}
-use Rattle.rules.specs.Rows.{blank, Row, Round, round, row, All}
+use Rattle.rules.specs.Limits.{most-weight}
+use Rattle.rules.specs.Rows.{blank, Row, Round, round, row, All, Frame}
 use Rattle.rules.specs.Plan.{plan, total, total-weight, mark, mark-in, tight-after}
-use Rattle.rules.specs.Steps.{taken}
+use Rattle.rules.specs.Steps.{taken, taken-row}
 use Rattle.theory.specs.Tests.{leb?, ltb?}
 use Rattle.theory.specs.Sum.{sum, sum-append, total-sum}
 use Rattle.theory.specs.All.{all-map}
 use Rattle.theory.specs.Feas.{below, num, below-yes, below-light, num-weight, num-early, Feas, Edge}
-use Rattle.theory.specs.Full.{plan-all, Fine, Row-fine, blanks, outside, plan-feas, plan-edge, plan-sum, no-blanks, plan-full}
+use Rattle.theory.specs.Bounds.{Row-fine}
+use Rattle.theory.specs.Full.{plan-all, Fine, blanks, outside, plan-feas, plan-edge, plan-sum, no-blanks, plan-full}
 use Rattle.theory.specs.Marks.{box, box?, box-yes, box-num, marked, mark-above}
 use Rattle.theory.specs.Calls.{Takes, taken-fine}
 
@@ -108,7 +110,7 @@ pub plan-weights : (r : Round) → Fine r → All (λ x. (x .weight ≤ 16777216
 unfolding blank
 plan-weights r f =
     plan-all (λ x. (x .weight ≤ 16777216) × (x .due < suc (r .last))) r
-    (all-map {Q = λ x. (x .weight ≤ 16777216) × (x .due < suc (r .last))} (λ x (h : Row-fine r x). (h .3, omega (arith, h .1))) (r .rows) (f .fine))
+    (all-map {Q = λ x. (x .weight ≤ 16777216) × (x .due < suc (r .last))} (λ x (h : Row-fine r x). (h .most, omega (arith, h .due-by))) (r .rows) (f .fine))
     (λ s h k. (omega arith, omega arith))
 
 pub total-is : (r : Round) → Fine r → total r ≡ sum-to 16777216 (λ w. num w (suc (r .last)) (plan r))
@@ -150,113 +152,113 @@ gain-sum m b (suc n) =
     ]
 
 -- the rows with the newcomer
-pub more-box : (r : Round) (d b w v e : ℕ) → sum (box w v e) (taken r d b .rows) ≡ sum (box w v e) (r .rows) + box w v e (row (r .next) d b 0)
+pub more-box : (r : Round) (n : Frame) (w v e : ℕ) → sum (box w v e) (taken r n .rows) ≡ sum (box w v e) (r .rows) + box w v e (taken-row (r .next) n)
 unfolding taken round
-more-box r d b w v e = omega (arith, sum-append (box w v e) (r .rows) (row (r .next) d b 0 ∷ []))
+more-box r n w v e = omega (arith, sum-append (box w v e) (r .rows) (taken-row (r .next) n ∷ []))
 
-module _ (r : Round) (f : Fine r) (d b : ℕ) (k : Takes r d b) (w : ℕ) (h : 1 ≤ w) where
+module _ (r : Round) (f : Fine r) (n : Frame) (k : Takes r n) (w : ℕ) (h : 1 ≤ w) where
   pub newcomer-upper : (m : ℕ) (c : Edge r w m (plan r) (outside r)) → r .slot ≤ m →
-      num w (suc (r .last)) (plan (taken r d b)) ≤ num w (suc (r .last)) (plan r) + box w (c .at) (suc (r .last)) (row (r .next) d b 0)
+      num w (suc (r .last)) (plan (taken r n)) ≤ num w (suc (r .last)) (plan r) + box w (c .at) (suc (r .last)) (taken-row (r .next) n)
   unfolding taken round
   newcomer-upper m c i =
-      let g = taken-fine r f d b k in
+      let g = taken-fine r f n k in
       omega (
         arith,
         c .low,
         rank-at r f w m h c,
-        rank-plan (taken r d b) g w (c .at) h (omega (arith, c .low)) (c .high),
-        plan-feas (taken r d b) g (c .at) (omega (arith, c .low)) (c .high),
-        num-weight 0 w (c .at) (omega arith) (plan (taken r d b)),
-        more-box r d b w (c .at) (suc (r .last)),
+        rank-plan (taken r n) g w (c .at) h (omega (arith, c .low)) (c .high),
+        plan-feas (taken r n) g (c .at) (omega (arith, c .low)) (c .high),
+        num-weight 0 w (c .at) (omega arith) (plan (taken r n)),
+        more-box r n w (c .at) (suc (r .last)),
       )
 
-  pub newcomer-least : num w (suc (r .last)) (plan r) ≤ num w (suc (r .last)) (plan (taken r d b))
+  pub newcomer-least : num w (suc (r .last)) (plan r) ≤ num w (suc (r .last)) (plan (taken r n))
   unfolding taken round
   newcomer-least =
-      let g = taken-fine r f d b k in
-      let e = plan-edge (taken r d b) g w in
+      let g = taken-fine r f n k in
+      let e = plan-edge (taken r n) g w in
       omega (
         arith,
-        rank-at (taken r d b) g w (r .slot) h e,
+        rank-at (taken r n) g w (r .slot) h e,
         rank-plan r f w (e .at) h (e .low) (e .high),
         plan-feas r f (e .at) (e .low) (e .high),
         num-weight 0 w (e .at) (omega arith) (plan r),
-        more-box r d b w (e .at) (suc (r .last)),
+        more-box r n w (e .at) (suc (r .last)),
       )
 
-  pub newcomer-more : w ≤ b → ((m : ℕ) → d < m → m ≤ suc (r .last) → num w m (plan r) ≡ m - r .slot → ⊥) →
-      num w (suc (r .last)) (plan r) + 1 ≤ num w (suc (r .last)) (plan (taken r d b))
+  pub newcomer-more : w ≤ n .weight → ((m : ℕ) → n .due < m → m ≤ suc (r .last) → num w m (plan r) ≡ m - r .slot → ⊥) →
+      num w (suc (r .last)) (plan r) + 1 ≤ num w (suc (r .last)) (plan (taken r n))
   unfolding taken round row
-  newcomer-more i n =
-      let g = taken-fine r f d b k in
-      let e = plan-edge (taken r d b) g w in
-      elim (leb? (e .at) d) [
+  newcomer-more i below =
+      let g = taken-fine r f n k in
+      let e = plan-edge (taken r n) g w in
+      elim (leb? (e .at) (n .due)) [
         | inl a ↦ omega (
           arith,
-          rank-at (taken r d b) g w (r .slot) h e,
+          rank-at (taken r n) g w (r .slot) h e,
           rank-plan r f w (e .at) h (e .low) (e .high),
           plan-feas r f (e .at) (e .low) (e .high),
           num-weight 0 w (e .at) (omega arith) (plan r),
-          more-box r d b w (e .at) (suc (r .last)),
-          box-yes w (e .at) (suc (r .last)) (row (r .next) d b 0) i (a .1) (omega (arith, k .by)),
+          more-box r n w (e .at) (suc (r .last)),
+          box-yes w (e .at) (suc (r .last)) (taken-row (r .next) n) i (a .1) (omega (arith, k .by)),
         )
         | inr a ↦
-            let z : num w (e .at) (plan r) ≢ e .at - r .slot = n (e .at) (a .1) (e .high) in
+            let z : num w (e .at) (plan r) ≢ e .at - r .slot = below (e .at) (a .1) (e .high) in
             omega (
               arith,
-              rank-at (taken r d b) g w (r .slot) h e,
+              rank-at (taken r n) g w (r .slot) h e,
               rank-plan r f w (e .at) h (e .low) (e .high),
               plan-feas r f (e .at) (e .low) (e .high),
               num-weight 0 w (e .at) (omega arith) (plan r),
-              more-box r d b w (e .at) (suc (r .last)),
+              more-box r n w (e .at) (suc (r .last)),
             )
       ]
 
-  pub box-none : (m : ℕ) → m ≤ suc (r .last) → (w ≤ b → d < m) → box w m (suc (r .last)) (row (r .next) d b 0) ≡ 0
+  pub box-none : (m : ℕ) → m ≤ suc (r .last) → (w ≤ n .weight → n .due < m) → box w m (suc (r .last)) (taken-row (r .next) n) ≡ 0
   unfolding row
-  box-none m i n = elim (box? w m (suc (r .last)) (row (r .next) d b 0) i) [ inl a ↦ omega (arith, a .2, n (a .1)) | inr a ↦ a ]
+  box-none m i below = elim (box? w m (suc (r .last)) (taken-row (r .next) n) i) [ inl a ↦ omega (arith, a .2, below (a .1)) | inr a ↦ a ]
 
-  pub box-one : (m : ℕ) → m ≤ suc (r .last) → box w m (suc (r .last)) (row (r .next) d b 0) ≤ 1
-  box-one m i = elim (box? w m (suc (r .last)) (row (r .next) d b 0) i) [ inl a ↦ omega arith | inr a ↦ omega arith ]
+  pub box-one : (m : ℕ) → m ≤ suc (r .last) → box w m (suc (r .last)) (taken-row (r .next) n) ≤ 1
+  box-one m i = elim (box? w m (suc (r .last)) (taken-row (r .next) n) i) [ inl a ↦ omega arith | inr a ↦ omega arith ]
 
-  pub newcomer-count : w ≤ 16777216 →
-      num w (suc (r .last)) (plan (taken r d b)) ≡ num w (suc (r .last)) (plan r) + gain (mark r d) b w
+  pub newcomer-count : w ≤ most-weight →
+      num w (suc (r .last)) (plan (taken r n)) ≡ num w (suc (r .last)) (plan r) + gain (mark r (n .due)) (n .weight) w
   unfolding mark
   newcomer-count l =
       let e = plan-edge r f w in
-      elim (gain? (mark-in r (plan r) d) b w) [
+      elim (gain? (mark-in r (plan r) (n .due)) (n .weight) w) [
         | inl a ↦ omega (
           arith,
           newcomer-upper (r .slot) e (omega arith),
           box-one (e .at) (e .high),
-          newcomer-more (a .2) (λ m i j q. omega (
+          newcomer-more (a .2) (λ m i j p. omega (
             arith,
             a .1,
-            mark-above r (plan r) (plan-feas r f) (plan-full r f) w d m l (k .from) i j q,
+            mark-above r (plan r) (plan-feas r f) (plan-full r f) w (n .due) m l (k .from) i j p,
           )),
         )
         | inr (inl a) ↦
-            let n = marked r f w d (k .by) h (a .1) in
-            let c = edge-past r f w (suc (tight-after r (plan r) d)) (omega (arith, n .next .by)) (n .full) in
+            let q = marked r f w (n .due) (k .by) h (a .1) in
+            let c = edge-past r f w (suc (tight-after r (plan r) (n .due))) (omega (arith, q .next .by)) (q .full) in
             omega (
               arith,
-              newcomer-upper (suc (tight-after r (plan r) d)) c (omega (arith, k .from, n .next .from)),
+              newcomer-upper (suc (tight-after r (plan r) (n .due))) c (omega (arith, k .from, q .next .from)),
               newcomer-least,
-              box-none (c .at) (c .high) (λ _. omega (arith, c .low, n .next .from)),
+              box-none (c .at) (c .high) (λ _. omega (arith, c .low, q .next .from)),
             )
         | inr (inr a) ↦ omega (arith, newcomer-upper (r .slot) e (omega arith), newcomer-least, box-none (e .at) (e .high) (λ i. omega arith))
       ]
 
-pub newcomer : (r : Round) → Fine r → (d b : ℕ) → Takes r d b → total (taken r d b) ≡ total r + (b - mark r d)
+pub newcomer : (r : Round) → Fine r → (n : Frame) → Takes r n → total (taken r n) ≡ total r + (n .weight - mark r (n .due))
 unfolding taken round
-newcomer r f d b k =
+newcomer r f n k =
     omega (
       arith,
       total-is r f,
-      total-is (taken r d b) (taken-fine r f d b k),
+      total-is (taken r n) (taken-fine r f n k),
       k .limit,
-      sum-to-eq 16777216 (λ w. num w (suc (r .last)) (plan (taken r d b))) (λ w. num w (suc (r .last)) (plan r) + gain (mark r d) b w)
-          (λ w h l. newcomer-count r f d b k w h l),
-      sum-to-add 16777216 (λ w. num w (suc (r .last)) (plan r)) (gain (mark r d) b),
-      gain-sum (mark r d) b 16777216,
+      sum-to-eq most-weight (λ w. num w (suc (r .last)) (plan (taken r n))) (λ w. num w (suc (r .last)) (plan r) + gain (mark r (n .due)) (n .weight) w)
+          (λ w h l. newcomer-count r f n k w h l),
+      sum-to-add most-weight (λ w. num w (suc (r .last)) (plan r)) (gain (mark r (n .due)) (n .weight)),
+      gain-sum (mark r (n .due)) (n .weight) most-weight,
     )

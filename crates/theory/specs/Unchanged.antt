@@ -7,7 +7,7 @@ use borrow.Author.Tests.{ne-eqb}
 use lib.ListN.{length}
 use Rattle.rules.specs.Rows.{Round}
 use Rattle.rules.specs.Table.{round-in}
-use Rattle.rules.specs.Calls.{Call, opening, taking, sending, marking, totalling, number-of, says, refusal, answer}
+use Rattle.rules.specs.Calls.{taking, sending, marking, totalling, Call, opening, acting, asking, act, question, deed, number-of, says, refusal, answer}
 use Rattle.rules.specs.Looking.{list-refusal, list-answer, list-left}
 use Rattle.rules.specs.Lines.{Command, write-refusal, write-answer, write-left}
 use Rattle.rules.specs.Demands.{Refused, Refused-unchanged, Numbers, List-refused-unchanged}
@@ -29,12 +29,12 @@ refused-unchanged = (
 
 -- a reply's number
 pub says-number : (c : Call) (r : Round) → number-of (says c r) ≡ 0
-unfolding says number-of
-says-number (opening l) r = refl
-says-number (taking d w) r = refl
-says-number sending r = refl
-says-number (marking s) r = refl
-says-number totalling r = refl
+unfolding says deed act question number-of
+says-number (opening u) r = refl
+says-number (acting (taking f)) r = refl
+says-number (acting sending) r = refl
+says-number (asking (marking s)) r = refl
+says-number (asking totalling) r = refl
 
 pub numbers : Numbers
 unfolding Numbers answer number-of

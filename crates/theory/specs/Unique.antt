@@ -16,7 +16,8 @@ use Rattle.theory.specs.Sum.{sum, sum-le, sum-sorted}
 use Rattle.theory.specs.All.{blank-weight, ticketless-blanks, all-map, all-in, all-sorted, all-kept, all-of-in}
 use Rattle.theory.specs.Order.{Not-over, heavier?, over-absurd, Ordered, ordered-sorted}
 use Rattle.theory.specs.Feas.{below, num, below-yes, below-late, due-below, Feas, feas-yes, feas-made}
-use Rattle.theory.specs.Full.{plan-members, Fine, Row-fine, Rising, blanks}
+use Rattle.theory.specs.Bounds.{Row-fine}
+use Rattle.theory.specs.Full.{plan-members, Fine, Rising, blanks}
 use Rattle.theory.specs.Change.{rising-same, rising-above, kept-keeps, row-outside, in-sorted}
 use Rattle.theory.specs.Times.{all-of-chosen}
 use Rattle.theory.specs.Border.{from-row-over, within, within-yes, within-no, many, from-row, over-light, outside-by-order}
@@ -167,7 +168,7 @@ module _ (r : Round) (f : Fine r) (rs : List Row) (members : All (λ y. In y (r 
       }
   follows (x ∷ xs) bs ps o i b d s e =
       let t = all-in (λ x. 1 ≤ x .ticket) x (r .rows) (row-ticket r f) (i .0) in
-      let u = all-in (Row-fine r) x (r .rows) (f .fine) (i .0) .0 in
+      let u = all-in (Row-fine r) x (r .rows) (f .fine) (i .0) .due-from in
       elim (either (in-plan x rs)) [
         | inl k ↦
             let y : feasible r (x ∷ ps) ≡ true =
@@ -225,7 +226,7 @@ certified-plan r f fs c =
     (all-of-in (λ x. in-plan x (plan r) ≡ in-plan x rs) (r .rows)
     (plan-selected r f rs (chosen-in fs (r .rows))
     (feas-yes r rs (c .fits) (all-of-chosen (λ x. r .slot ≤ x .due) fs (r .rows)
-    (all-map {Q = λ x. r .slot ≤ x .due} (λ x (h : Row-fine r x). h .0) (r .rows) (f .fine))))
+    (all-map {Q = λ x. r .slot ≤ x .due} (λ x (h : Row-fine r x). h .due-from) (r .rows) (f .fine))))
     (λ x i n. elim (unchosen-in fs (r .rows) x i) [
       | inl h ↦ elim (in-plan? x rs) [ inl k ↦ absurd (true≢false (sym (k .0) ∙ n)) | inr k ↦ absurd (k .1 x h refl) ]
       | inr h ↦ all-in (Left-out r rs) x (unchosen fs (r .rows)) (c .out) h
@@ -279,7 +280,7 @@ in-planned r y i = all-in (λ x. in-plan x (plan r) ≡ true) y (planned r) (cho
 
 pub plan-out : (r : Round) → Fine r → (x : Row) → In x (r .rows) → in-plan x (plan r) ≡ false → Left-out r (planned r) x
 plan-out r f x i n =
-    let w = all-in (Row-fine r) x (r .rows) (f .fine) i .2 in
+    let w = all-in (Row-fine r) x (r .rows) (f .fine) i .some in
     let b = outside-by-order r f x w (row-outside r x i n) in
     let e = b .0 in
     let z : suc (e - 1) ≡ e = omega (arith, b .1) in
@@ -291,7 +292,7 @@ plan-out r f x i n =
     ]) (plan r) (plan-members r)) in
     let m : many (from-row x) e (planned r) ≡ e - r .slot = sym (planned-same r f (within (from-row x) e)) ∙ p ∙ b .3 in
     let k : num 0 e (planned r) ≤ e - r .slot =
-    planned-feas r f e (omega (arith, b .1, all-in (Row-fine r) x (r .rows) (f .fine) i .0)) (b .2) in
+    planned-feas r f e (omega (arith, b .1, all-in (Row-fine r) x (r .rows) (f .fine) i .due-from)) (b .2) in
     record {
       at = e - 1;
       from = omega (arith, b .1);

@@ -7,11 +7,11 @@ use native.Mathlib.Omega.{arith}
 use lib.Dec.{leb}
 use lib.ListN.{length}
 use borrow.Author.Tests.{le-leb, lt-leb, leb-true}
-use Rattle.rules.specs.Rows.{Row, Round, blank, heavier, row, In}
+use Rattle.rules.specs.Rows.{Row, Round, blank, heavier, row, In, blank-tail}
 use Rattle.rules.specs.Plan.{plan, in-plan, tight-after, first-end, best}
 use Rattle.rules.specs.Steps.{changed, sent, is-ordinary}
 use Rattle.rules.specs.Table.{round-in, table-refusal}
-use Rattle.rules.specs.Calls.{step, sending, ordinary, leap, out-of, answer}
+use Rattle.rules.specs.Calls.{step, sending, ordinary, leap, out-of, answer, acting}
 use Rattle.theory.specs.Full.{Fine}
 use Rattle.theory.specs.Back.{length-changed}
 use Rattle.theory.specs.Members.{Rows, of-rows-fine, found-member}
@@ -74,7 +74,7 @@ module _ (r : Round) (f : Fine r) (o : r .slot ≤ r .last) (rs : List Row) (c :
     module _ (b e : ℕ) (n : e < z) (s : Segment r rs b e) (a : r .slot < b) (i : b ≤ p .due) (j : p .due ≤ e) where
       -- a leap onto the segment's blank: it is kept in p's row with the mark, x being a lightest row due by the segment's end
       pub sends-kept : ((y : Row) → In y (r .rows) → in-plan y rs ≡ false → y .due < b) → (x : Row) → In x rs → x .due ≤ e →
-          ((y : Row) → In y rs → y .due ≤ e → x .weight ≤ y .weight) → Sends r p false 0 (changed (p .ticket) (row (p .ticket) b (x .weight) 1) (r .rows))
+          ((y : Row) → In y rs → y .due ≤ e → x .weight ≤ y .weight) → Sends r p false 0 (changed (p .ticket) (row (p .ticket) b (x .weight) blank-tail) (r .rows))
       sends-kept g x u v m =
           let q = lead-best r f o rs c p l in
           let d = segment-begin r f o rs c z k b e n s (p .due) i j in
@@ -86,9 +86,9 @@ module _ (r : Round) (f : Fine r) (o : r .slot ≤ r .last) (rs : List Row) (c :
             leaves =
                 sent-kept r f rs c p q (found-member r f rs c p (l .inside)) (omega (arith, t, i)) (segment-none r f o rs c z k b e n s a p i j g
                 ∙ ap blank (sym d))
-                (omega (arith, w, of-rows-fine r f rs c x u .2))
-                ∙ ap₂ (λ (v : ℕ) (w : ℕ). after-slot r (closed (suc (r .slot)) 0 (changed (p .ticket) (row (p .ticket) v w 1) (r .rows)))) d w;
-            long = length-changed (p .ticket) (row (p .ticket) b (x .weight) 1) (r .rows);
+                (omega (arith, w, of-rows-fine r f rs c x u .some))
+                ∙ ap₂ (λ (v : ℕ) (w : ℕ). after-slot r (closed (suc (r .slot)) 0 (changed (p .ticket) (row (p .ticket) v w blank-tail) (r .rows)))) d w;
+            long = length-changed (p .ticket) (row (p .ticket) b (x .weight) blank-tail) (r .rows);
           }
 
       -- a leap onto a row y outside: the chain hs of shifts from e to the end g of y's segment; x a lightest row due by g
@@ -96,7 +96,7 @@ module _ (r : Round) (f : Fine r) (o : r .slot ≤ r .last) (rs : List Row) (c :
           ((w : Row) → In w (r .rows) → in-plan w rs ≡ false → b ≤ w .due → heavier w y ≡ false) →
           (b2 g : ℕ) → g < z → Segment r rs b2 g → b2 ≤ y .due → y .due ≤ g → (hs : List Row) → Chain r rs e g hs →
           (x : Row) → In x rs → x .due ≤ g → ((w : Row) → In w rs → w .due ≤ g → x .weight ≤ w .weight) →
-          Sends r p false (p .ticket) (changed (y .ticket) (row (y .ticket) (y .due) (x .weight) (y .kind)) (moves r e hs (r .rows)))
+          Sends r p false (p .ticket) (changed (y .ticket) (row (y .ticket) (y .due) (x .weight) (y .tail)) (moves r e hs (r .rows)))
       sends-row y u v w m b2 g n2 s2 i2 j2 hs ch x d h mm =
           let q = lead-best r f o rs c p l in
           let t = later-segment r f o rs c z k b e n s a in
@@ -111,14 +111,14 @@ module _ (r : Round) (f : Fine r) (o : r .slot ≤ r .last) (rs : List Row) (c :
             leaves =
                 sent-row r f rs c p y hs q (omega (arith, t, i)) (segment-row r f o rs c z k b e n s a p i j y u v w m) u ch2
                 ∙ ap₂ (λ (v : ℕ) (w : ℕ). after-slot r (closed (suc (r .slot)) (p .ticket)
-                (changed (y .ticket) (row (y .ticket) (y .due) w (y .kind)) (moves r v hs (r .rows))))) e1 mk;
+                (changed (y .ticket) (row (y .ticket) (y .due) w (y .tail)) (moves r v hs (r .rows))))) e1 mk;
             long =
-                length-changed (y .ticket) (row (y .ticket) (y .due) (x .weight) (y .kind)) (moves r e hs (r .rows)) ∙ length-moves r e hs (r .rows);
+                length-changed (y .ticket) (row (y .ticket) (y .due) (x .weight) (y .tail)) (moves r e hs (r .rows)) ∙ length-moves r e hs (r .rows);
           }
 
 -- THE ANSWER on a sound table
 pub sends-answer : (t : List ℕ) (p : Row) (plain : Bool) (gone : ℕ) (xs : List Row) → table-refusal t ≡ 0 → round-in t .slot ≤ round-in t .last →
-    Sends (round-in t) p plain gone xs → answer sending t ≡ step (cond plain (ordinary (out-of p)) (leap (out-of p)))
+    Sends (round-in t) p plain gone xs → answer (acting sending) t ≡ step (cond plain (ordinary (out-of p)) (leap (out-of p)))
 unfolding is-ordinary
 sends-answer t p plain gone xs s o w =
     answer-sent t s o p (w .goes)

@@ -19,7 +19,7 @@ use Rattle.theory.specs.Steps.{goes-in, makes}
 
 -- WHERE A FRAME THAT WAITS COMES FROM: a frame of the round before, its ticket the same and its due slot no earlier; not what goes out
 abbrev pub Was : Round → Row → Row → Type 0
-Was r y x = (x .ticket ≡ y .ticket) × (y .due ≤ x .due) × (x .kind ≡ 0) × Other x (goes r)
+Was r y x = (x .ticket ≡ y .ticket) × (y .due ≤ x .due) × (x .tail .kind ≡ 0) × Other x (goes r)
 
 -- a row shifted goes to an earlier slot
 pub shifted-was : (r : Round) → Fine r → (g : ℕ) (x : Row) → In x (r .rows) → (e c : ℕ) (cs : List Shift) → Chain r g c cs →
@@ -30,31 +30,31 @@ shifted-was r f g x i e c (d ∷ cs) ch w (inl s) =
     (omega (arith, s .1, ch .1, ch .2 .after, ap (λ (z : Row). z .due) q), λ z. w .0 .1 (sym (s .0) ∙ z))
 shifted-was r f g x i e c (d ∷ cs) ch w (inr s) = shifted-was r f g x i e (end-of r (d .h)) cs (ch .3) (w .1) s
 
-module _ (r : Round) (f : Fine r) (y : Row) (k : y .kind ≡ 0) where
+module _ (r : Round) (f : Fine r) (y : Row) (k : y .tail .kind ≡ 0) where
   -- in an ordinary step
   pub unchanged-was : (x : Row) → Unchanged r x y → Was r y x
   unchanged-was x u = (
     ap (λ (z : Row). z .ticket) (sym (u .1)),
     omega (arith, ap (λ (z : Row). z .due) (u .1)),
-    omega (arith, k, ap (λ (z : Row). z .kind) (u .1)),
+    omega (arith, k, ap (λ (z : Row). z .tail .kind) (u .1)),
     u .0,
   )
 
   -- in a leap: a kept blank is no frame
   pub becomes-was : (zs : List Row) (l : Leap r zs) (x : Row) → In x (r .rows) → Becomes r (l .shifts) x y → Was r y x
   unfolding row
-  becomes-was zs l x i (inl b) = absurd (omega (arith, k, ap (λ (z : Row). z .kind) (b .2)))
+  becomes-was zs l x i (inl b) = absurd (omega (arith, k, ap (λ (z : Row). z .tail .kind) (b .2)))
   becomes-was zs l x i (inr (inl b)) =
       let s = shifted-was r f (end-of r (stands-in r)) x i (b .0) (end-of r (goes r)) (l .shifts) (l .chain) (l .waiting) (b .1) in (
         ap (λ (z : Row). z .ticket) (sym (b .2)),
         omega (arith, s .0, ap (λ (z : Row). z .due) (b .2)),
-        omega (arith, k, ap (λ (z : Row). z .kind) (b .2)),
+        omega (arith, k, ap (λ (z : Row). z .tail .kind) (b .2)),
         s .1,
       )
   becomes-was zs l x i (inr (inr (inl b))) = (
     ap (λ (z : Row). z .ticket) (sym (b .2)),
     omega (arith, ap (λ (z : Row). z .due) (b .2)),
-    omega (arith, k, ap (λ (z : Row). z .kind) (b .2)),
+    omega (arith, k, ap (λ (z : Row). z .tail .kind) (b .2)),
     b .1,
   )
   becomes-was zs l x i (inr (inr (inr b))) = unchanged-was x (b .0, b .3)
@@ -76,13 +76,13 @@ module _ (r : Round) (f : Fine r) (y : Row) (k : y .kind ≡ 0) where
 
 -- A FRAME GOES OUT that is a waiting row, or nothing that counts
 pub counts? : (r : Round) → Fine r → r .slot ≤ r .last →
-    (In (goes r) (r .rows) × (goes r .kind ≡ 0) × (out-of (goes r) ≡ frame (goes r .ticket))) ⊎ ((g : ℕ → ℕ) → counts-for g (out-of (goes r)) ≡ 0)
+    (In (goes r) (r .rows) × (goes r .tail .kind ≡ 0) × (out-of (goes r) ≡ frame (goes r .ticket))) ⊎ ((g : ℕ → ℕ) → counts-for g (out-of (goes r)) ≡ 0)
 unfolding out-of counts-for
 counts? r f o =
     let p = goes r in
     elim (eqb? (p .ticket) 0) [
       | inl e ↦ inr (λ g. rw (e .0))
-      | inr e ↦ elim (eqb? (p .kind) 0) [
+      | inr e ↦ elim (eqb? (p .tail .kind) 0) [
         | inl c ↦ elim (plan-member r p (goes-in r f o)) [
           | inl i ↦ inl (i, c .1, rw (e .0, c .0))
           | inr b ↦ absurd (e .1 (blank-ticket p (b .0)))

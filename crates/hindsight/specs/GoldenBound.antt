@@ -8,7 +8,7 @@ use native.Mathlib.Omega.{arith}
 use lib.Dec.{leb}
 use borrow.Author.Tests.{leb-true}
 use Rattle.rules.specs.Limits.{most-last, most-rows}
-use Rattle.rules.specs.Rows.{Round, round}
+use Rattle.rules.specs.Rows.{Round, round, Frame, Setup}
 use Rattle.rules.specs.Plan.{best, plan}
 use Rattle.rules.specs.Steps.{opened, sent, taken}
 use Rattle.rules.specs.Table.{round-in, table}
@@ -44,17 +44,18 @@ unfolding offers earned
 untold r z ts b = b
 
 -- A FRAME IS TAKEN: the rival leaves it, or books a slot for it
-pub taken-bound : (r z : Round) → Fine r → (d w : ℕ) → Takes r d w → (ts : List Told) → Bound (taken r d w) z ts → Bound r z (took (r .next) d w ∷ ts)
+pub taken-bound : (r z : Round) → Fine r → (n : Frame) → Takes r n → (ts : List Told) → Bound (taken r n) z ts →
+    Bound r z (took (r .next) (n .due) (n .weight) ∷ ts)
 unfolding taken round offer offers kept-to gained earned
-taken-bound r z f d w k ts b [] g us s o y p v =
-    omega (arith, b [] _ us s o (take-left r f g us s o d w k y) p (none-kept (offers ts (r .slot)) us), none-gained (offers ts (r .slot)))
-taken-bound r z f d w k ts b (none ∷ cs) g us s o y p v = b cs _ us s o (take-left r f g us s o d w k y) p v
-taken-bound r z f d w k ts b (some u ∷ cs) g us s o y p v =
-    let a = and-true ((leb (r .slot) u && leb u d) && not (member u us)) (kept-to (offers ts (r .slot)) cs (u ∷ us)) v in
-    let c = and-true (leb (r .slot) u && leb u d) (not (member u us)) (a .0) in
-    let i = and-true (leb (r .slot) u) (leb u d) (c .0) in
-    let q = take-booked r f g us s o d w k y u (leb-true (r .slot) u (i .0)) (leb-true u d (i .1)) (not-true′ (member u us) (c .1)) in
-    omega (arith, b cs _ (u ∷ us) s (o + w) q p (a .1))
+taken-bound r z f n k ts b [] g us s o y p v =
+    omega (arith, b [] _ us s o (take-left r f g us s o n k y) p (none-kept (offers ts (r .slot)) us), none-gained (offers ts (r .slot)))
+taken-bound r z f n k ts b (none ∷ cs) g us s o y p v = b cs _ us s o (take-left r f g us s o n k y) p v
+taken-bound r z f n k ts b (some u ∷ cs) g us s o y p v =
+    let a = and-true ((leb (r .slot) u && leb u (n .due)) && not (member u us)) (kept-to (offers ts (r .slot)) cs (u ∷ us)) v in
+    let c = and-true (leb (r .slot) u && leb u (n .due)) (not (member u us)) (a .0) in
+    let i = and-true (leb (r .slot) u) (leb u (n .due)) (c .0) in
+    let q = take-booked r f g us s o n k y u (leb-true (r .slot) u (i .0)) (leb-true u (n .due) (i .1)) (not-true′ (member u us) (c .1)) in
+    omega (arith, b cs _ (u ∷ us) s (o + n .weight) q p (a .1))
 
 -- A SLOT IS SENT
 pub sent-bound : (r z : Round) → Fine r → r .slot ≤ r .last → (ts : List Told) → Bound (sent r) z ts → Bound r z (went (out-of (best r (plan r))) ∷ ts)
@@ -75,26 +76,27 @@ unfolding round-in round
 past-round r s p = omega (arith, p, ap (λ (z : Round). z .slot) (read-back r (s .fine) (s .size)), ap (λ (z : Round). z .last) (read-back r (s .fine) (s .size)))
 
 -- ANY CHOICE that can be kept, of a round by the model
-module _ (l k : ℕ) (cs : List Call) (h : l ≤ most-last) (i : 1 ≤ k) (j : k ≤ most-rows) (n : No-opening cs) (p : at k l cs .last < at k l cs .slot) where
-  pub any-choice : (xs : Choice) → kept-to (offers (tale cs (opened l k)) 0) xs [] ≡ true →
-      Within-golden (gained (offers (tale cs (opened l k)) 0) xs) (sent-in (tale cs (opened l k)))
+module _ (u : Setup) (k : ℕ) (cs : List Call) (h : u .last ≤ most-last) (i : 1 ≤ k) (j : k ≤ most-rows) (n : No-opening cs)
+    (p : at k u cs .last < at k u cs .slot) where
+  pub any-choice : (xs : Choice) → kept-to (offers (tale cs (opened u k)) 0) xs [] ≡ true →
+      Within-golden (gained (offers (tale cs (opened u k)) 0) xs) (sent-in (tale cs (opened u k)))
   unfolding at opened round sent-in
   any-choice xs v =
-      let r = opened l k in
+      let r = opened u k in
       golden-end 26 fib-52 fib-53 even-26 (gained (offers (tale cs r) 0) xs) (sent-in (tale cs r))
-      (omega (arith, bound-over cs r (opened-sane l k h i j .fine) n xs (λ x. 0) [] 0 0 (opened-account (λ x. 0) l k) p v))
+      (omega (arith, bound-over cs r (opened-sane u k h i j .fine) n xs (λ x. 0) [] 0 0 (opened-account (λ x. 0) u k) p v))
 
   -- the most is one of them
-  pub golden-round : Within-golden (could-have (tale cs (opened l k))) (sent-in (tale cs (opened l k)))
+  pub golden-round : Within-golden (could-have (tale cs (opened u k))) (sent-in (tale cs (opened u k)))
   unfolding could-have Most Most-reckoned
   golden-round =
-      let ts = tale cs (opened l k) in
+      let ts = tale cs (opened u k) in
       let m : Most (offers ts 0) (most (offers ts 0) []) = most-reckoned (offers ts 0) in
       subst (λ (b : ℕ). Within-golden b (sent-in ts)) (m .0 .2) (any-choice (m .0 .0) (m .0 .1))
 
 -- ON BYTES: the replies are the model's
 pub golden-hindsight : Golden-hindsight
 unfolding Golden-hindsight
-golden-hindsight t k l cs e i j h n p =
-    rw (opened-replies t k l cs e i j h)
-    (golden-round l k cs h i j n (past-round (at k l cs) (at-sane t k l e i j h cs) (rw (run-at t k l e i j h cs) at p)))
+golden-hindsight t k u cs e i j h n p =
+    rw (opened-replies t k u cs e i j h)
+    (golden-round u k cs h i j n (past-round (at k u cs) (at-sane t k u e i j h cs) (rw (run-at t k u e i j h cs) at p)))

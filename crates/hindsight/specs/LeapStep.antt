@@ -94,14 +94,14 @@ none-heavier r f o h =
               arith,
               first-weight r f y j (q .1),
               outside-heavy r f s (a .0) (a .2),
-              mark-falls r f (r .slot) (s .due) (omega arith) (oo .0) (oo .1),
+              mark-falls r f (r .slot) (s .due) (omega arith) (oo .due-from) (oo .due-by),
             )
             | inr q ↦
                 let sy = start r (plan r) (y .due) (plan-feas r f) (f .time) (v .0) in
                 let ok : segment-start r (plan r) (y .due) ≤ s .due = elim (none-tight r f (s .due) (y .due) (tight-after r (plan r) (s .due))
-                (segment-start r (plan r) (y .due)) (next r (plan r) (s .due) (oo .1) (plan-full r f)) sy k (oo .0)) [
+                (segment-start r (plan r) (y .due)) (next r (plan r) (s .due) (oo .due-by) (plan-full r f)) sy k (oo .due-from)) [
                   | inl z ↦ z
-                  | inr z ↦ omega (arith, oo .0)
+                  | inr z ↦ omega (arith, oo .due-from)
                 ] in
                 later-heaviest r y (q .1) s (a .0) ok (a .2)
           ]

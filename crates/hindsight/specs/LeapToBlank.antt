@@ -9,7 +9,7 @@ use borrow.Author.Tests.{ltb-true, ltb-false}
 use Rattle.rules.specs.Limits.{most-weight}
 use Rattle.rules.specs.Rows.{All, In, Round, Row, blank, row}
 use Rattle.rules.specs.Plan.{mark, mark-in, plan, tight-after}
-use Rattle.rules.specs.Steps.{changed, replaced, without}
+use Rattle.rules.specs.Steps.{changed, replaced, without, kept-at}
 use Rattle.theory.specs.Tests.{both-ways, leb?}
 use Rattle.theory.specs.Sum.{sum}
 use Rattle.theory.specs.All.{all-in, all-map}
@@ -37,7 +37,7 @@ blank-light w v e b a =
 
 -- the row that a kept blank stands in
 abbrev pub blank-row : Round → Row → ℕ → Row
-blank-row r p b = row (p .ticket) b (mark-in r (plan r) b) 1
+blank-row r p b = kept-at b (mark-in r (plan r) b) p
 
 -- the rows after the leap: with the kept blank in its row where the mark is above 0, else without the row
 abbrev pub Blank-rows : Round → Row → ℕ → List Row → Type 0
@@ -56,9 +56,9 @@ blank-rows r f p b sp =
     next-by r (plan r) b (tight-after r (plan r) b) e (en .last) (omega (arith, st .by, en .first .from)) (en .first .tight) in
     let i = rising-first 1 (r .next) p (r .rows) (f .rising) (sp .waits) in
     rw (no-shift (suc (r .last)) r e (tight-after r (plan r) b) (r .rows) back)
-    (both-ways (Blank-rows r p b) (ltb 0 (mark-in r (plan r) b)) (changed (p .ticket) (row (p .ticket) b (mark-in r (plan r) b) 1) (r .rows))
+    (both-ways (Blank-rows r p b) (ltb 0 (mark-in r (plan r) b)) (changed (p .ticket) (blank-row r p b) (r .rows))
     (without (p .ticket) (r .rows))
-    (λ a. inl (ltb-true 0 (mark-in r (plan r) b) a, λ μ. changed-sum μ p (row (p .ticket) b (mark-in r (plan r) b) 1) (r .rows) i))
+    (λ a. inl (ltb-true 0 (mark-in r (plan r) b) a, λ μ. changed-sum μ p (blank-row r p b) (r .rows) i))
     (λ a. inr (ltb-false 0 (mark-in r (plan r) b) a, λ μ. without-sum μ p (r .rows) i)))
 
 module _ (r : Round) (f : Fine r) (o : r .slot ≤ r .last) (p : Row) (b : ℕ) (sp : Segment-start r p b) (fs : List Row) (es : List Entry)
@@ -133,8 +133,8 @@ module _ (r : Round) (f : Fine r) (o : r .slot ≤ r .last) (p : Row) (b : ℕ) 
               u .kept (like c),
               u .stayed-some c (omega (arith, q .0)),
               u .gone-in (like c),
-              no-like (r .rows) (all-map {Q = λ x. 1 ≤ x .weight} (λ x (k : Row-fine r x). k .2) (r .rows) (f .fine)) (q .0),
-              light-like p (all-in (Row-fine r) p (r .rows) (f .fine) (sp .waits) .2) (q .0),
+              no-like (r .rows) (all-map {Q = λ x. 1 ≤ x .weight} (λ x (k : Row-fine r x). k .some) (r .rows) (f .fine)) (q .0),
+              light-like p (all-in (Row-fine r) p (r .rows) (f .fine) (sp .waits) .some) (q .0),
             )) in
             let pu = pull c (l .xs) inx in
             made-from r f p (blank b) p c b [] fs fs es sp l (pu .0)

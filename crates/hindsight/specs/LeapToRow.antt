@@ -40,7 +40,7 @@ chain-lift r g b κ fx p h (d ∷ ds) q =
     omega (
       arith,
       chain-lift r g b κ fx p (d .old) ds (q .2),
-      link (κ (d .new)) (κ h) (d .new .weight) (h .weight) (fx (d .new) h (q .0 .ticket) (q .0 .kind)) (heavier-new (q .0)),
+      link (κ (d .new)) (κ h) (d .new .weight) (h .weight) (fx (d .new) h (q .0 .ticket) (q .0 .tail)) (heavier-new (q .0)),
     )
   where
     link : (a b c h : ℕ) → a ≡ b → h ≤ c → c - a + h ≤ h - b + c
@@ -86,7 +86,7 @@ module _ (r : Round) (f : Fine r) (o : r .slot ≤ r .last) (p s : Row) (b : ℕ
           above = mark-least r f (s .due) (q .hole) (q .inside) (omega (arith, q .by));
           limit = all-in (λ x. (x .weight ≤ most-weight) × (x .due < suc (r .last))) (q .hole) (plan r) (plan-weights r f) (q .inside) .0;
           under = outside-heavy r f s j n;
-          marks = λ v a l. reach r f (s .due) v (all-in (Row-fine r) s (r .rows) (f .fine) j .1) a (omega arith);
+          marks = λ v a l. reach r f (s .due) v (all-in (Row-fine r) s (r .rows) (f .fine) j .due-by) a (omega arith);
           adjust = λ w v. omega arith;
         }
 
@@ -159,9 +159,9 @@ module _ (r : Round) (f : Fine r) (o : r .slot ≤ r .last) (p s : Row) (b : ℕ
       let oo = all-in (Row-fine r) s (r .rows) (f .fine) j in
       let e = tight-after r (plan r) (p .due) in
       let g = tight-after r (plan r) (s .due) in
-      let en = ends-of r f p s b (sp .by) (omega (arith, sp .start .low, sp .start .by)) (sp .start) hs (oo .1) in
+      let en = ends-of r f p s b (sp .by) (omega (arith, sp .start .low, sp .start .by)) (sp .start) hs (oo .due-by) in
       let hv : Heavy-to r g = all-map {Q = λ y. y .due ≤ g → 1 ≤ y .weight}
-      (λ y (a : y .due ≤ g → mark-in r (plan r) (s .due) ≤ y .weight) (c : y .due ≤ g). omega (arith, a c, outside-heavy r f s j n, oo .2))
+      (λ y (a : y .due ≤ g → mark-in r (plan r) (s .due) ≤ y .weight) (c : y .due ≤ g). omega (arith, a c, outside-heavy r f s j n, oo .some))
       (plan r) (mark-all r (plan r) (s .due)) in
       let inf : In s fs = elim (split-either r fs (held es) sl s j) [
         | inl a ↦ a

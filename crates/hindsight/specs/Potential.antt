@@ -12,9 +12,9 @@ use native.Mathlib.Omega.{arith}
 use lib.Dec.{leb, eqb}
 use borrow.Author.Tests.{eq-eqb, ne-eqb}
 use Rattle.rules.specs.Limits.{most-weight}
-use Rattle.rules.specs.Rows.{Round, Row, round, row}
+use Rattle.rules.specs.Rows.{Round, Row, round, row, Frame, Setup}
 use Rattle.rules.specs.Plan.{best, plan}
-use Rattle.rules.specs.Steps.{opened, sent, still-due, taken}
+use Rattle.rules.specs.Steps.{opened, sent, still-due, taken, taken-row}
 use Rattle.rules.specs.Calls.{silence, frame, kept-blank, out-of}
 use Rattle.rules.specs.Demands.{member}
 use Rattle.rules.specs.Hindsight.{counts-for, noted}
@@ -37,7 +37,7 @@ use Rattle.hindsight.specs.Booking.{book}
 unfoldable pub counted : (ℕ → ℕ) → Row → ℕ
 counted f x = counts-for f (out-of x)
 
--- ticket and kind decide it
+-- ticket and tail decide it
 pub counted-fixed : (f : ℕ → ℕ) → Fixed (counted f)
 unfolding counted out-of
 counted-fixed f x y a b = rw (a, b) refl
@@ -57,14 +57,14 @@ pub record Account (r : Round) (f : ℕ → ℕ) (us : List ℕ) (s o : ℕ) : T
   pub covers : o ≤ credit + claims stash
 
 -- a frame just taken counts for its weight
-pub new-lift : (f : ℕ → ℕ) (k d w : ℕ) → 1 ≤ k → lift (counted (noted k w f)) (row k d w 0) ≡ 0
+pub new-lift : (f : ℕ → ℕ) (k : ℕ) (n : Frame) → 1 ≤ k → lift (counted (noted k (n .weight) f)) (taken-row k n) ≡ 0
 unfolding counted out-of counts-for noted row
-new-lift f k d w h = rw (ne-eqb k 0 (λ z. omega (arith, z)), eq-eqb k k refl) (omega arith)
+new-lift f k n h = rw (ne-eqb k 0 (λ z. omega (arith, z)), eq-eqb k k refl) (omega arith)
 
 -- one of another ticket for as much as before
 pub old-lift : (f : ℕ → ℕ) (k w : ℕ) (x : Row) → x .ticket < k → lift (counted (noted k w f)) x ≡ lift (counted f) x
 unfolding counted out-of counts-for noted
-old-lift f k w x h = by-kind (eqb (x .ticket) 0) (eqb (x .kind) 0)
+old-lift f k w x h = by-kind (eqb (x .ticket) 0) (eqb (x .tail .kind) 0)
   where
     by-kind : (a b : Bool) →
         x .weight - counts-for (noted k w f) (cond a silence (cond b (frame (x .ticket)) (kept-blank (x .ticket))))
@@ -80,26 +80,26 @@ old-lifts f w a k (x ∷ xs) s =
     omega (arith, old-lift f k w x (rising-le (suc (x .ticket)) k xs (s .1)), old-lifts f w (suc (x .ticket)) k xs (s .1))
 
 -- A FRAME IS TAKEN
-module _ (r : Round) (f : Fine r) (g : ℕ → ℕ) (us : List ℕ) (s o d w : ℕ) (k : Takes r d w) (y : Account r g us s o) where
+module _ (r : Round) (f : Fine r) (g : ℕ → ℕ) (us : List ℕ) (s o : ℕ) (n : Frame) (k : Takes r n) (y : Account r g us s o) where
   -- the budget stays
-  taken-budget : y .went + sum (lift (counted (noted (r .next) w g))) (taken r d w .rows) ≤ s + y .raised
+  taken-budget : y .went + sum (lift (counted (noted (r .next) (n .weight) g))) (taken r n .rows) ≤ s + y .raised
   unfolding taken round
   taken-budget =
       omega (
         arith,
         y .budget,
-        sum-append (lift (counted (noted (r .next) w g))) (r .rows) (row (r .next) d w 0 ∷ []),
-        old-lifts g w 1 (r .next) (r .rows) (f .rising),
-        new-lift g (r .next) d w (rising-le 1 (r .next) (r .rows) (f .rising)),
+        sum-append (lift (counted (noted (r .next) (n .weight) g))) (r .rows) (taken-row (r .next) n ∷ []),
+        old-lifts g (n .weight) 1 (r .next) (r .rows) (f .rising),
+        new-lift g (r .next) n (rising-le 1 (r .next) (r .rows) (f .rising)),
       )
 
   -- the rival leaves it
-  pub take-left : Account (taken r d w) (noted (r .next) w g) us s o
+  pub take-left : Account (taken r n) (noted (r .next) (n .weight) g) us s o
   unfolding taken round
   take-left =
-      let x = row (r .next) d w 0 in
-      let z = settle (taken r d w) (taken-fine r f d w k) (y .stash) (x ∷ y .free)
-      (good-stays r (taken r d w) refl (r .slot) (r .slot) (y .stash) (omega arith) (λ v i j. taken-stays v r f d w k .2 i j) (y .state .good))
+      let x = taken-row (r .next) n in
+      let z = settle (taken r n) (taken-fine r f n k) (y .stash) (x ∷ y .free)
+      (good-stays r (taken r n) refl (r .slot) (r .slot) (y .stash) (omega arith) (λ v i j. taken-stays v r f n k .2 i j) (y .state .good))
       (λ μ. omega (arith, y .state .split .whole μ, sum-append μ (r .rows) (x ∷ []))) in
       record {
         stash = z .stash;
@@ -115,13 +115,13 @@ module _ (r : Round) (f : Fine r) (g : ℕ → ℕ) (us : List ℕ) (s o d w : �
       }
 
   -- the rival books slot v for it
-  pub take-booked : (v : ℕ) → r .slot ≤ v → v ≤ d → member v us ≡ false → Account (taken r d w) (noted (r .next) w g) (v ∷ us) s (o + w)
+  pub take-booked : (v : ℕ) → r .slot ≤ v → v ≤ n .due → member v us ≡ false → Account (taken r n) (noted (r .next) (n .weight) g) (v ∷ us) s (o + n .weight)
   unfolding taken round row
-  take-booked v a b n =
-      let x = row (r .next) d w 0 in
-      let q = book r x us v (r .slot) (y .stash) a b (k .by) n (y .idles) (y .state .good) in
-      let z = settle (taken r d w) (taken-fine r f d w k) (q .stash) (y .free)
-      (good-stays r (taken r d w) refl (r .slot) (r .slot) (q .stash) (omega arith) (λ u i j. taken-stays u r f d w k .2 i j) (q .good))
+  take-booked v a b e =
+      let x = taken-row (r .next) n in
+      let q = book r x us v (r .slot) (y .stash) a b (k .by) e (y .idles) (y .state .good) in
+      let z = settle (taken r n) (taken-fine r f n k) (q .stash) (y .free)
+      (good-stays r (taken r n) refl (r .slot) (r .slot) (q .stash) (omega arith) (λ u i j. taken-stays u r f n k .2 i j) (q .good))
       (λ μ. omega (arith, y .state .split .whole μ, q .sums μ, sum-append μ (r .rows) (x ∷ []))) in
       record {
         stash = z .stash;
@@ -212,20 +212,20 @@ all-idle-idle zero s = tt
 all-idle-idle (suc n) s = (λ b. refl, all-idle-idle n (suc s))
 
 -- THE START: a round just opened
-pub opened-account : (f : ℕ → ℕ) (l k : ℕ) → Account (opened l k) f [] 0 0
+pub opened-account : (f : ℕ → ℕ) (u : Setup) (k : ℕ) → Account (opened u k) f [] 0 0
 unfolding opened round
-opened-account f l k =
+opened-account f u k =
     record {
-      stash = all-idle (suc l);
+      stash = all-idle (suc (u .last));
       free = [];
       state = record {
-        good = all-idle-good (opened l k) (suc l) 0 (omega arith);
+        good = all-idle-good (opened u k) (suc (u .last)) 0 (omega arith);
         split = record {
-          whole = λ μ. omega (arith, ap (sum μ) (all-idle-holds (suc l)));
-          inside = λ μ. omega (arith, ap (sum μ) (all-idle-holds (suc l)));
+          whole = λ μ. omega (arith, ap (sum μ) (all-idle-holds (suc (u .last))));
+          inside = λ μ. omega (arith, ap (sum μ) (all-idle-holds (suc (u .last))));
         };
       };
-      idles = all-idle-idle (suc l) 0;
+      idles = all-idle-idle (suc (u .last)) 0;
       went = 0;
       raised = 0;
       credit = 0;

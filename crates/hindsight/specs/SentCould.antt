@@ -7,8 +7,8 @@ use Prim.Native.Nat.{ℕ, suc, _+_, _≤_, _<_}
 use native.Mathlib.Omega.{arith}
 use borrow.Author.Tests.{eq-eqb, ne-eqb}
 use Rattle.rules.specs.Limits.{most-last, most-rows}
-use Rattle.rules.specs.Rows.{All, In, Round, Row, round, row}
-use Rattle.rules.specs.Steps.{opened, sent, taken}
+use Rattle.rules.specs.Rows.{All, In, Round, Row, round, row, Setup, Frame}
+use Rattle.rules.specs.Steps.{opened, sent, taken, taken-row}
 use Rattle.rules.specs.Calls.{Call, frame, out-of}
 use Rattle.rules.specs.StepsOf.{Other, goes}
 use Rattle.rules.specs.Demands.{No-opening, member}
@@ -28,7 +28,7 @@ Offered x e = (e .ticket ≡ x .ticket) × (x .due ≤ e .offered .to)
 
 -- if it is a frame
 abbrev pub Waits-in : List Waits → Row → Type 0
-Waits-in es x = x .kind ≡ 0 → Some (Offered x) es
+Waits-in es x = x .tail .kind ≡ 0 → Some (Offered x) es
 
 -- what waits has a ticket given, was offered by now, and weighs what its ticket counts for
 abbrev pub Known : Round → (worth : ℕ → ℕ) → Waits → Type 0
@@ -60,19 +60,19 @@ unfolding offers earned
 could-untold r z ts c g es u s = let q = c g es u s in record { choice = q .choice; keeps = q .keeps; enough = q .enough }
 
 -- A FRAME IS TAKEN: one more waits
-module _ (r : Round) (d w : ℕ) where
+module _ (r : Round) (n : Frame) where
   abbrev pub newcomer : Waits
-  newcomer = record { ticket = r .next; offered = offer (r .slot) d w }
+  newcomer = record { ticket = r .next; offered = offer (r .slot) (n .due) (n .weight) }
 
   -- it stands so with the newcomer
-  pub taken-stands : (g : ℕ → ℕ) (es : List Waits) → Stands r g es → Stands (taken r d w) (noted (r .next) w g) (es ++ (newcomer ∷ []))
+  pub taken-stands : (g : ℕ → ℕ) (es : List Waits) → Stands r g es → Stands (taken r n) (noted (r .next) (n .weight) g) (es ++ (newcomer ∷ []))
   unfolding taken round row noted offer
   taken-stands g es s =
-      let x = row (r .next) d w 0 in
+      let x = taken-row (r .next) n in
       let fs = es ++ (newcomer ∷ []) in
       record {
-        each = each-more (Known (taken r d w) (noted (r .next) w g)) es newcomer
-            (each-map {Q = Known (taken r d w) (noted (r .next) w g)}
+        each = each-more (Known (taken r n) (noted (r .next) (n .weight) g)) es newcomer
+            (each-map {Q = Known (taken r n) (noted (r .next) (n .weight) g)}
             (λ e (a : Known r g e). (omega (arith, a .0), a .1, rw (ne-eqb (e .ticket) (r .next) (λ z. omega (arith, z, a .0))) (a .2))) es (s .each))
             (omega arith, omega arith, rw (eq-eqb (r .next) (r .next) refl));
         rows = all-append (Waits-in fs) (r .rows) (x ∷ [])
@@ -81,10 +81,10 @@ module _ (r : Round) (d w : ℕ) where
       }
 
   -- the newcomer's offer is the first of those to come
-  pub could-taken : (z : Round) (ts : List Told) → Could (taken r d w) z ts → Could r z (took (r .next) d w ∷ ts)
+  pub could-taken : (z : Round) (ts : List Told) → Could (taken r n) z ts → Could r z (took (r .next) (n .due) (n .weight) ∷ ts)
   unfolding taken round offers earned offer
   could-taken z ts c g es u s =
-      let q = c (noted (r .next) w g) (es ++ (newcomer ∷ [])) u (taken-stands g es s) in
+      let q = c (noted (r .next) (n .weight) g) (es ++ (newcomer ∷ [])) u (taken-stands g es s) in
       let b = before-more es newcomer (offers ts (r .slot)) in
       record {
         choice = q .choice;
@@ -95,7 +95,7 @@ module _ (r : Round) (d w : ℕ) where
 -- A SLOT IS SENT: a frame goes out that waits, or nothing that counts
 module _ (r : Round) (f : Fine r) (o : r .slot ≤ r .last) (g : ℕ → ℕ) (es : List Waits) (s : Stands r g es) where
   -- a frame that waits after it waited before, and is not what goes out
-  still-offered : (y : Row) → In y (sent r .rows) → y .kind ≡ 0 → Some (Offered y) es × Other y (goes r)
+  still-offered : (y : Row) → In y (sent r .rows) → y .tail .kind ≡ 0 → Some (Offered y) es × Other y (goes r)
   still-offered y i k =
       let v = was r f y k o i in
       let x = v .0 in (
@@ -123,14 +123,14 @@ module _ (r : Round) (f : Fine r) (o : r .slot ≤ r .last) (g : ℕ → ℕ) (e
       }
 
   -- a frame: its entry leaves those that wait
-  sent-one : (z : Round) (u : ℕ) (ts : List Told) → In (goes r) (r .rows) → goes r .kind ≡ 0 → Could (sent r) z ts →
+  sent-one : (z : Round) (u : ℕ) (ts : List Told) → In (goes r) (r .rows) → goes r .tail .kind ≡ 0 → Could (sent r) z ts →
       Gains r g es u (went (frame (goes r .ticket)) ∷ ts)
   unfolding sent round offers earned counts-for member
   sent-one z u ts i k c =
       let p = goes r in
       let t = r .slot in
       let w = g (p .ticket) in
-      let due = all-in (Row-fine r) p (r .rows) (f .fine) i .0 in
+      let due = all-in (Row-fine r) p (r .rows) (f .fine) i .due-from in
       let h = some-each {R = Goes t (p .ticket) w}
       (λ e (a : Known r g e) (b : Offered p e). (b .0, a .1, omega (arith, due, b .1), sym (a .2) ∙ ap g (b .0))) es (s .each)
       (all-in (Waits-in es) p (r .rows) (s .rows) i k) in
@@ -157,13 +157,13 @@ could-sent r z f o ts c g es u s =
     ]
 
 -- OF A ROUND BY THE MODEL: it stands so from the opening on
-pub sent-could : (l k : ℕ) (cs : List Call) → l ≤ most-last → 1 ≤ k → k ≤ most-rows → No-opening cs →
-    sent-in (tale cs (opened l k)) ≤ could-have (tale cs (opened l k))
+pub sent-could : (v : Setup) (k : ℕ) (cs : List Call) → v .last ≤ most-last → 1 ≤ k → k ≤ most-rows → No-opening cs →
+    sent-in (tale cs (opened v k)) ≤ could-have (tale cs (opened v k))
 unfolding opened round sent-in could-have Most Most-reckoned
-sent-could l k cs h i j n =
-    let r = opened l k in
+sent-could v k cs h i j n =
+    let r = opened v k in
     let ts = tale cs r in
-    let q = over-calls Could could-untold could-end (λ r z _ d w _ ts c. could-taken r d w z ts c) could-sent cs r (opened-sane l k h i j .fine) n
+    let q = over-calls Could could-untold could-end (λ r z _ n _ ts c. could-taken r n z ts c) could-sent cs r (opened-sane v k h i j .fine) n
     (λ x. 0) [] 0 (record { each = tt; rows = tt }) in
     let m : Most (offers ts 0) (most (offers ts 0) []) = most-reckoned (offers ts 0) in
     omega (arith, q .enough, m .1 (q .choice) (can-keep 0 (offers ts 0) (q .choice) [] (q .keeps)))
@@ -171,4 +171,4 @@ sent-could l k cs h i j n =
 -- ON BYTES: the replies are the model's
 pub sent-could-have : Sent-could-have
 unfolding Sent-could-have
-sent-could-have t k l cs e i j h n = rw (opened-replies t k l cs e i j h) (sent-could l k cs h i j n)
+sent-could-have t k v cs e i j h n = rw (opened-replies t k v cs e i j h) (sent-could v k cs h i j n)

@@ -105,7 +105,7 @@ settled-good r f s (hold x m ∷ es) t a g =
           arith,
           g .2,
           outside-heavy r f x (a .0) e,
-          mark-falls r f s (x .due) t (g .1) (all-in (Row-fine r) x (r .rows) (f .fine) (a .0) .1),
+          mark-falls r f s (x .due) t (g .1) (all-in (Row-fine r) x (r .rows) (f .fine) (a .0) .due-by),
         ),
         settled-good r f (suc s) es (omega arith) (a .1) (g .3),
       )

@@ -153,9 +153,16 @@ rows-good-yes r b (x ∷ xs) f k s =
 pub good : (r : Round) → Fine r → Sized r → round-good r ≡ true
 unfolding round-good
 good r f z =
-    rw (hold-every (head-tests (r .slot) (r .last) (r .next) (length (r .rows)) (r .room))
-    (le-leb (length (r .rows)) (r .room) (z .long), (le-leb (r .last) most-last (z .last), (le-leb (r .slot) (suc (r .last)) (f .time),
-    (le-leb 1 (r .next) (rising-le 1 (r .next) (r .rows) (f .rising)), (le-leb (r .next) ticket-limit (z .next), tt))))))
+    rw (hold-every (head-tests (r .slot) (r .last) (r .next) (length (r .rows)) (r .room)) (
+      le-leb (length (r .rows)) (r .room) (z .long),
+      (
+        le-leb (r .last) most-last (z .last),
+        (
+          le-leb (r .slot) (suc (r .last)) (f .time),
+          (le-leb 1 (r .next) (rising-le 1 (r .next) (r .rows) (f .rising)), (le-leb (r .next) ticket-limit (z .next), tt)),
+        ),
+      ),
+    ))
     (rows-good-yes r 0 (r .rows) (f .fine) (z .tails) (f .rising))
 
 pub same-same : (bs : List ℕ) → same bs bs ≡ true

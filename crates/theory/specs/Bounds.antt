@@ -84,6 +84,16 @@ tests-right s l n b x e =
 pub right-tests : (s l n b : ℕ) (x : Row) → Row-right s l n b x → every (row-tests s l n b x) ≡ true
 right-tests s l n b x r =
     let i = r .bounds in
-    hold-every (row-tests s l n b x)
-    (lt-ltb b (x .ticket) (r .from), (lt-ltb (x .ticket) n (r .below), (le-leb s (x .due) (i .due-from), (le-leb (x .due) l (i .due-by),
-    (le-leb 1 (x .weight) (i .some), (le-leb (x .weight) most-weight (i .most), holds-tail (x .tail) (r .tail)))))))
+    hold-every (row-tests s l n b x) (
+      lt-ltb b (x .ticket) (r .from),
+      (
+        lt-ltb (x .ticket) n (r .below),
+        (
+          le-leb s (x .due) (i .due-from),
+          (
+            le-leb (x .due) l (i .due-by),
+            (le-leb 1 (x .weight) (i .some), (le-leb (x .weight) most-weight (i .most), holds-tail (x .tail) (r .tail))),
+          ),
+        ),
+      ),
+    )

@@ -26,6 +26,7 @@ own-row bs i =
   where
     own : (a n : ℕ) → a + n ≤ row-size → field a n (take row-size bs) ≡ field a n bs
     own a n h = field-take a n row-size bs h
+
     own-tail : tail-in (take row-size bs) ≡ tail-in bs
     own-tail i = record { kind = field-take kind-at kind-bytes row-size bs (omega arith) i }
 
@@ -85,9 +86,16 @@ judged-clauses t e =
 pub head-yes : (t : List ℕ) → Clauses t → head-judged t ≡ true
 unfolding head-judged
 head-yes t c =
-    rw (hold-every (head-tests (slot-in t) (last-in t) (next-in t) (used-in t) (rows-of t))
-    (le-leb (used-in t) (rows-of t) (c .fit), (le-leb (last-in t) most-last (c .last-most), (le-leb (slot-in t) (suc (last-in t)) (c .slot-most),
-    (le-leb 1 (next-in t) (c .next-least), (le-leb (next-in t) ticket-limit (c .next-most), tt))))))
+    rw (hold-every (head-tests (slot-in t) (last-in t) (next-in t) (used-in t) (rows-of t)) (
+      le-leb (used-in t) (rows-of t) (c .fit),
+      (
+        le-leb (last-in t) most-last (c .last-most),
+        (
+          le-leb (slot-in t) (suc (last-in t)) (c .slot-most),
+          (le-leb 1 (next-in t) (c .next-least), (le-leb (next-in t) ticket-limit (c .next-most), tt)),
+        ),
+      ),
+    ))
     (taken-zeros head-zeros-at (head-size - head-zeros-at) t .1 (c .head-zeros))
 
 pub clauses-judged : (t : List ℕ) → row-at (used-in t) ≤ length t → Clauses t → judged t ≡ true

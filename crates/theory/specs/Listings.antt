@@ -8,7 +8,6 @@ use lib.Seq.{take-at, drop-at}
 use Rattle.rules.specs.Rows.{Row, Round, sorted, canonical}
 use Rattle.rules.specs.Plan.{planned, listed}
 use Rattle.rules.specs.Table.{round-in, table-refusal}
-
 use Rattle.rules.specs.Looking.{list-refusal, list-answer, list-left}
 use Rattle.rules.specs.Demands.{Listings}
 use Rattle.theory.specs.Sum.{sum-sorted, length-sum}

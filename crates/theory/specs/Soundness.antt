@@ -50,6 +50,7 @@ row-there t i j =
   where
     there : (a n : ℕ) → field a n (drop (row-at i) t) ≡ field (row-at i + a) n t
     there a n = field-drop (row-at i) a n t
+
     tail-there : tail-in (drop (row-at i) t) ≡ tail-of t i
     tail-there j = record { kind = field-drop (row-at i) kind-at kind-bytes t j }
 

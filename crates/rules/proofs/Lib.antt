@@ -3,6 +3,7 @@ pub mod Rounds
 pub mod FurtherRounds
 pub mod HindsightRounds
 pub mod Bytes
+pub mod Shapes
 pub mod Text
 pub mod LineVectors
 pub mod ReadVectors

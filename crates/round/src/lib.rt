@@ -1,4 +1,4 @@
-// A round over its lent table of bytes: three sorts of count, the head as a value, and the limits.
+// A round over its lent table: the sorts of count, the head as a value, the limits, head and rows as bytes, and the judge of a table.
 ghost use mathlib.Core.Path.{_≡_};
 
 pub mod zeros; // zeros.rt: bytes that are zero

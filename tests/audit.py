@@ -4,8 +4,8 @@
 A reference is written "`name`, `name` in path"; "and in path" asks the same names of a further file. That a file uses a name is not enough:
 the name has to stand where FORMS says that a thing is defined. "Words" in path asks only that these words stand there. PROOFS.md also writes
 "`name`, path" and "`name` (path)", and its path may be a folder, for some file in it; where it names no file, a statement (`Name`) and a field
-are of Demands.antt. Each line of AUDIT.md's tables must have a reference, and each name there a file. And of the public functions just those
-that PROOFS.md lists have a `requires`.
+are of Demands.antt. Each line of AUDIT.md's tables must have a reference, and each name there a file. Of the public functions just those
+that PROOFS.md lists have a `requires`. And a file of theory defines the main results that its head names at the end, "..: name, name."
 
   audit.py              one line for each thing that is wrong, then 'N passed, M failed'
   audit.py --self-test  tries the rules on samples
@@ -139,7 +139,23 @@ def wrong_needs(page):
             if ("requires {" in contract) != name.endswith(NEEDY):
                 yield f"{name} in crates/{crate}: a `requires` and a name in {NEEDY} go together"
             elif name.endswith(NEEDY) and f"`{name}`" not in page:
-                yield f"{name} in crates/{crate} is not among those with a `requires`"
+                yield f"{name} in crates/{crate} is not among PROOFS.md's with a `requires`"
+
+
+def main_results(text):
+    """The names that end a file's head."""
+    head = re.match(r"(?:-- .*\n)*", text).group().replace("\n-- ", " ")
+    names = re.search(r": ((?:[^\s,]+, )*[^\s,]+)\.$", head, re.M)
+    return names.group(1).split(", ") if names else []
+
+
+def wrong_heads():
+    """Main results that a file of theory names and does not define."""
+    for file in sorted((TOP / "crates" / "theory" / "specs").glob("*.antt")):
+        text = file.read_text(encoding="utf-8")
+        for name in main_results(text):
+            if not defined(name, text, file.suffix):
+                yield f"the head of {file.relative_to(TOP)} names {name}, which is not defined there"
 
 
 def report():
@@ -153,10 +169,13 @@ def report():
                 print(f"audit: {page}, {line.strip('| ')[:60]}: {what}")
             failed += bool(wrong)
             passed += not wrong
-    for what in (needs := list(wrong_needs((TOP / "docs" / "PROOFS.md").read_text(encoding="utf-8")))):
-        print(f"audit: PROOFS.md, {what}")
-    print(f"{passed + (not needs)} passed, {failed + bool(needs)} failed")
-    return failed == 0 and not needs
+    for wrong in (list(wrong_needs((TOP / "docs" / "PROOFS.md").read_text(encoding="utf-8"))), list(wrong_heads())):
+        for what in wrong:
+            print(f"audit: {what}")
+        failed += bool(wrong)
+        passed += not wrong
+    print(f"{passed} passed, {failed} failed")
+    return failed == 0
 
 
 # Whether a text defines the name `it`, by the suffix of its file.
@@ -194,14 +213,21 @@ REFERENCES = [
     (NAMED, '| a | "b c" in docs/D.md; docs/E.md |', [('"b c"', "docs/D.md", "")]),
     (NAMED_LOOSELY, "| a | `B` (docs/D.md) | `b` and `c`, docs/E.md |", [("`B`", "docs/D.md", ""), ("`b` and `c`", "docs/E.md", "")]),
 ]
+# What a head names at its end.
+HEADS = [
+    ("-- A plain line: and more.\nuse a.{b}\n", []),
+    ("-- A plain line: more: one, two?.\n\n-- three: four.\n", ["one", "two?"]),
+    ("-- Over two\n-- lines: one.\nuse a.{b}\n", ["one"]),
+]
 
 
 def self_test():
     wrong = [f"{suffix} {text!r}" for is_so, suffix, text in SAMPLES if defined("it", text, suffix) != is_so]
     wrong += [line for form, line, told in REFERENCES if form.findall(line) != told]
+    wrong += [text for text, told in HEADS if main_results(text) != told]
     for sample in wrong:
         print(f"audit: sample {sample}")
-    print(f"{len(SAMPLES) + len(REFERENCES) - len(wrong)} passed, {len(wrong)} failed")
+    print(f"{len(SAMPLES) + len(REFERENCES) + len(HEADS) - len(wrong)} passed, {len(wrong)} failed")
     return not wrong
 
 

@@ -1,2 +1,2 @@
-// What a sending does to the lent table, once the row to send is picked.
+// Each way of going, once the row is picked: what a sending writes into the table, and what went out.
 pub mod send; // send.rt: the ways of sending

@@ -1,4 +1,4 @@
-// Listing the plan: refusals 2, 3, 5 and 12.
+// The plan's rows listed into a lent list of entries, or refusal 2, 3, 5 or 12.
 ghost use mathlib.Core.Path.{_≡_};
 ghost use Prim.Native.Nat.{_+_, _≤_, _<_};
 ghost use lib.ListN.{length};

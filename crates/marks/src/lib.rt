@@ -1,4 +1,4 @@
-// The plan's total, the mark of a slot and the substitute of a row, from a sound table and the flags of its plan.
+// The plan's total, the mark of a slot, the substitute of a row, and for the latter two the segment of a slot.
 pub mod total; // total.rt: the plan's total
 pub mod near; // near.rt: where the plan is full, and its rows there by bucket
 pub mod window; // window.rt: the plan's rows due around a slot, by slot

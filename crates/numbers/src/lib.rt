@@ -1,4 +1,4 @@
-// Numbers in bytes, low byte first.
+// Numbers in bytes, low byte first: read and written.
 ghost use mathlib.Core.Path.{_≡_};
 ghost use Prim.Native.Nat.{_+_, _*_, _≤_};
 ghost use lib.ListN.{length};

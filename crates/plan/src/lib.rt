@@ -1,4 +1,4 @@
-// Which rows of a sound table are in the plan: one flag byte a row.
+// Which rows of a sound table are in the plan: one flag byte a row, by a heap where more than one is left out.
 pub mod choose; // choose.rt: the one public call
 mod keys; // keys.rt: a row's key, and how far ahead it is due
 mod one; // one.rt: one row too many, the lightest of those that crowd leaves

@@ -1,4 +1,4 @@
-// Sending a slot of a sound table: the plan, the pick, and what is written.
+// Sending a slot of a sound table: the plan, the pick, and what is written, put together.
 ghost use mathlib.Core.Path.{_≡_};
 ghost use Prim.Native.Nat.{_≤_};
 ghost use lib.ListN.{replicate};

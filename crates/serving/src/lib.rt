@@ -1,4 +1,4 @@
-// What the program does between a read and a write, all of it on lent buffers.
+// What the program does between a read and a write, on lent buffers: all complete lines answered, one read served.
 ghost use mathlib.Core.Path.{_≡_};
 ghost use Rattle.rules.specs.Lines.{fresh-table};
 

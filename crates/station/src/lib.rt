@@ -1,4 +1,4 @@
-// The C boundary: each call over numbers and the lent table, its reply packed into one number by docs/REPLIES.md.
+// The C boundary: the calls over numbers and the lent table, each reply packed into one number by docs/REPLIES.md.
 ghost use Rattle.rules.specs.Calls.{opening, taking, sending, marking, totalling};
 ghost use Rattle.rules.specs.Looking.{substitute-answer};
 ghost use Rattle.station.specs.Exports.{Exports, Exports-look};

@@ -1,4 +1,4 @@
-// stationround: text lines from standard input, a reply line for each on standard output.
+// The program stationround: text lines from standard input, a reply line for each on standard output.
 ghost use Prim.Native.Nat.{_+_, _≤_, _<_};
 ghost use mathlib.Core.Path.{_≡_};
 ghost use lib.ListN.{length, take};

@@ -1,4 +1,4 @@
--- Facts of every row of a list, rows in a list, falling weights.
+-- Facts of every row of a list, kept by sorting and by the plan's run; blanks: all-in, all-map, all-of-in, all-sorted, all-kept, Is-blank.
 use mathlib.Core.Path.{_≡_, refl, sym, ap, subst}
 use mathlib.Core.Logic.{inl, inr}
 use mathlib.Core.Bool.{Bool}

@@ -1,4 +1,4 @@
--- Tables read back.
+-- Tables read back as their rounds, and a sound round's table is accepted: read-back, length-table, table-good, next-sized.
 use mathlib.Core.Path.{_≡_, refl, ap, ap₂}
 use mathlib.Core.Logic.{inl, inr}
 use mathlib.Core.Bool.{true, _&&_, not, cond}

@@ -1,4 +1,4 @@
--- The member that goes, from the plan's rows alone.
+-- The member that goes, from the plan's rows alone: best-goes, best-row, best-is, heaviest-beats, ordinary-is, silent-best.
 use mathlib.Core.Path.{_≡_, refl, sym, ap, _∙_, subst}
 use mathlib.Core.Logic.{_⊎_, inl, inr}
 use mathlib.Core.Bool.{Bool, true, false, cond, true≢false}

@@ -1,4 +1,4 @@
--- Every round that a list of calls makes is sound; no mark sinks.
+-- Every round that calls make is sound, and no mark of a slot ahead sinks: takes, taken-fine, sent-fine, next-fine, after-stays.
 use mathlib.Core.Path.{_≡_, refl, _∙_}
 use mathlib.Core.Logic.{_≢_}
 use mathlib.Core.Bool.{Bool, true, false, _&&_, _||_, cond, true≢false}

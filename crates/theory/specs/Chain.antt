@@ -1,4 +1,4 @@
--- A leap's shifts as one chain: each link the heaviest plan row due after the last end and by the substitute's.
+-- A leap's shifts as one chain, each link the heaviest of what is left: Chain, moves, chain-is, chain-other, chain-falls, some-chain.
 use mathlib.Core.Path.{_≡_, sym, ap, _∙_, subst}
 use mathlib.Core.Logic.{inl, inr, _≢_}
 use mathlib.Core.Bool.{true, false}

@@ -1,4 +1,4 @@
--- A row changed or gone by its ticket; rows still due; rows in the plan and outside.
+-- A row changed or gone by its ticket, and rows still due: changed-sum, without-sum, rising-same, rising-changed, still-box, row-outside.
 use mathlib.Core.Path.{_≡_, refl, sym, ap, _∙_}
 use mathlib.Core.Logic.{_⊎_, inl, inr}
 use mathlib.Core.Bool.{Bool, true, false, true≢false}

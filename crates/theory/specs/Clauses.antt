@@ -1,4 +1,4 @@
--- A SOUND TABLE'S CLAUSES, in the order of a judge: a table of a good length is accepted exactly where they hold.
+-- A sound table's clauses in the judge's order; accepted exactly where they hold: Clauses, clauses-accepted, accepted-clauses.
 use mathlib.Core.Path.{_≡_, refl, sym, ap, _∙_}
 use mathlib.Core.Logic.{inl, inr}
 use mathlib.Core.Bool.{true, _&&_, not}

@@ -1,4 +1,4 @@
--- An input cut after each 0A: its complete lines and the line begun, of inputs joined and behind bytes held.
+-- An input cut after each 0A, inputs joined, bytes held: Unended, complete-append, begun-append, lines-append, held-complete, held-begun.
 use mathlib.Core.Path.{_≡_, refl, ap, _∙_}
 use mathlib.Core.Logic.{inl, inr}
 use mathlib.Core.List.{List, [], _∷_, _++_, append-nil}

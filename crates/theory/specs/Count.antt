@@ -1,4 +1,4 @@
--- The backward sweep over counts of rows by due slot: where it ends, and how many rows it finds too many.
+-- The backward sweep over counts by bucket finds the far slots and how many rows stay out: Sweep, sweep-near, sweep-none, sweep-out.
 use mathlib.Core.Path.{_≡_, refl, sym, ap, _∙_}
 use mathlib.Core.Logic.{_⊎_, inl, inr}
 use mathlib.Core.Bool.{true}

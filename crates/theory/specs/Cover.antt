@@ -1,4 +1,4 @@
--- The ways cover every round: what each asks for is always there to be found.
+-- The four ways cover every round, since what each asks for can be found: some-sweep, some-lead, some-segment, some-sends.
 use mathlib.Core.Path.{_≡_, sym, ap, _∙_, subst}
 use mathlib.Core.Logic.{inl, inr}
 use mathlib.Core.Bool.{Bool, true, false}

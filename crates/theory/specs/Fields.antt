@@ -1,4 +1,4 @@
--- Numbers and zeros in bytes: a field's bytes are its number's, a part's fields are the whole's, zeros by index, a word that is 0.
+-- Numbers and zeros in bytes: low-field, field-drop, field-take, zeros-bytes, taken-zeros, field-zeros, word-zero.
 use mathlib.Core.Path.{_≡_, refl, sym, ap, ap₂, _∙_}
 use mathlib.Core.Logic.{inl, inr}
 use mathlib.Core.Bool.{true}

@@ -1,4 +1,4 @@
--- The plan's rows as one flag a row, in bytes: 1 for a row of the plan, 0 for another.
+-- The plan's rows as one flag byte a row: Chosen, with-flag, chosen-rows, all-chosen, raised-at.
 use mathlib.Core.Path.{_≡_, refl, ap}
 use mathlib.Core.Bool.{Bool, true, false}
 use mathlib.Core.List.{List, [], _∷_}

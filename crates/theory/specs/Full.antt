@@ -1,4 +1,4 @@
--- Sound rounds, their plan and what stays outside: the plan fills every slot.
+-- Sound rounds: the plan is feasible, fills every slot, and has an edge at each weight: Fine, plan-feas, plan-full, plan-edge.
 use mathlib.Core.Path.{_≡_, refl}
 use mathlib.Core.Logic.{inl, inr}
 use mathlib.Core.Bool.{true}

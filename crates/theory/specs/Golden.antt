@@ -1,4 +1,4 @@
--- The golden ratio in whole numbers: what `beats-golden` tests, and the same order by one score of two Fibonacci numbers.
+-- The golden ratio in whole numbers, and the same order by one score of two Fibonacci numbers: beats-golden?, golden-score, golden.
 use mathlib.Core.Path.{_≡_, refl, sym, ap, _∙_}
 use mathlib.Core.Logic.{_⊎_, inl, inr}
 use mathlib.Core.Bool.{true, false, _||_, not}

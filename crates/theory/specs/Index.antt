@@ -1,4 +1,4 @@
--- The same laws by index and key, as loops over a table's rows have them.
+-- The same laws by index and key, as loops over a table's rows have them: chosen-next, not-heavier-at, first-at, later-at, later-none-at.
 use mathlib.Core.Path.{_≡_, refl, sym, ap, _∙_, subst}
 use mathlib.Core.Logic.{inl, inr}
 use mathlib.Core.Bool.{Bool, true, false, cond, false≢true}

@@ -1,4 +1,4 @@
--- Soundness byte by byte, in the order in which a judge reads a table: head, each row on its own bytes, unused rows.
+-- Soundness byte by byte, in the order in which a judge reads a table: head-judged, row-judged, rows-judged, judged.
 use mathlib.Core.Bool.{Bool, true, _&&_}
 use mathlib.Core.List.{List, [], _∷_}
 use Prim.Native.Nat.{ℕ, zero, suc, _+_, _*_, _-_}

@@ -1,4 +1,4 @@
--- THE JUDGE IS RIGHT: of a good length, a table is refused by 3 exactly where the judge turns it down: judged-refusal.
+-- Of a good length, a table is refused by 3 exactly where the judge turns it down: judged-clauses, clauses-judged, judged-refusal.
 use mathlib.Core.Path.{_≡_, refl, sym, _∙_}
 use mathlib.Core.Logic.{inl, inr}
 use mathlib.Core.Bool.{true, cond, true≢false}

@@ -1,4 +1,4 @@
--- One number for the order `heavier`, and one for the pick: keys of rows in ticket order.
+-- One number for the order heavier, and one for its opposite: key, heavier-key, key-weight, key-due, key-index, rows-key, rows-light-key.
 use mathlib.Core.Path.{_≡_, refl, sym, ap, _∙_}
 use mathlib.Core.Logic.{inl, inr}
 use mathlib.Core.List.{List, [], _∷_}

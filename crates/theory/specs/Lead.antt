@@ -1,4 +1,4 @@
--- The pick as a pass from the far slots back: the row that leads among those due from a slot on.
+-- The pick as a pass from the far slots back: Leads, lead-far, lead-takes, lead-keeps, segment-champion, lead-best.
 use mathlib.Core.Path.{_≡_}
 use mathlib.Core.Logic.{_⊎_, inl, inr}
 use mathlib.Core.Bool.{false}

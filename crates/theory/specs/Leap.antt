@@ -1,4 +1,4 @@
--- A leap: its shifts, its substitute, and that the rows after fill as far.
+-- A leap leaves rows that fill as far, shift by shift and by each kind of substitute: shift, shift-kept, outside-heavy, leapt-left.
 use mathlib.Core.Path.{_≡_, refl, sym, ap}
 use mathlib.Core.Logic.{_⊎_, inl, inr}
 use mathlib.Core.Bool.{false}

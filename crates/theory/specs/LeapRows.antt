@@ -1,4 +1,4 @@
--- A leap row by row, with a row or a blank for substitute.
+-- A leap row by row, with a row or a blank for substitute: leap-with-row, leap-with-blank, leap-of.
 use mathlib.Core.Path.{_≡_, refl, sym, ap, subst, _∙_}
 use mathlib.Core.Logic.{_⊎_, inl, inr, _≢_}
 use mathlib.Core.Bool.{false}

@@ -1,4 +1,4 @@
--- A leap from the plan's rows alone: what it leaves, by each kind of substitute.
+-- What a leap leaves, by each kind of substitute, from the plan's rows alone: final-row, moves-each, leapt-row, leapt-blank.
 use mathlib.Core.Path.{_≡_, refl, sym, ap, ap₂, _∙_}
 use mathlib.Core.Logic.{inl, inr, _≢_}
 use mathlib.Core.Bool.{false, cond}

@@ -1,40 +1,39 @@
+-- tests and sums
 pub mod Tests
 pub mod Sum
 pub mod All
 pub mod Order
-pub mod Feas
-pub mod Bounds
-pub mod Full
-pub mod Marks
-pub mod Tights
+pub mod Top
 pub mod Change
-pub mod Send
-pub mod Leap
-pub mod Calls
-pub mod Totals
+-- feasible sets
+pub mod Feas
 pub mod Times
-pub mod Layout
-pub mod Back
-pub mod Border
+-- rows within bounds
+pub mod Bounds
+-- the plan
+pub mod Full
 pub mod Same
-pub mod Sane
-pub mod Listed
-pub mod Replies
-pub mod Third
-pub mod Golden
-pub mod Score
+pub mod Border
 pub mod Unique
 pub mod Select
-pub mod Slack
-pub mod Keys
 pub mod Members
-pub mod Top
+pub mod Totals
+pub mod Listed
+-- marks
+pub mod Marks
+pub mod Tights
+pub mod Reach
+pub mod Slack
+-- substitutes and the pick
+pub mod Golden
+pub mod Score
 pub mod Substitute
 pub mod Best
-pub mod Opened
 pub mod Picks
-pub mod Reach
 pub mod PlanM
+-- steps
+pub mod Send
+pub mod Leap
 pub mod Chain
 pub mod Leaping
 pub mod Close
@@ -44,26 +43,29 @@ pub mod LeapRows
 pub mod Steps
 pub mod StepsOnly
 pub mod RowByRow
-pub mod Near
-pub mod Count
-pub mod Segments
-pub mod Index
-pub mod Lead
-pub mod Write
-pub mod Sender
-pub mod Whole
-pub mod Cover
-pub mod Judge
+-- tables
 pub mod Fields
+pub mod Layout
+pub mod Back
 pub mod Clauses
+pub mod Judge
 pub mod Judged
 pub mod Soundness
+pub mod Write
+-- calls
+pub mod Calls
+pub mod Sane
+pub mod Stays
 pub mod Checks
 pub mod Refusals
-pub mod Stays
 pub mod Outcomes
 pub mod Unchanged
 pub mod Listings
+pub mod Replies
+pub mod Third
+pub mod Opened
+pub mod PlayedOut
+-- lines
 pub mod Digits
 pub mod Lines
 pub mod Reader
@@ -72,5 +74,14 @@ pub mod Complete
 pub mod Printing
 pub mod Served
 pub mod Reads
+-- keys and certificates, for code
+pub mod Keys
 pub mod Flags
-pub mod PlayedOut
+pub mod Index
+pub mod Near
+pub mod Count
+pub mod Segments
+pub mod Lead
+pub mod Whole
+pub mod Cover
+pub mod Sender

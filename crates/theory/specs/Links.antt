@@ -1,4 +1,4 @@
--- A leap's chain with the slot that each h goes to, and what the shifts make of a row.
+-- A leap's chain with the slot that each h goes to, and what its shifts make of a row: links, links-chain, links-distinct, final?.
 use mathlib.Core.Path.{_≡_, refl, sym, ap}
 use mathlib.Core.Logic.{_⊎_, inl, inr, _≢_}
 use mathlib.Core.List.{List, [], _∷_}

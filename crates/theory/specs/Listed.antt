@@ -1,4 +1,4 @@
--- The listed plan: each row stands strictly before the next, and the i-th is due in slot current + i or later.
+-- The listed plan: each row strictly before the next, the i-th due in slot current + i or later: listed-strictly, listed-fits.
 use mathlib.Core.Path.{_≡_, subst}
 use mathlib.Core.Logic.{inl, inr, _≢_}
 use mathlib.Core.Bool.{true, _&&_, not}

@@ -1,4 +1,4 @@
--- A LISTING ACCEPTED: the count, the entries of the plan's rows in canonical order, the old entries behind them: listings.
+-- A LISTING ACCEPTED: its count, the plan's entries in canonical order, the old entries behind them: listings.
 use mathlib.Core.Path.{_≡_, refl, ap, _∙_}
 use mathlib.Core.List.{List, map, _∷_, []}
 use Prim.Native.Nat.{ℕ, _≤_}

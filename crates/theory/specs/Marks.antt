@@ -1,4 +1,4 @@
--- Tight-in slots, segments and marks, without tests; a mark is w or more where rows of weight w fill the slots up to a later one.
+-- Tight slots, segments and marks; no mark sinks where the rows after fill as far: next, start, box, mark-above, marked, mark-stays.
 use mathlib.Core.Path.{_≡_, refl}
 use mathlib.Core.Logic.{_⊎_, inl, inr}
 use mathlib.Core.Bool.{true, false}

@@ -1,4 +1,4 @@
--- The plan's members by the rows that a computation has: each is a blank or one of these.
+-- The plan's members by the rows that a computation has, each a blank or one of these: Rows, planned-rows, found-member, member?.
 use mathlib.Core.Path.{_≡_, refl, sym, ap, _∙_, subst}
 use mathlib.Core.Logic.{_⊎_, inl, inr}
 use mathlib.Core.Bool.{Bool, false, true≢false}

@@ -1,4 +1,4 @@
--- By counts alone: a slot from which on every row is in the plan and every mark is 0; before it tight slots are those without slack.
+-- By counts alone: the far slots, where every row is in the plan and marks are 0, and the near ones: Near, near-next, far-mark, far-sent.
 use mathlib.Core.Path.{_≡_, refl, sym, ap, _∙_, subst}
 use mathlib.Core.Logic.{_⊎_, inl, inr}
 use mathlib.Core.Bool.{true, false, true≢false}

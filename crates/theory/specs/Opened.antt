@@ -1,4 +1,4 @@
--- P10, for every last slot and room: a round just opened sends silence, in an ordinary step.
+-- P10: a round just opened, whatever its last slot and room, sends silence in an ordinary step: opened-silent.
 use mathlib.Core.Path.{refl}
 use native.Mathlib.Omega.{arith}
 use Rattle.rules.specs.Rows.{blank, round}

@@ -1,4 +1,4 @@
--- What a call owes, from its refusal number and the bytes it wrote.
+-- What a call owes, from its refusal number and the bytes it wrote: says-refused, says-accepted, by-table, by-round, mark-said, total-said.
 use mathlib.Core.Path.{_≡_, refl, sym, ap, _∙_}
 use mathlib.Core.Bool.{true, false}
 use mathlib.Core.List.{List}

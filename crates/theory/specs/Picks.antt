@@ -1,4 +1,4 @@
--- Marks, substitutes, the pick and the next h as PlanM states them: each is found, and none is better.
+-- Marks, substitutes, pick and next h as PlanM states them: mark-attained, first-substitute, later-substitute, best-picked, next-shifted.
 use mathlib.Core.Path.{_≡_, refl, sym, _∙_, subst}
 use mathlib.Core.Logic.{inl, inr}
 use mathlib.Core.Bool.{false, _&&_, _||_}

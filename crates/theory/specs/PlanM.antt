@@ -1,4 +1,4 @@
--- The plan of every sound round is algorithm PlanM's, reachable or not.
+-- The plan of every sound round, reachable or not, is algorithm PlanM's: planm, plans.
 use mathlib.Core.Path.{_≡_}
 use mathlib.Core.Bool.{true}
 use Prim.Native.Nat.{suc, _≤_}

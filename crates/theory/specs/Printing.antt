@@ -1,4 +1,4 @@
--- What lines print and call: lines joined, a broken line, one too long, one begun at the end of the input.
+-- What lines print and call, joined, too long, or begun at the end: prints-on, calls-on, overlong-prints, overlong-calls, end-prints.
 use mathlib.Core.Path.{_≡_, refl, sym, ap, _∙_}
 use mathlib.Core.Logic.{inl, inr}
 use mathlib.Core.Bool.{_||_, not, cond}

@@ -1,4 +1,4 @@
--- How far a mark reaches: from a slot back to the current one, and on to the next tight one.
+-- Marks fall along the slots, and one mark reaches to the next tight slot: mark-falls, reach, member-mark, first-mark.
 use mathlib.Core.Path.{_≡_, refl}
 use Prim.Native.Nat.{ℕ, zero, suc, _≤_}
 use native.Mathlib.Omega.{arith}

@@ -1,4 +1,4 @@
--- STATIONROUND READ BY READ: however an input is cut, what is written for the reads is what the whole prints: printed-by-reads.
+-- STATIONROUND READ BY READ, however its input is cut: reads-print, reads-call, reads-begin, printed-by-reads.
 use mathlib.Core.Path.{_≡_, refl, sym, ap, _∙_}
 use mathlib.Core.Logic.{inl, inr}
 use mathlib.Core.Bool.{false, _&&_, _||_, not, cond, true≢false}

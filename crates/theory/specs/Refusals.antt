@@ -1,4 +1,4 @@
--- EACH NUMBER UNDER ITS CONDITION, in the substitute and the listing too: refusals.
+-- EACH NUMBER UNDER ITS CONDITION, in the substitute and the listing too: substitute-is-given, list-is-given, refusals.
 use mathlib.Core.Path.{_≡_, refl, sym, ap, _∙_}
 use mathlib.Core.Logic.{inl, inr}
 use mathlib.Core.Bool.{Bool, true, false, not, cond, true≢false}

@@ -1,4 +1,4 @@
--- Replies to a list of calls, one by one, and what an not-refused mark, total or taking says of the round.
+-- Replies to a list of calls, one by one, and what each says of the round: replies-after, mark-answered, total-answered, taking-answered.
 use mathlib.Core.Path.{_≡_, refl, sym, ap, _∙_}
 use mathlib.Core.Logic.{inl, inr}
 use mathlib.Core.Bool.{Bool, true, false, cond}

@@ -1,4 +1,4 @@
--- The slot over, read row by row: what became of each, where each came from, and that the order by tickets is kept.
+-- The slot over read row by row, and that the order by tickets is kept: each-row-of, nothing-else, order-kept.
 use mathlib.Core.Path.{_≡_, refl, sym, ap, subst}
 use mathlib.Core.Logic.{_⊎_, inl, inr}
 use mathlib.Core.List.{List, [], _∷_}

@@ -1,4 +1,4 @@
--- Lists with the same rows in any order, told by sums; sorting forgets the order; the plan's rows are the waiting rows in the plan.
+-- Lists with the same rows in any order; the plan's rows are the waiting rows in the plan: Same, sorted-same, planned-same, listed-planned.
 use mathlib.Core.Path.{_≡_, refl, sym, ap, ap₂, subst}
 use mathlib.Core.Logic.{_⊎_, inl, inr, _≢_}
 use mathlib.Core.Bool.{Bool, true, false, cond, false≢true}

@@ -1,4 +1,4 @@
--- Sound rounds and their tables: calls on a sound round's table refuse, answer and leave what the model says.
+-- On a sound round's table a call refuses, answers and leaves what the model says: sound, next-sane, answer-is, left-is, run-is.
 use mathlib.Core.Path.{_≡_, refl, ap₂}
 use mathlib.Core.Bool.{Bool, true, false, _&&_, not, cond, true≢false, false≢true}
 use mathlib.Core.List.{List, [], _∷_}

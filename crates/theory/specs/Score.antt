@@ -1,4 +1,4 @@
--- Which member goes, by one score: weight × F(38) + weight of the substitute × F(39), among equals the canonical first.
+-- Which member goes, by weight × F(38) + weight of the substitute × F(39), then canonically: score-of, plan-bounded, sends-by-score.
 use mathlib.Core.Path.{_≡_, ap₂, _∙_}
 use mathlib.Core.Logic.{inl, inr}
 use mathlib.Core.Bool.{Bool, _&&_, _||_, not}

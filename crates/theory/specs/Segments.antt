@@ -1,4 +1,4 @@
--- Segments before the far slots, by counts of the plan's rows: one substitute, one mark, one row to compare each.
+-- Segments of near slots, by counts of the plan's rows: Segment, segment-made, segment-end, segment-begin, segment-mark, segment-beats.
 use mathlib.Core.Path.{_≡_, sym, ap, _∙_}
 use mathlib.Core.Logic.{_⊎_, inl, inr, _≢_}
 use mathlib.Core.Bool.{false}

@@ -1,4 +1,4 @@
--- Full selections of rows and blanks, certified by their next tight slots, have the plan's rows.
+-- The plan is a full selection of rows and blanks, with a certificate by the next tight slots: Selection, plan-selection.
 use mathlib.Core.Path.{_≡_, refl, sym, ap, _∙_, subst}
 use mathlib.Core.Logic.{inl, inr, _≢_}
 use mathlib.Core.Bool.{Bool, true, false, _||_}

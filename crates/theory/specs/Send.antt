@@ -1,4 +1,4 @@
--- Sending: what leaves and what is shifted, and that the rows after fill as far.
+-- An ordinary step leaves rows that fill as far; members between two tight slots: best-in, between-count, next-by, ordinary-fills.
 use mathlib.Core.Path.{_≡_, refl, sym, _∙_}
 use mathlib.Core.Logic.{_⊎_, inl, inr}
 use mathlib.Core.Bool.{true, false, _&&_, not, cond, true≢false}

@@ -1,4 +1,4 @@
--- Sending on a sound table: what is answered and every byte left, from what the laws above find.
+-- Sending on a sound table, what is answered and every byte left: send-accepted, answer-sent, left-sent, table-parts.
 use mathlib.Core.Path.{_≡_, sym}
 use mathlib.Core.Bool.{cond}
 use mathlib.Core.List.{List, _++_}

@@ -1,4 +1,4 @@
--- AFTER ONE READ: what is held is an unended line begun, no longer than a command's line.
+-- AFTER ONE READ what is held is an unended line begun, no longer than a command's line: served-unended, served-short.
 use mathlib.Core.Path.{_≡_}
 use mathlib.Core.Bool.{Bool, true, false, _||_, true≢false}
 use mathlib.Core.List.{List, [], _∷_, _++_}

@@ -1,4 +1,4 @@
--- Blanks as suffix minima: tight slots and marks from the plan's rows alone.
+-- Tight slots and marks from the plan's rows alone, by least slack: slack-is, idlers-is, tight-least, least-tight, mark-idle, mark-rows.
 use mathlib.Core.Path.{_≡_, refl, sym, ap, _∙_}
 use mathlib.Core.Logic.{_⊎_, inl, inr}
 use mathlib.Core.Bool.{Bool, true, false, cond, true≢false}

@@ -1,4 +1,4 @@
--- Rows closed up, each changed on its own, are the slot over row by row.
+-- Rows closed up, each changed on its own, are the slot over row by row: closed-over, same-over, changed-over.
 use mathlib.Core.Path.{_≡_, refl, sym, ap, subst, _∙_}
 use mathlib.Core.Logic.{_⊎_, inl, inr, _≢_}
 use mathlib.Core.List.{List, [], _∷_}

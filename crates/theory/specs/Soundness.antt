@@ -1,4 +1,4 @@
--- SOUND IS DOCUMENT 01'S SOUND: a table is accepted exactly where its length is good and each clause holds: soundness.
+-- SOUND IS DOCUMENT 01'S SOUND, clause by clause and by its length: sound-accepted, accepted-sound, soundness.
 use mathlib.Core.Path.{_≡_, sym, ap, _∙_}
 use mathlib.Core.Logic.{inl, inr}
 use mathlib.Core.Bool.{true, false, true≢false}

@@ -1,4 +1,4 @@
--- SOUND TABLES: tables read back, accepted calls leave sound ones of the same length, opening reads the length alone.
+-- SOUND TABLES read back, stay sound and as long, and opening reads the length alone: tables-back, stays-sound, opening-alone.
 use mathlib.Core.Path.{_≡_, refl, sym, ap, _∙_}
 use mathlib.Core.Logic.{inl, inr}
 use mathlib.Core.Bool.{Bool, true, false, cond}

@@ -1,4 +1,4 @@
--- WHAT A SENDING LEAVES of every sound round with a slot ahead, and what it answers: steps.
+-- WHAT A SENDING LEAVES of every sound round with a slot ahead, and what it answers: makes, answers, steps.
 use mathlib.Core.Path.{_≡_, refl, sym, subst}
 use mathlib.Core.Logic.{_⊎_, inl, inr}
 use mathlib.Core.List.{List}

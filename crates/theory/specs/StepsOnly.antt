@@ -1,4 +1,4 @@
--- The statement leaves nothing open: a round that a sending may make is the one that it makes.
+-- What a sending may make, by its statement, is what it makes, so the statement leaves nothing open: leap-one, makes-only, steps-only.
 use mathlib.Core.Path.{_≡_, refl, sym, ap, ap₂, subst, _∙_}
 use mathlib.Core.Logic.{inl, inr}
 use mathlib.Core.List.{List, [], _∷_}

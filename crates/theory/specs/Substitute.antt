@@ -1,4 +1,4 @@
--- Substitutes from the plan's rows alone.
+-- Substitutes and scores from the plan's rows alone: first-weight, first-row, later-row, later-none, later?, score-first, score-sub.
 use mathlib.Core.Path.{_≡_, sym, ap, _∙_, subst}
 use mathlib.Core.Logic.{_⊎_, inl, inr}
 use mathlib.Core.Bool.{true, false, true≢false}

@@ -1,4 +1,4 @@
--- THE THIRD DEMAND, proved: demand-three.
+-- THE THIRD DEMAND, by the rounds that lists of calls make: opened-sane, at-sane, run-at, point-holds, demand-three.
 use mathlib.Core.Path.{_≡_, refl, _∙_}
 use mathlib.Core.Bool.{true}
 use mathlib.Core.List.{List, [], _∷_, _++_}

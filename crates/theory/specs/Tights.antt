@@ -1,4 +1,4 @@
--- Tight slots and segments as PlanM states them: the first tight slot at or after one, and where a slot's segment starts.
+-- The first tight slot at or after one, and where a slot's segment starts, as PlanM states them: tight-next, segment-from-tight.
 use mathlib.Core.Path.{_≡_, sym, ap, _∙_}
 use mathlib.Core.Logic.{_⊎_, inl, inr}
 use Prim.Native.Nat.{ℕ, suc, _-_, _≤_, _<_}

@@ -1,4 +1,4 @@
--- Going out in time: slots for a feasible set, and a set with slots is feasible; the plan is best.
+-- Going out in time: a set with slots is feasible, a feasible one has slots, one rank each: timed-feas, rank-due, slots-of, in-slots.
 use mathlib.Core.Path.{_≡_, refl, subst}
 use mathlib.Core.Logic.{_⊎_, inl, inr, _≢_}
 use mathlib.Core.Bool.{Bool, true, false, _&&_, _||_, not, true≢false, false≢true}

@@ -1,4 +1,4 @@
--- Passes over a list that keep the best row so far: what they find.
+-- What passes over a list find that keep the best row so far: Top, top-pick, lightest, heaviest, outside-top.
 use mathlib.Core.Path.{_≡_, refl, sym, subst}
 use mathlib.Core.Logic.{_⊎_, inl, inr}
 use mathlib.Core.Bool.{Bool, true, false, _&&_, not, cond, false≢true}

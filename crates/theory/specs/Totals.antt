@@ -1,4 +1,4 @@
--- Totals as sums of counts over weights; the best set; the newcomer.
+-- The plan is a best set, and a newcomer adds what its weight is above the mark: sum-to, best-weight, newcomer.
 use mathlib.Core.Path.{_≡_, refl, sym, _∙_}
 use mathlib.Core.Logic.{_⊎_, inl, inr, _≢_}
 use mathlib.Core.Bool.{cond}

@@ -1,4 +1,4 @@
--- A selection of the rows is the plan's exactly if it is feasible and each row left out has a filled stretch of heavier members past its due slot.
+-- Feasible flags by which each row left out has heavier members past its due slot are the plan's: certified-plan, plan-certified.
 use mathlib.Core.Path.{_≡_, refl, sym, ap, ap₂, _∙_, subst}
 use mathlib.Core.Logic.{_⊎_, inl, inr, _≢_}
 use mathlib.Core.Bool.{Bool, true, false, _||_, cond, true≢false}

@@ -1,4 +1,4 @@
--- A sender's four ways, each from what passes over rows, counts and segments find.
+-- A sending's four ways, from what passes over rows, counts and segments find: Sends, sends-first, sends-far, sends-kept, sends-row.
 use mathlib.Core.Path.{_≡_, refl, sym, ap, ap₂, _∙_, subst}
 use mathlib.Core.Bool.{Bool, true, false, cond}
 use mathlib.Core.List.{List, [], _∷_}

@@ -1,4 +1,4 @@
--- Writing back: some bytes of a row, of the head, and zeros behind.
+-- Some bytes of a row, of the head, or zeros written into a table: shift-bytes, weight-bytes, kept-bytes, head-sets, zeros-join.
 use mathlib.Core.Path.{_≡_, refl, sym, ap, ap₂, _∙_}
 use mathlib.Core.List.{List, [], _∷_, _++_, append-assoc}
 use Prim.Native.Nat.{ℕ, suc, _+_, _*_, _-_, _≤_, _<_}

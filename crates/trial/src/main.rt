@@ -1,4 +1,4 @@
-// trial: makes the calls that neither C nor stationround reaches, as requests on standard input ask. tests/trial.md has both formats.
+// A program for the tests: makes the calls that neither C nor stationround reaches, as requests ask (tests/trial.md).
 ghost use mathlib.Core.Path.{_≡_};
 ghost use Prim.Native.Nat.{_≤_};
 ghost use lib.ListN.{length};

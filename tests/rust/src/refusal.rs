@@ -2,7 +2,7 @@
 
 #[derive(Clone, Copy, PartialEq, Eq, Debug)]
 pub enum Refusal {
-    /// A text line breaks the rules, or could not be written by them.
+    /// The text line breaks the rules, or could not be written by them.
     Line = 1,
     /// The table's length is not 16 + 24 × n for n from 1 to 1,024.
     Length = 2,
@@ -14,7 +14,7 @@ pub enum Refusal {
     Over = 5,
     /// The weight is 0 or above 16,777,216.
     Weight = 6,
-    /// The slot is before the current or after the last.
+    /// The due slot, or the slot whose mark is asked, is before the current or after the last.
     Slot = 7,
     /// The next ticket is 16,777,216.
     Tickets = 8,

@@ -9,7 +9,7 @@ use Rattle.rules.specs.Plan.{due-by, fits-from, feasible, kept, blanks-f
 use Rattle.rules.specs.Steps.{opened, taken, changed, without, heaviest-between, shifted, replaced, leapt, still-due, is-ordinary, sent}
 use Rattle.rules.specs.Table.{low, value, field, row-bytes, rows-bytes, table, rows-in, rows-of, round-in, length-good, rows-good, round-good, same, table-refusal}
 use Rattle.rules.specs.Calls.{opening, taking, sending, marking, totalling, silence, frame, kept-blank, ordinary, leap, refused, done, ticket, step, amount, blank-due, number-of, first, open-refusal, take-refusal, send-refusal, mark-refusal, round-refusal, out-of, says, leaves, table-first, refusal, answer, left}
-use Rattle.rules.specs.Looking.{with-ticket, stand-in, substitute-answer, list-refusal, list-answer, list-left}
+use Rattle.rules.specs.Looking.{with-ticket, stand-in, substitute-answer, list-refusal, list-answer, list-left, shows}
 use Rattle.rules.proofs.Played.{waits, keeps, old, turn, listing, substituting, lists, refuses, Hand, found, played}
 
 -- what waits in P4 before its sending
@@ -246,5 +246,5 @@ unfolding row blank round slots-left heavier canonical into sorted rows-only due
     beats-golden golden-more sends-before best-from best listed opened taken changed without heaviest-between shifted replaced leapt still-due
     is-ordinary sent low value field row-bytes rows-bytes table rows-in rows-of round-in length-good rows-good round-good same table-refusal first
     open-refusal take-refusal send-refusal mark-refusal round-refusal out-of says leaves table-first refusal answer left with-ticket stand-in
-    substitute-answer list-refusal list-answer list-left number-of
+    substitute-answer list-refusal list-answer list-left shows number-of
 further-rounds-by-hand = refl

@@ -10,6 +10,7 @@ use Rattle.rules.specs.Rows.{Row, In}
 use Rattle.rules.specs.Plan.{plan, in-plan, listed}
 use Rattle.rules.specs.Table.{field, rows-of, round-in}
 use Rattle.rules.specs.Calls.{Call, opening, taking, sending, marking, totalling}
+use Rattle.rules.specs.Looking.{View, the-plan}
 use Rattle.rules.specs.Lines.{Command, text, stands}
 
 infix 10 _⟺_
@@ -113,8 +114,8 @@ refusal-given totalling t = if-sound t accepted
 unfoldable pub substitute-given : (ticket : ℕ) → List ℕ → ℕ → Type 0
 substitute-given k t = if-sound t (when 10 (No-row k t) (when 11 (Not-planned k t) accepted))
 
-unfoldable pub list-given : (room : ℕ) → List ℕ → ℕ → Type 0
-list-given n t = if-sound t (when 12 (n < length (listed (round-in t))) accepted)
+unfoldable pub list-given : View → (room : ℕ) → List ℕ → ℕ → Type 0
+list-given the-plan n t = if-sound t (when 12 (n < length (listed (round-in t))) accepted)
 
 unfoldable pub read-given : (line : List ℕ) → ℕ → Type 0
 read-given line = when 1 (No-command line) accepted

@@ -57,13 +57,13 @@ unfolding List-refused-unchanged list-refusal list-answer list-left shows
 refused-shape h E = h Row E (shows the-plan)
 
 pub listings-shape : Plan-listings ≡ (
-  (E : Type 0) (entry : Row → E) (t : List ℕ) (es : List E) → plan-refusal t (length es) ≡ 0 →
-  let ps = planned (round-in t) in
-  let n = length ps in
-  (plan-answer t (length es) ≡ amount n)
-  × (n ≤ length es)
-  × (take n (plan-left entry t es) ≡ map entry (sorted canonical ps))
-  × (drop n (plan-left entry t es) ≡ drop n es)
-)
+    (E : Type 0) (entry : Row → E) (t : List ℕ) (es : List E) → plan-refusal t (length es) ≡ 0 →
+    let ps = planned (round-in t) in
+    let n = length ps in
+    (plan-answer t (length es) ≡ amount n)
+    × (n ≤ length es)
+    × (take n (plan-left entry t es) ≡ map entry (sorted canonical ps))
+    × (drop n (plan-left entry t es) ≡ drop n es)
+    )
 unfolding Plan-listings list-refusal list-answer list-left shows
 listings-shape = refl

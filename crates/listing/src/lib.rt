@@ -1,16 +1,14 @@
-// The plan's rows listed into a lent list of entries, or refusal 2, 3, 5 or 12.
+// Listings of a view's rows into a lent list of entries, or refusal 2, 3, 5 or 12.
 ghost use mathlib.Core.Path.{_≡_};
-ghost use Prim.Native.Nat.{_+_, _≤_, _<_};
-ghost use lib.ListN.{length};
-ghost use Rattle.rules.specs.Limits.{row-size, most-rows};
-ghost use Rattle.rules.specs.Table.{table-refusal};
-ghost use Rattle.rules.specs.Conditions.{row-at};
-ghost use Rattle.theory.specs.Soundness.{row-in};
+ghost use Rattle.rules.specs.Table.{round-in, table-refusal};
+ghost use Rattle.rules.specs.Looking.{shows};
 ghost use Rattle.round.specs.Head.{Head-of};
-ghost use Rattle.listing.specs.Entries.{entry, of-listed, Lists};
-ghost use Rattle.listing.specs.Listing.{Listing-says, Nothing-listed};
+ghost use Rattle.tally.specs.Rows.{Ready};
+ghost use Rattle.listing.specs.Entries.{of-view, of-listed, Lists};
+ghost use Rattle.listing.specs.Listing.{Row-there, entry-in, Listing-says, Nothing-listed, Rows-shown};
 use numbers::read2;
 use numbers::read4;
+use order::Order;
 use order::order_of;
 use round::rows::row_at;
 use round::sound::Judged;
@@ -20,7 +18,12 @@ use sorts::Slot;
 use sorts::Ticket;
 use sorts::Weight;
 
-// A row of the plan, as it is listed.
+// What is listed.
+pub enum View {
+    Plan,
+}
+
+// A row, as it is listed.
 pub struct Entry {
     pub ticket: Ticket,
     pub due: Slot,
@@ -40,51 +43,54 @@ struct Listing {
 }
 
 // Entries past the count do not change.
-pub fn list_plan(table: &[u8], list: &mut [Entry]) -> Listed
-    ensures { λ r. ⌜ Lists (of-listed r) (now (table .entry)) (now (table .exit)) (now (list .entry)) (now (list .exit)) ⌝ }
+pub fn list(view: View, table: &[u8], entries: &mut [Entry]) -> Listed
+    ensures { λ r. ⌜ Lists (of-view view) (of-listed r) (now (table .entry)) (now (table .exit)) (now (entries .entry)) (now (entries .exit)) ⌝ }
 {
-    let plan = listing_of(table, list.len());
-    let at = plan.at;
+    let listing = listing_of(view, table, entries.len());
+    let at = listing.at;
     let mut i: usize = 0;
-    while i < plan.count {
-        list[i] = entry_at(table, at[i]);
+    while i < listing.count {
+        entries[i] = entry_at(view, table, at[i]);
         i += 1;
     }
-    plan.reply
+    listing.reply
 }
 
 // The entry of one row.
-fn entry_at(table: &[u8], row: u16) -> Entry
-    requires { ⌜ (row < most-rows) × (row-at row + row-size ≤ length (now table)) ⌝ }
-    ensures { λ r. ⌜ r ≡ entry (row-in (now (table .entry)) row) ⌝ }
+fn entry_at(view: View, table: &[u8], row: u16) -> Entry
+    requires { ⌜ Row-there (now table) row ⌝ }
+    ensures { λ r. ⌜ r ≡ entry-in (of-view view) (now (table .entry)) row ⌝ }
 {
     let at = row_at(row as usize);
-    Entry {
-        ticket: Ticket(read4(table, at + Round::TICKET_AT)),
-        due: Slot(read2(table, at + Round::DUE_AT)),
-        weight: Weight(read4(table, at + Round::WEIGHT_AT)),
+    let ticket = Ticket(read4(table, at + Round::TICKET_AT));
+    match view {
+        View::Plan => Entry {
+            ticket,
+            due: Slot(read2(table, at + Round::DUE_AT)),
+            weight: Weight(read4(table, at + Round::WEIGHT_AT)),
+        },
     }
 }
 
 // The reply and the rows in their order, for a list of some room.
-fn listing_of(table: &[u8], room: usize) -> Listing
-    ensures { λ r. ⌜ Listing-says (now (table .entry)) room r ⌝ }
+fn listing_of(view: View, table: &[u8], room: usize) -> Listing
+    ensures { λ r. ⌜ Listing-says (of-view view) (now (table .entry)) room r ⌝ }
 {
     match judge(table) {
         Judged::Refused(n) => refused(n),
-        Judged::Sound(round) => listing_in(table, round, room),
+        Judged::Sound(round) => listing_in(view, table, round, room),
     }
 }
 
 // The same on a sound table.
-fn listing_in(table: &[u8], round: Round, room: usize) -> Listing
+fn listing_in(view: View, table: &[u8], round: Round, room: usize) -> Listing
     requires { ⌜ (table-refusal (now table) ≡ 0) × Head-of (now table) round ⌝ }
-    ensures { λ r. ⌜ Listing-says (now (table .entry)) room r ⌝ }
+    ensures { λ r. ⌜ Listing-says (of-view view) (now (table .entry)) room r ⌝ }
 {
     if round.last.0 < round.slot.0 {
         return refused(5);
     }
-    let order = order_of(table, round);
+    let order = rows_of(view, table, round);
     let count = order.count;
     if room < count {
         return refused(12);
@@ -94,6 +100,16 @@ fn listing_in(table: &[u8], round: Round, room: usize) -> Listing
         reply: Listed::Count(count),
         count,
         at,
+    }
+}
+
+// The rows that a view shows, in their order.
+fn rows_of(view: View, table: &[u8], round: Round) -> Order
+    requires { ⌜ Ready (now table) round ⌝ }
+    ensures { λ r. ⌜ Rows-shown (round-in (now (table .entry))) (shows (of-view view) (round-in (now (table .entry))) .items) r ⌝ }
+{
+    match view {
+        View::Plan => order_of(table, round),
     }
 }
 

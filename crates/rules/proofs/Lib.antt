@@ -2,6 +2,7 @@ pub mod Played
 pub mod Rounds
 pub mod FurtherRounds
 pub mod HindsightRounds
+pub mod ListShapes
 pub mod Bytes
 pub mod Shapes
 pub mod Text

@@ -8,7 +8,7 @@ use Rattle.rules.specs.Rows.{Row, Round, row, round, until, framed, slot
 use Rattle.rules.specs.Plan.{mark, listed}
 use Rattle.rules.specs.Table.{round-in, same}
 use Rattle.rules.specs.Calls.{taking, sending, marking, totalling, Call, opening, acting, asking, Reply, number-of, answer, left}
-use Rattle.rules.specs.Looking.{substitute-answer, list-answer, list-left}
+use Rattle.rules.specs.Looking.{substitute-answer, list-answer, list-left, the-plan, shows}
 
 -- the calls by their arguments
 abbrev pub opens : (last : ℕ) → Call
@@ -85,7 +85,7 @@ replayed t (listing ks ss ∷ ts) =
     let is = tickets-of (listed (round-in t)) in listing is (map (λ (k : ℕ). substitute-answer k t) is) ∷ replayed t ts
 replayed t (substituting k a ∷ ts) = substituting k (substitute-answer k t) ∷ replayed t ts
 replayed t (lists n a es ∷ ts) =
-    lists n (list-answer t n) (list-left (λ (x : Row). x) t (lent n)) ∷ replayed t ts
+    lists n (list-answer (shows the-plan) t n) (list-left (shows the-plan) (λ (x : Row). x) t (lent n)) ∷ replayed t ts
 replayed t (refuses c n b ∷ ts) = refuses c (number-of (answer c t)) (same (left c t) t) ∷ replayed t ts
 
 abbrev pub played : List Hand → List Hand

@@ -9,11 +9,11 @@ use borrow.Author.Tests.{le-ltb, lt-leb}
 use lib.ListN.{length, drop, replicate}
 use Rattle.rules.specs.Limits.{most-last, most-weight, ticket-limit}
 use Rattle.rules.specs.Rows.{Frame, Setup, Row, Round, row, round, no-tail}
-use Rattle.rules.specs.Plan.{plan, total, mark, best, listed}
+use Rattle.rules.specs.Plan.{plan, total, mark, best}
 use Rattle.rules.specs.Steps.{opened, taken, sent, is-ordinary}
 use Rattle.rules.specs.Table.{low, field, put, row-bytes, rows-bytes, head-bytes, table, rows-in, rows-of, round-in, every, rows-good, round-good}
 use Rattle.rules.specs.Calls.{taking, sending, marking, totalling, Call, opening, acting, asking, act, question, deed, done, ticket, step, amount, ordinary, leap, out-of, round-refusal, says, leaves}
-use Rattle.rules.specs.Conditions.{Length-bad, Unsound, Past, Weight-bad, Slot-bad, No-row, Not-planned, next-in, used-in, when, accepted, act-conditions, question-conditions, conditions, refusal-given, substitute-given, list-given}
+use Rattle.rules.specs.Conditions.{Length-bad, Unsound, Past, Weight-bad, Slot-bad, No-row, Not-planned, next-in, used-in, when, accepted, act-conditions, question-conditions, conditions, refusal-given, substitute-given}
 
 -- A ROW's bytes, of a kind that fits its byte
 pub row-bytes-are : (x : Row) → x .tail .kind < 256 →
@@ -155,7 +155,3 @@ pub substitute-given-is : (k : ℕ) (t : List ℕ) →
     Same (substitute-given k t) (if-sound t (when 10 (No-row k t) (when 11 (Not-planned k t) accepted)))
 unfolding substitute-given
 substitute-given-is k t = refl
-
-pub list-given-is : (n : ℕ) (t : List ℕ) → Same (list-given n t) (if-sound t (when 12 (n < length (listed (round-in t))) accepted))
-unfolding list-given
-list-given-is n t = refl

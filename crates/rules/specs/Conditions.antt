@@ -10,6 +10,7 @@ use Rattle.rules.specs.Rows.{Row, In}
 use Rattle.rules.specs.Plan.{plan, in-plan, listed}
 use Rattle.rules.specs.Table.{field, rows-of, round-in}
 use Rattle.rules.specs.Calls.{Act, taking, sending, Question, marking, totalling, Call, opening, acting, asking}
+use Rattle.rules.specs.Looking.{View, the-plan}
 use Rattle.rules.specs.Lines.{Command, text, stands}
 
 infix 10 _⟺_
@@ -137,8 +138,8 @@ refusal-given c t = Given (conditions c t)
 unfoldable pub substitute-given : (ticket : ℕ) → List ℕ → ℕ → Type 0
 substitute-given k t = Given (if-sound t ((Past t gives 5) ∷ (No-row k t gives 10) ∷ (Not-planned k t gives 11) ∷ []))
 
-unfoldable pub list-given : (room : ℕ) → List ℕ → ℕ → Type 0
-list-given n t = Given (if-sound t ((Past t gives 5) ∷ ((n < length (listed (round-in t))) gives 12) ∷ []))
+unfoldable pub list-given : View → (room : ℕ) → List ℕ → ℕ → Type 0
+list-given the-plan n t = Given (if-sound t ((Past t gives 5) ∷ ((n < length (listed (round-in t))) gives 12) ∷ []))
 
 unfoldable pub read-given : (line : List ℕ) → ℕ → Type 0
 read-given line = when 1 (No-command line) accepted

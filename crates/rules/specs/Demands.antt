@@ -11,7 +11,7 @@ use Rattle.rules.specs.Plan.{plan, total, total-weight, mark, feasible, 
 use Rattle.rules.specs.Steps.{opened, sent}
 use Rattle.rules.specs.Table.{value, table, round-in, round-good, table-refusal}
 use Rattle.rules.specs.Calls.{taking, sending, marking, totalling, Call, opening, acting, asking, Reply, refused, done, ticket, step, amount, number-of, ordinary, silence, refusal, round-refusal, says, answer, left, run, replies, at}
-use Rattle.rules.specs.Looking.{substitute-answer, list-refusal, list-answer, list-left}
+use Rattle.rules.specs.Looking.{substitute-answer, Shown, list-refusal, list-answer, list-left, View, the-plan, shows}
 use Rattle.rules.specs.Lines.{Command, command, text, stands, read, read-refusal, payload-at, Place, payload-place, payload, write-refusal, write-answer, write-left, fresh-table, printed}
 use Rattle.rules.specs.Reads.{complete-from, begun-from, calls-of, written-for, between-after, Some-bytes, joined}
 use Rattle.rules.specs.Conditions.{_⟺_, Bytes, Length-bad, Sound, when, accepted, No-command, refusal-given, substitute-given, list-given, read-given}
@@ -81,7 +81,7 @@ unfoldable pub Refusals : Type 0
 Refusals =
     ((c : Call) (t : List ℕ) → Bytes t → refusal-given c t (refusal c t))
     × ((k : ℕ) (t : List ℕ) → Bytes t → substitute-given k t (number-of (substitute-answer k t)))
-    × ((n : ℕ) (t : List ℕ) → Bytes t → list-given n t (number-of (list-answer t n)))
+    × ((v : View) (n : ℕ) (t : List ℕ) → Bytes t → list-given v n t (number-of (list-answer (shows v) t n)))
 
 unfoldable pub Soundness : Type 0
 Soundness = (t : List ℕ) → Bytes t → (table-refusal t ≡ 0) ⟺ ((Length-bad t → ⊥) × Sound t)
@@ -109,8 +109,8 @@ Refused-unchanged =
 
 unfoldable pub List-refused-unchanged : Type 1
 List-refused-unchanged =
-    (E : Type 0) (entry : Row → E) (t : List ℕ) (es : List E) →
-    Refused (list-refusal t (length es)) (list-answer t (length es)) es (list-left entry t es)
+    (A E : Type 0) (shown : Round → Shown A) (entry : A → E) (t : List ℕ) (es : List E) →
+    Refused (list-refusal shown t (length es)) (list-answer shown t (length es)) es (list-left shown entry t es)
 
 -- a reply's number is the refusal's, 0 where the call is accepted
 unfoldable pub Numbers : Type 0
@@ -144,16 +144,27 @@ Golden =
     × ((a b c d : ℕ) → (golden-more a b c d ≡ true) ⟺ Golden-more a b c d)
     × ((a b c d : ℕ) → b ≤ most-weight → d ≤ most-weight → (golden-more a b c d ≡ true) ⟺ (score c d < score a b))
 
--- a listing accepted: as many as the plan has rows, first the entries of these in canonical order, then the old ones
+-- a listing accepted, whatever it shows: as many as there are items, first the entries of these in their order, then the old ones
 unfoldable pub Listings : Type 1
 Listings =
-    (E : Type 0) (entry : Row → E) (t : List ℕ) (es : List E) → list-refusal t (length es) ≡ 0 →
+    (A E : Type 0) (shown : Round → Shown A) (entry : A → E) (t : List ℕ) (es : List E) → list-refusal shown t (length es) ≡ 0 →
+    let xs = shown (round-in t) .items in
+    let n = length xs in
+    (list-answer shown t (length es) ≡ amount n)
+    × (n ≤ length es)
+    × (take n (list-left shown entry t es) ≡ map entry xs)
+    × (drop n (list-left shown entry t es) ≡ drop n es)
+
+-- the plan accepted: as many as it has rows, first the entries of these in canonical order, then the old ones
+unfoldable pub Plan-listings : Type 1
+Plan-listings =
+    (E : Type 0) (entry : Row → E) (t : List ℕ) (es : List E) → list-refusal (shows the-plan) t (length es) ≡ 0 →
     let ps = planned (round-in t) in
     let n = length ps in
-    (list-answer t (length es) ≡ amount n)
+    (list-answer (shows the-plan) t (length es) ≡ amount n)
     × (n ≤ length es)
-    × (take n (list-left entry t es) ≡ map entry (sorted canonical ps))
-    × (drop n (list-left entry t es) ≡ drop n es)
+    × (take n (list-left (shows the-plan) entry t es) ≡ map entry (sorted canonical ps))
+    × (drop n (list-left (shows the-plan) entry t es) ≡ drop n es)
 
 -- the i-th row listed is due in slot current + i or later; P10: a round just opened sends silence
 unfoldable pub Listed-fits : Type 0

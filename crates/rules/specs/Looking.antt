@@ -1,4 +1,4 @@
--- Calls that only look and are not in the list of demand 3: the substitute of a ticket, and listings.
+-- Calls that only look and are not in the list of demand 3: the substitute of a ticket, and listings of any view.
 use mathlib.Core.Path.{_≡_}
 use mathlib.Core.Bool.{cond}
 use mathlib.Core.List.{List, [], _∷_, _++_, map}
@@ -9,7 +9,7 @@ use lib.ListN.{length, drop}
 use Rattle.rules.specs.Rows.{Row, Round}
 use Rattle.rules.specs.Plan.{plan, substitute, in-plan, listed}
 use Rattle.rules.specs.Table.{round-in, table-refusal}
-use Rattle.rules.specs.Calls.{Reply, refused, ticket, amount, blank-due, first, first-of, over, _⇒_}
+use Rattle.rules.specs.Calls.{Reply, refused, ticket, amount, blank-due, Test, _⇒_, first-of, over, first}
 
 -- WHAT A CALL THAT ONLY LOOKS PROMISES: its reply is the one named, and every byte of the table is as it was
 abbrev pub Looks : (named reply : Reply) → (entry exit : List ℕ) → Type 0
@@ -31,15 +31,30 @@ substitute-answer k t =
     let n = first (table-refusal t) (first-of (over (round-in t .slot) (round-in t .last) ∷ [])) in
     cond (eqb n 0) (stand-in (round-in t) (with-ticket k (round-in t .rows))) (refused n)
 
--- LISTING the plan into a lent list: 2, 3, 5, 12; the count, and the list afterwards, for any form of entry
-unfoldable pub list-refusal : List ℕ → (room : ℕ) → ℕ
-list-refusal t n =
-    first (table-refusal t)
-    (first-of (over (round-in t .slot) (round-in t .last) ∷ (ltb n (length (listed (round-in t))) ⇒ 12) ∷ []))
+-- WHAT IS SHOWN of a round: the tests before 12, the items in their order, and the tests after 12
+pub record Shown (A : Type 0) : Type 0 where
+  pub early : List Test
+  pub items : List A
+  pub late : List Test
 
-unfoldable pub list-answer : List ℕ → (room : ℕ) → Reply
-list-answer t n = cond (eqb (list-refusal t n) 0) (amount (length (listed (round-in t)))) (refused (list-refusal t n))
+-- A LISTING of it into a lent list: 2, 3, the early tests, 12, the late ones; the count, and the list afterwards, for any items and any form of entry
+unfoldable pub list-refusal : {A : Type 0} → (shown : Round → Shown A) → List ℕ → (room : ℕ) → ℕ
+list-refusal shown t n =
+    let s = shown (round-in t) in
+    first (table-refusal t) (first (first-of (s .early)) (first-of ((ltb n (length (s .items)) ⇒ 12) ∷ s .late)))
 
-unfoldable pub list-left : {E : Type 0} → (entry : Row → E) → List ℕ → List E → List E
-list-left entry t es =
-    cond (eqb (list-refusal t (length es)) 0) (map entry (listed (round-in t)) ++ drop (length (listed (round-in t))) es) es
+unfoldable pub list-answer : {A : Type 0} → (shown : Round → Shown A) → List ℕ → (room : ℕ) → Reply
+list-answer shown t n =
+    cond (eqb (list-refusal shown t n) 0) (amount (length (shown (round-in t) .items))) (refused (list-refusal shown t n))
+
+unfoldable pub list-left : {A E : Type 0} → (shown : Round → Shown A) → (entry : A → E) → List ℕ → List E → List E
+list-left shown entry t es =
+    let xs = shown (round-in t) .items in
+    cond (eqb (list-refusal shown t (length es)) 0) (map entry xs ++ drop (length xs) es) es
+
+-- A VIEW of rows, and what it shows. THE PLAN: 2, 3, 5, 12
+pub data View : Type 0 where
+  the-plan : View
+
+unfoldable pub shows : View → Round → Shown Row
+shows the-plan r = record { early = over (r .slot) (r .last) ∷ []; items = listed r; late = [] }

@@ -1,4 +1,4 @@
--- EACH NUMBER UNDER ITS CONDITION, in the substitute and the listing too: substitute-is-given, list-is-given, refusals.
+-- EACH NUMBER UNDER ITS CONDITION, in the substitute and in listings too: substitute-is-given, list-is-given, refusals.
 use mathlib.Core.Path.{_≡_, refl, sym, ap, _∙_}
 use mathlib.Core.Logic.{inl, inr}
 use mathlib.Core.Bool.{Bool, true, false, not, cond, true≢false}
@@ -13,7 +13,7 @@ use Rattle.rules.specs.Plan.{plan, substitute, in-plan, listed}
 use Rattle.rules.specs.Table.{rows-in, round-in, table-refusal}
 use Rattle.rules.specs.Calls.{Reply, refused, ticket, amount, blank-due, number-of}
 use Rattle.rules.specs.Calls.{Test, _⇒_, first-of, over, first}
-use Rattle.rules.specs.Looking.{with-ticket, stand-in, substitute-answer, list-refusal, list-answer}
+use Rattle.rules.specs.Looking.{with-ticket, stand-in, substitute-answer, Shown, list-refusal, list-answer, View, the-plan, shows}
 use Rattle.rules.specs.Conditions.{row-at, Bytes, No-row, Not-planned, substitute-given, list-given, used-in, Past, _gives_}
 use Rattle.rules.specs.Demands.{Refusals}
 use Rattle.theory.specs.Tests.{either, eqb?}
@@ -109,7 +109,7 @@ pub first-first : (a b z : ℕ) → first (first a b) z ≡ first a (first b z)
 unfolding first
 first-first a b z = elim (eqb? a 0) [ inl e ↦ rw (e .0) | inr e ↦ rw (e .0, e .0) ]
 
--- THE SUBSTITUTE AND THE LISTING
+-- THE SUBSTITUTE, AND LISTINGS by view
 abbrev pub substitute-tests : Round → Option Row → List Test
 substitute-tests r o = (missing o ⇒ 10) ∷ (unplanned r o ⇒ 11) ∷ []
 
@@ -135,16 +135,17 @@ substitute-is-given k t h =
     (table-given t h ((Past t gives 5) ∷ (No-row k t gives 10) ∷ (Not-planned k t gives 11) ∷ []) _
     (given (past t ∷ ground 10 (missing o) (No-row k t) (λ e. missing? k t o f) ∷ ground 11 (unplanned r o) (Not-planned k t) (λ e. unplanned? k t o f) ∷ [])))
 
-pub list-number : (n : ℕ) (t : List ℕ) → number-of (list-answer t n) ≡ list-refusal t n
+pub list-number : {A : Type 0} (shown : Round → Shown A) (t : List ℕ) (n : ℕ) → number-of (list-answer shown t n) ≡ list-refusal shown t n
 unfolding list-answer number-of
-list-number n t = number-first (list-refusal t n) (amount (length (listed (round-in t)))) ∙ first-zero (list-refusal t n)
+list-number shown t n =
+    number-first (list-refusal shown t n) (amount (length (shown (round-in t) .items))) ∙ first-zero (list-refusal shown t n)
 
-pub list-is-given : (n : ℕ) (t : List ℕ) → Bytes t → list-given n t (number-of (list-answer t n))
-unfolding list-given list-refusal
-list-is-given n t h =
+pub list-is-given : (v : View) (n : ℕ) (t : List ℕ) → Bytes t → list-given v n t (number-of (list-answer (shows v) t n))
+unfolding list-given list-refusal shows
+list-is-given the-plan n t h =
     let m = length (listed (round-in t)) in
-    rw (list-number n t) (table-given t h ((Past t gives 5) ∷ ((n < m) gives 12) ∷ []) _
-    (given (past t ∷ ground 12 (ltb n m) (n < m) (λ e. less? n m) ∷ [])))
+    let e = list-number (shows the-plan) t n ∙ first-past (table-refusal t) (round-in t) ((ltb n m ⇒ 12) ∷ []) in
+    rw e (table-given t h ((Past t gives 5) ∷ ((n < m) gives 12) ∷ []) _ (given (past t ∷ ground 12 (ltb n m) (n < m) (λ e. less? n m) ∷ [])))
 
 pub refusals : Refusals
 unfolding Refusals

@@ -45,4 +45,4 @@ numbers c t = elim (eqb? (refusal c t) 0) [
 
 pub list-refused-unchanged : List-refused-unchanged
 unfolding List-refused-unchanged list-answer list-left
-list-refused-unchanged E entry t es h = let f = ne-eqb (list-refusal t (length es)) 0 h in (rw f, rw f)
+list-refused-unchanged A E shown entry t es h = let f = ne-eqb (list-refusal shown t (length es)) 0 h in (rw f, rw f)

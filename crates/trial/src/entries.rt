@@ -1,11 +1,12 @@
-// Listing the plan into entries that are all alike before the call: the reply, and every entry lent.
+// A listing into entries that are all alike before the call: the reply, and every entry lent.
 ghost use mathlib.Core.Path.{_≡_};
 ghost use Prim.Native.Nat.{_≤_, _<_};
 ghost use lib.ListN.{length};
 use crate::small;
 use listing::Entry;
 use listing::Listed;
-use listing::list_plan;
+use listing::View;
+use listing::list;
 use numbers::write4;
 use sorts::Slot;
 use sorts::Ticket;
@@ -15,7 +16,7 @@ pub fn try_list(table: &[u8], room: usize, out: &mut [u8]) -> usize
     requires { ⌜ (room ≤ 1024) × (length (now out) ≡ 65536) ⌝ }
     ensures { λ r. ⌜ r ≤ 65536 ⌝ }
 {
-    let bytes = try_bytes(table, room);
+    let bytes = try_bytes(View::Plan, table, room);
     let n = 8 + 12 * room;
     let mut i = 0;
     while i < n {
@@ -26,7 +27,7 @@ pub fn try_list(table: &[u8], room: usize, out: &mut [u8]) -> usize
 }
 
 // Refusal and count, then 1,024 entries of 12 bytes.
-fn try_bytes(table: &[u8], room: usize) -> [u8; 12296]
+fn try_bytes(view: View, table: &[u8], room: usize) -> [u8; 12296]
     requires { ⌜ room ≤ 1024 ⌝ }
     ensures { λ r. ⌜ 12296 ≡ length r ⌝ }
 {
@@ -35,17 +36,17 @@ fn try_bytes(table: &[u8], room: usize) -> [u8; 12296]
         due: Slot(0xDDDDDDDD),
         weight: Weight(0xCCCCCCCC),
     };
-    listed(table, [before; 1024], room)
+    listed(view, table, [before; 1024], room)
 }
 
 // The first entries are lent to the listing.
-fn listed(table: &[u8], before: [Entry; 1024], room: usize) -> [u8; 12296]
+fn listed(view: View, table: &[u8], before: [Entry; 1024], room: usize) -> [u8; 12296]
     requires { ⌜ room ≤ 1024 ⌝ }
     ensures { λ r. ⌜ 12296 ≡ length r ⌝ }
 {
-    let mut list = before;
-    let reply = list_plan(table, &mut list[..room]);
-    bytes_of(reply, list)
+    let mut entries = before;
+    let reply = list(view, table, &mut entries[..room]);
+    bytes_of(reply, entries)
 }
 
 fn bytes_of(reply: Listed, list: [Entry; 1024]) -> [u8; 12296]

@@ -33,7 +33,7 @@ listing-in-requires c κs = subst (Judge-says (c .before .before .before .before
 
 -- src/listing.rt:70:1
 returns : tie.Need-returns
-returns c = table-says _ _ _ _ (subst (Judge-says (c .before .before .before .before .before .before .args .table .now))
+returns c = table-says _ _ _ _ _ (subst (Judge-says (c .before .before .before .before .before .before .args .table .now))
     (c .before .before .n .given .1) (c .before .before .before .before .judge .ensures)) (c .refused .ensures)
 
 -- src/listing.rt:70:1

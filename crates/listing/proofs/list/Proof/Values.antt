@@ -1,4 +1,4 @@
--- The values that a listing handles: the decided plan, the locals, and what the caller lent.
+-- The values that a listing handles: what was decided, the locals, and what the caller passed.
 use mathlib.Core.Path.{_≡_, ap}
 use Prim.Native.Nat.{ℕ, _<_, _^_}
 use mathlib.Core.List.{List, [], _∷_, map, map-id}
@@ -22,22 +22,25 @@ use denote.Struct.Laws as LL
 use denote.Enum.Laws as EL
 use Rattle.listing.specs.declared.Entry.{Entry}
 use Rattle.listing.specs.declared.Listing.{Listing}
+use Rattle.listing.specs.declared.View.{View}
 use Rattle.listing.proofs.Entry as E
 use Rattle.listing.proofs.Entry.Laws as E′
 use Rattle.listing.proofs.Listing as P
 use Rattle.listing.proofs.Listing.Laws as P′
 use Rattle.listing.proofs.Listed as L
 use Rattle.listing.proofs.Listed.Laws as L′
+use Rattle.listing.proofs.View as Vw
+use Rattle.listing.proofs.View.Laws as Vw′
 
--- THE DECIDED PLAN's parts as machine values, and what is known of them
+-- WHAT WAS DECIDED, in parts as machine values, and what is known of them
 abbrev pub Rows : RattleType
 Rows = Array u16 1024
 
 abbrev pub indices : Listing → List ℕ
 indices r = map (λ (x : ℕ). x) (r .at)
 
-abbrev pub plan-val : Listing → Val
-plan-val r = LL.val P.the-type P′.the-laws r
+abbrev pub listing-val : Listing → Val
+listing-val r = LL.val P.the-type P′.the-laws r
 
 abbrev pub reply-val : Listing → Val
 reply-val r = EL.val L.the-type L′.the-laws (r .reply)
@@ -72,29 +75,32 @@ abbrev pub rows-ty : Ty
 rows-ty = tyArray (tyInt w16) 1024
 
 pub record Locals : Type 0 where
-  pub 0 : ℕ
-  pub 1 : ℕ
-  pub 2 : ℕ
-  pub 3 : ℕ
-  pub 4 : ℕ
-  pub 5 : ℕ
-  pub 6 : ℕ
-  pub 7 : ℕ
-  pub 8 : ℕ
-  pub 9 : ℕ
-  pub 10 : ℕ
-  pub 11 : ℕ
-  pub 12 : ℕ
-  pub 13 : ℕ
-  pub 14 : ℕ
+  pub reply : ℕ
+  pub view : ℕ
+  pub table : ℕ
+  pub entries : ℕ
+  pub listing : ℕ
+  pub rows : ℕ
+  pub turn : ℕ
+  pub room : ℕ
+  pub more : ℕ
+  pub entry : ℕ
+  pub row-far : ℕ
+  pub rows-ptr : ℕ
+  pub row-ptr : ℕ
+  pub row : ℕ
+  pub entry-far : ℕ
+  pub entry-ptr : ℕ
 
 abbrev pub Vars : {M : Type 1} (𝓤 : URA M) (H : Heap 𝓤) → Locals → Env 𝓤 H
-Vars 𝓤 H l = (L′.mir, l .0) ∷ (table-ty, l .1) ∷ (list-ty, l .2) ∷ (P′.mir, l .3) ∷ (rows-ty, l .4) ∷ (tyInt w64, l .5) ∷ (tyInt w64, l .6) ∷
-    (tyBool, l .7) ∷ (E′.mir, l .8)
-    ∷ (tyInt w64, l .9) ∷ (tyPtr, l .10) ∷ (tyPtr, l .11) ∷ (tyInt w16, l .12) ∷ (tyInt w64, l .13) ∷ (tyPtr, l .14) ∷ []
+Vars 𝓤 H l =
+    (L′.mir, l .reply) ∷ (Vw′.mir, l .view) ∷ (table-ty, l .table) ∷ (list-ty, l .entries) ∷ (P′.mir, l .listing) ∷ (rows-ty, l .rows)
+    ∷ (tyInt w64, l .turn) ∷ (tyInt w64, l .room) ∷ (tyBool, l .more) ∷ (E′.mir, l .entry) ∷ (tyInt w64, l .row-far) ∷ (tyPtr, l .rows-ptr)
+    ∷ (tyPtr, l .row-ptr) ∷ (tyInt w16, l .row) ∷ (tyInt w64, l .entry-far) ∷ (tyPtr, l .entry-ptr) ∷ []
 
--- WHAT IS LENT: the lifetimes and shares of the table and the list, the table, and the list by place, name and entries
+-- WHAT IS PASSED: the view; the lifetimes and shares of the table and the list, the table, and the list by place, name and entries
 pub record Lent : Type 0 where
+  pub v : View
   pub κ : Lft
   pub κ′ : Lft
   pub q : Share
@@ -107,6 +113,13 @@ pub record Lent : Type 0 where
 
 abbrev pub list-at : Lent → List Entry → RefT (List Entry)
 list-at c es = record { ptr = (c .b, c .o); name = c .γ; now = es }
+
+abbrev pub view-val : Lent → Val
+view-val c = EL.val Vw.the-type Vw′.the-laws (c .v)
+
+-- the view's value is one
+abbrev pub Seen : Lent → Type 0
+Seen c = Is Vw.the-row (c .v) (view-val c ∷ [])
 
 abbrev pub table-val : Lent → Val
 table-val c = sliceVal (c .t .ptr) (length (c .t .now))

@@ -30,7 +30,6 @@ use denote.Laws.{Is, shows}
 use denote.Plain.{uint-vals, uint-tells}
 use denote.Array.{array-tells}
 use denote.ArrayMemory.{array-whole}
-use denote.Ref.{RefT}
 use denote.Slice.{sliceVal, heres, Room, at-slice, codedHoleys}
 use denote.Lend.{Held}
 use denote.Index.{closes-slice}
@@ -39,30 +38,32 @@ use denote.Builtin.{u8, u16}
 use denote.Steps.{owned, facts}
 use denote.Enum.Laws as EL
 use denote.Triple.Statement.{Triple}
-use denote.Triple.Walked.{says, Stays, stay-slice, stay-none-slice, walkOf, ends-at}
+use denote.Triple.Entry.{Args, Vals}
+use denote.Triple.Walked.{says, Stays, stay-none, stay-slice, stay-none-slice, walkOf, ends-at}
 use Rattle.listing.specs.declared.Entry.{Entry}
 use Rattle.listing.specs.declared.Listing.{Listing}
-use Rattle.listing.specs.Listing.{Listing-says}
 use Rattle.listing.proofs.Entry as E
 use Rattle.listing.proofs.Listed as L
 use Rattle.listing.proofs.Listed.Laws as L′
+use Rattle.listing.proofs.View as Vw
+use Rattle.listing.proofs.View.Laws as Vw′
 use Rattle.listing.proofs.entry_at.Symbol.{name as #pick}
-use Rattle.listing.proofs.list_plan as f
-use Rattle.listing.proofs.list_plan.Code as code
-use Rattle.listing.proofs.list_plan.Proof.Values.{Rows, indices, reply-val, Parts, index-room, Locals, Vars, Lent, list-at, table-val, list-val, Tab, Tok}
-use Rattle.listing.proofs.list_plan.Proof.Callees.{Picks}
-use Rattle.listing.proofs.list_plan.Proof.Turn.{lst, long, At, more}
+use Rattle.listing.proofs.list as f
+use Rattle.listing.proofs.list.Code as code
+use Rattle.listing.proofs.list.Proof.Values.{Rows, indices, reply-val, Parts, index-room, Locals, Vars, Lent, list-at, view-val, Seen, table-val, list-val, Tab, Tok}
+use Rattle.listing.proofs.list.Proof.Callees.{Picks, Decided}
+use Rattle.listing.proofs.list.Proof.Turn.{lst, long, At, more}
 
--- both references are still owned at the end: the table's as it was passed, the list's at its last value
+-- all is still owned at the end: view and table as they were passed, the list at its last value
 abbrev pub stayed : Stays (f.ended .signature .params) (f.ended .kept)
-stayed = (stay-none-slice (0 ∷ []) tt (plain (λ _. u8)) yes, (stay-slice (1 ∷ []) tt (plain (λ _. E.the-row)), tt))
+stayed = (stay-none (λ _. Vw.the-row) yes, (stay-none-slice (0 ∷ []) tt (plain (λ _. u8)) yes, (stay-slice (1 ∷ []) tt (plain (λ _. E.the-row)), tt)))
 
 -- THE CALL's arguments, and what it owes
-abbrev pub args : Lent → RefT (List ℕ) × (RefT (List Entry) × Unit {0})
-args c = (c .t, (list-at c (c .ys), tt))
+abbrev pub args : (c : Lent) → Args f.signature (c .κ, (c .κ′, tt))
+args c = (c .v, (c .t, (list-at c (c .ys), tt)))
 
-abbrev pub vals : Lent → List Val × (List Val × Unit {0})
-vals c = (table-val c ∷ [], (list-val c ∷ [], tt))
+abbrev pub vals : (c : Lent) → Vals f.signature (c .κ, (c .κ′, tt))
+vals c = (view-val c ∷ [], (table-val c ∷ [], (list-val c ∷ [], tt)))
 
 module _ {M : Type 1} (𝓤 : URA M) (H : Heap 𝓤) (A : Atoms 𝓤) (mem : Memory → SProp 𝓤) (run : Routine → Fun 𝓤) (c : Lent) where
   abbrev pub bound : walkOf 𝓤 H A f.ended stayed (f.clauses 𝓤 H A mem run) .Ghost
@@ -72,9 +73,8 @@ module _ {M : Type 1} (𝓤 : URA M) (H : Heap 𝓤) (A : Atoms 𝓤) (mem : Mem
   Post = walkOf 𝓤 H A f.ended stayed (f.clauses 𝓤 H A mem run) .post bound
 
 module _ {M : Type 1} (𝓤 : URA M) (H : Heap 𝓤) (A : Atoms 𝓤) (W : Given 𝓤 H A) (mem : Memory → SProp 𝓤) (run : Routine → Fun 𝓤) (c : Lent)
-    (r : Listing) (says-r : Listing-says (c .t .now) (length (c .ys)) r)
-    (parts : Parts r) (gn : Room E.the-row (length (c .ys))) (𝓣 : Tables 𝓤 H) (known : Triple 𝓤 (𝓣 .C #pick) (Picks 𝓤 H A mem run)) (l : Locals) where
-  -- THE END: the list is closed, and the reply is the plan's
+    (seen : Seen c) (r : Listing) (says-r : Decided c r) (parts : Parts r) (gn : Room E.the-row (length (c .ys))) (𝓣 : Tables 𝓤 H) (known : Triple 𝓤 (𝓣 .C #pick) (Picks 𝓤 H A mem run)) (l : Locals) where
+  -- THE END: the list is closed, and the reply is the decided one
   abbrev Left-over : List (Item 𝓤)
   Left-over =
       ‵ (L.the-row .own (r .reply) (reply-val r ∷ [])) ∷ ‵ (fobs (c .γ) (codedHoleys E.the-row .code (heres E.the-row (lst c r (r .count)))))
@@ -85,12 +85,13 @@ module _ {M : Type 1} (𝓤 : URA M) (H : Heap 𝓤) (A : Atoms 𝓤) (W : Given
   exits =
       qed W Left-over ∵
       suffices ! _ (ends-at 𝓤 H A f.ended stayed (f.clauses 𝓤 H A mem run) W (bound 𝓤 H A mem run c) (reply-val r) (r .reply)
-      (tt, (lst c r (r .count), tt)) (tt, (long c r (r .count), tt))) $ says ! (says-r .reply, says-r .left (c .ys) refl, refl) $
+      (tt, (tt, (lst c r (r .count), tt))) (tt, (tt, (long c r (r .count), tt)))) $ says ! (says-r .reply, says-r .left (c .ys) refl, refl) $
       move ! (5 ∷ []) $ split ! $ move ! (5 ∷ 1 ∷ []) $ join ! $ move ! (1 ∷ 0 ∷ []) $ join ! $ frame ! $
       move ! (1 ∷ 2 ∷ []) $ fjoin ! $
-      pureI ! (at-slice E.the-row (list-at c (lst c r (r .count))) (vals c .1 .0)) (tt, (tt, tt))
+      pureI ! (at-slice E.the-row (list-at c (lst c r (r .count))) (vals c .1 .1 .0)) (tt, (tt, tt))
       (ap (λ (m : ℕ). sliceVal (c .b, c .o) m ∷ []) (sym (long c r (r .count))), subst (Room E.the-row) (sym (long c r (r .count))) gn) $ fjoin ! $
-      move ! (0 ∷ 3 ∷ []) $ fjoin ! $ move ! (2 ∷ 0 ∷ []) $ fjoin ! $ frame ! $ done !
+      move ! (0 ∷ 3 ∷ []) $ fjoin ! $ move ! (2 ∷ 0 ∷ []) $ fjoin ! $
+      owned ! Vw.the-row (Is Vw.the-row) (EL.makes Vw.the-type Vw′.the-plain 𝓤 H A) (c .v) _ seen $ fjoin ! $ frame ! $ done !
 
   -- k turns are to come
   abbrev Inv : ℕ → SProp 𝓤
@@ -113,20 +114,20 @@ module _ {M : Type 1} (𝓤 : URA M) (H : Heap 𝓤) (A : Atoms 𝓤) (W : Given
       qed W (At 𝓤 c r l (r .count)) ∵ exec ! (𝓣 .C) (𝓣 .Λ) (Vars 𝓤 H l) code.Mir.turn-1 (anyQ (afterTurn 𝓤 H X Left)) $
       assigns ! (bin ! (load ! (from ! (stop !)) (look ! 2 refl)) (load ! (from ! (fld ! refl (stop !))) (look-in ! 13 (sub ! 1 refl (whole !)))) tt)
       (from ! (stop !)) (init ! 3 refl (tt, tt)) $
-      rewrite ! 3 (λ (v : Bool). ‵ (fat fullShare tyBool (l .7) 0 (vbool v))) (le-ltb (r .count) (r .count) (omega arith)) refl $
+      rewrite ! 3 (λ (v : Bool). ‵ (fat fullShare tyBool (l .more) 0 (vbool v))) (le-ltb (r .count) (r .count) (omega arith)) refl $
       leaves-loop ! (load ! (from ! (stop !)) (look ! 3 refl)) $
       exec ! (𝓣 .C) (𝓣 .Λ) (Vars 𝓤 H l) code.Mir.t-6 (atRet (Vars 𝓤 H l) (Post 𝓤 H A mem run c)) $
       assigns ! (of-opd ! (load ! (from ! (fld ! refl (stop !))) (look-in ! 13 (sub ! 0 refl (whole !))))) (from ! (stop !)) (init ! 14 refl typed) $
       move ! (0 ∷ 16 ∷ 17 ∷ 18 ∷ []) $ closes-slice ! tt E.the-row (c .ys) (lst c r (r .count)) (long c r (r .count)) (c .b) (c .o) $
       -- the rows are one array again
       move ! (3 ∷ []) $ feqI ! ℕ (length (indices r)) 1024 (index-room r (parts .rows)) $ fjoin ! $
-      use1 W (‵ (partAt Rows fullShare (indices r) (l .4) 0)) (array-whole 𝓤 H A W u16 fullShare 1024 (indices r) (l .4) 0) $
+      use1 W (‵ (partAt Rows fullShare (indices r) (l .rows) 0)) (array-whole 𝓤 H A W u16 fullShare 1024 (indices r) (l .rows) 0) $
       fpick ! (λ vs. fsplit ! $ move ! (1 ∷ []) $ facts ! Rows (Is Rows) (shows 𝓤 H A Rows) (indices r) vs (λ is.
-      rewrite ! 0 (λ (ws : List Val). ‵ (cellAt fullShare (Rows .mir) ws (l .4) 0))
+      rewrite ! 0 (λ (ws : List Val). ‵ (cellAt fullShare (Rows .mir) ws (l .rows) 0))
       (array-tells u16 (uint-vals w16) (uint-tells w16) 1024 (indices r) vs is) refl $
-      -- [_4; obs; the borrow; its token; _5; _7 to _14; _1; _2; _3; _0; _6; the table; its token; true; and that each local dies]
+      -- [_4; obs; the borrow; its token; _5; _7 to _14; _1; _2; _3; _0; _6; the table; its token; true; that each local dies; view]
       returns ! (look ! 16 refl) $ forget ! 0 refl $ forget ! 4 refl $ forget ! 5 refl $ forget ! 13 refl $ forget ! 14 refl $ forget ! 15 refl $
-      forget ! 16 refl $ move ! (16 ∷ 21 ∷ []) $ free1 ! $ move ! (13 ∷ 20 ∷ []) $ free1 ! $ move ! (13 ∷ 19 ∷ []) $ free1 ! $
+      forget ! 16 refl $ forget ! 36 refl $ move ! (16 ∷ 21 ∷ []) $ free1 ! $ move ! (34 ∷ 35 ∷ []) $ free1 ! $ move ! (13 ∷ 20 ∷ []) $ free1 ! $ move ! (13 ∷ 19 ∷ []) $ free1 ! $
       move ! (13 ∷ 18 ∷ []) $ free1 ! $ move ! (0 ∷ 17 ∷ []) $ free1 ! $ move ! (3 ∷ 16 ∷ []) $ free1 ! $ move ! (11 ∷ 15 ∷ []) $ free1 ! $
       move ! (3 ∷ 14 ∷ []) $ free1 ! $ move ! (3 ∷ 13 ∷ []) $ free1 ! $ move ! (3 ∷ 12 ∷ []) $ free1 ! $ move ! (3 ∷ 11 ∷ []) $ free1 ! $
       move ! (3 ∷ 10 ∷ []) $ free1 ! $ move ! (3 ∷ 9 ∷ []) $ free1 ! $ move ! (3 ∷ 8 ∷ []) $ free1 ! $ move ! (3 ∷ 7 ∷ []) $ free1 ! $ free0 ! $
@@ -146,7 +147,7 @@ module _ {M : Type 1} (𝓤 : URA M) (H : Heap 𝓤) (A : Atoms 𝓤) (W : Given
       let z : r .count ≡ i = omega arith in
       subst (λ (j : ℕ). ent 𝓤 (⋆ 𝓤 H A (At 𝓤 c r l j)) (Wp 𝓤 H (𝓣 .C) (𝓣 .Λ) (Vars 𝓤 H l) code.Mir.turn-1 (afterTurn 𝓤 H (Below zero) Left))) z
       (ends (Below zero))
-  turn-at (suc k) i e = more 𝓤 H A W mem run c r says-r parts gn 𝓣 known l i (Below (suc k)) Left (omega arith) (below k i (omega arith))
+  turn-at (suc k) i e = more 𝓤 H A W mem run c seen r says-r parts gn 𝓣 known l i (Below (suc k)) Left (omega arith) (below k i (omega arith))
 
   turns : (k : ℕ) → ent 𝓤 (Inv k) (Wp 𝓤 H (𝓣 .C) (𝓣 .Λ) (Vars 𝓤 H l) code.Mir.turn-1 (afterTurn 𝓤 H (Below k) Left))
   turns k = exE 𝓤 (λ (i : ℕ). guard 𝓤 (i + k ≡ r .count) (⋆ 𝓤 H A (At 𝓤 c r l i)))

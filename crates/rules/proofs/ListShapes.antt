@@ -1,0 +1,69 @@
+-- The plan's listing written out: what it refuses, answers and leaves, its conditions and what is owed of it are these texts, by definition.
+use mathlib.Core.Path.{_≡_, refl}
+use mathlib.Core.Bool.{cond}
+use mathlib.Core.List.{List, _++_, map}
+use Prim.Native.Nat.{ℕ, _≤_, _<_}
+use lib.Dec.{ltb, eqb}
+use lib.ListN.{length, take, drop}
+use Rattle.rules.specs.Rows.{Row, sorted, canonical}
+use Rattle.rules.specs.Plan.{planned, listed}
+use Rattle.rules.specs.Table.{round-in, table-refusal}
+use Rattle.rules.specs.Calls.{Reply, refused, amount, number-of, first}
+use Rattle.rules.specs.Looking.{list-refusal, list-answer, list-left, the-plan, shows}
+use Rattle.rules.specs.Conditions.{Bytes, Length-bad, Unsound, Past, when, accepted, list-given}
+use Rattle.rules.specs.Demands.{Refusals, Refused, List-refused-unchanged, Plan-listings}
+
+-- REFUSED, ANSWERED, LEFT
+abbrev plan-refusal : List ℕ → (room : ℕ) → ℕ
+plan-refusal t n =
+    first (table-refusal t)
+    (first (cond (ltb (round-in t .last) (round-in t .slot)) 5 0) (cond (ltb n (length (listed (round-in t)))) 12 0))
+
+abbrev plan-answer : List ℕ → (room : ℕ) → Reply
+plan-answer t n = cond (eqb (plan-refusal t n) 0) (amount (length (listed (round-in t)))) (refused (plan-refusal t n))
+
+abbrev plan-left : {E : Type 0} → (entry : Row → E) → List ℕ → List E → List E
+plan-left entry t es =
+    cond (eqb (plan-refusal t (length es)) 0) (map entry (listed (round-in t)) ++ drop (length (listed (round-in t))) es) es
+
+pub refusal-shape : (t : List ℕ) (n : ℕ) → list-refusal (shows the-plan) t n ≡ plan-refusal t n
+unfolding list-refusal shows
+refusal-shape t n = refl
+
+pub answer-shape : (t : List ℕ) (n : ℕ) → list-answer (shows the-plan) t n ≡ plan-answer t n
+unfolding list-refusal list-answer shows
+answer-shape t n = refl
+
+pub left-shape : {E : Type 0} (entry : Row → E) (t : List ℕ) (es : List E) → list-left (shows the-plan) entry t es ≡ plan-left entry t es
+unfolding list-refusal list-left shows
+left-shape entry t es = refl
+
+-- EACH NUMBER under its condition
+abbrev plan-given : (room : ℕ) → List ℕ → ℕ → Type 0
+plan-given n t = when 2 (Length-bad t) (when 3 (Unsound t) (when 5 (Past t) (when 12 (n < length (listed (round-in t))) accepted)))
+
+pub given-shape : (n : ℕ) (t : List ℕ) → list-given the-plan n t ≡ plan-given n t
+unfolding list-given
+given-shape n t = refl
+
+pub refusals-shape : Refusals → (n : ℕ) (t : List ℕ) → Bytes t → plan-given n t (number-of (plan-answer t n))
+unfolding Refusals list-given list-refusal list-answer shows
+refusals-shape h = h .2 the-plan
+
+-- OWED of the plan, refused and accepted
+pub refused-shape : List-refused-unchanged → (E : Type 0) (entry : Row → E) (t : List ℕ) (es : List E) →
+    Refused (plan-refusal t (length es)) (plan-answer t (length es)) es (plan-left entry t es)
+unfolding List-refused-unchanged list-refusal list-answer list-left shows
+refused-shape h E = h Row E (shows the-plan)
+
+pub listings-shape : Plan-listings ≡ (
+    (E : Type 0) (entry : Row → E) (t : List ℕ) (es : List E) → plan-refusal t (length es) ≡ 0 →
+    let ps = planned (round-in t) in
+    let n = length ps in
+    (plan-answer t (length es) ≡ amount n)
+    × (n ≤ length es)
+    × (take n (plan-left entry t es) ≡ map entry (sorted canonical ps))
+    × (drop n (plan-left entry t es) ≡ drop n es)
+    )
+unfolding Plan-listings list-refusal list-answer list-left shows
+listings-shape = refl

@@ -4,6 +4,7 @@ pub mod FurtherRounds
 pub mod HindsightRounds
 pub mod Bytes
 pub mod Text
+pub mod LineShapes
 pub mod LineVectors
 pub mod ReadVectors
 pub mod Lengths

@@ -9,7 +9,7 @@ use Rattle.rules.specs.Plan.{due-by, fits-from, feasible, kept, blanks-f
 use Rattle.rules.specs.Steps.{opened, taken, changed, without, heaviest-between, shifted, replaced, leapt, still-due, is-ordinary, sent}
 use Rattle.rules.specs.Table.{low, value, field, row-bytes, rows-bytes, table, rows-in, rows-of, round-in, length-good, rows-good, round-good, same, table-refusal}
 use Rattle.rules.specs.Calls.{first, open-refusal, take-refusal, send-refusal, round-refusal, out-of, says, leaves, table-first, refusal, answer, left}
-use Rattle.rules.specs.Lines.{digit, is-digit, digit-value, digits, number-from, all-digits, call-of, body, number-at, read-digits, read, out-digits, reply-digits, reply-text, lines-from, turn, printed-from}
+use Rattle.rules.specs.Lines.{digit, is-digit, digit-value, digits, number-from, all-digits, count-digits, number-at, numbers-at, forms, found, front-size, payload-fits, has-length, call-of, body, command-of, read-digits, read, out-digits, reply-digits, reply-text, lines-from, turn, printed-from}
 
 abbrev pub zeroed : List ℕ
 zeroed = replicate (head-size + row-size * 2) 0
@@ -129,5 +129,5 @@ unfolding row blank round slots-left heavier canonical into sorted due-by fits-f
     golden-more sends-before best-from best opened taken changed without heaviest-between shifted replaced leapt still-due is-ordinary sent low value
     field row-bytes rows-bytes table rows-in rows-of round-in length-good rows-good round-good same table-refusal first open-refusal take-refusal
     send-refusal round-refusal out-of says leaves table-first refusal answer left digit is-digit digit-value digits number-from all-digits call-of
-    body number-at read-digits read out-digits reply-digits reply-text lines-from turn printed-from
+    body count-digits number-at numbers-at forms found front-size payload-fits has-length command-of read-digits read out-digits reply-digits reply-text lines-from turn printed-from
 lines-by-hand = refl

@@ -63,7 +63,10 @@ wide-bytes = 4
 abbrev pub kind-bytes : ℕ
 kind-bytes = 1
 
--- text lines: digits of a slot and of a weight or ticket, and the most payload digits
+-- text lines: digits of a line's or a refusal's number, of a slot, of a weight or ticket, and the most payload digits
+abbrev pub short-digits : ℕ
+short-digits = 2
+
 abbrev pub slot-digits : ℕ
 slot-digits = 4
 

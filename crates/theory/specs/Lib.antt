@@ -63,6 +63,7 @@ pub mod Outcomes
 pub mod Unchanged
 pub mod Listings
 pub mod Digits
+pub mod Numerals
 pub mod Lines
 pub mod Reader
 pub mod Broken

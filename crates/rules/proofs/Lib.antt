@@ -6,6 +6,7 @@ pub mod ListShapes
 pub mod Bytes
 pub mod Shapes
 pub mod Text
+pub mod LineShapes
 pub mod LineVectors
 pub mod ReadVectors
 pub mod Lengths

@@ -4,7 +4,9 @@ use mathlib.Core.List.{List, [], _∷_, _++_}
 use Prim.Native.Nat.{ℕ}
 use lib.ListN.{replicate}
 use Rattle.rules.specs.Calls.{Reply, refused, amount}
-use Rattle.rules.specs.Lines.{digit, is-digit, digit-value, digits, number-from, all-digits, Command, open-line, take-line, send-line, text, stands, Reading, command, broken, body, number-at, read-digits, read, read-refusal, place-of, payload-place, payload, write-refusal, write-answer, write-left}
+use Rattle.rules.specs.Lines.{digit, is-digit, digit-value, digits, number-from, all-digits, count-digits, numerals, fit-digits, number-at, numbers-at}
+use Rattle.rules.specs.Lines.{forms, found, front-size, payload-fits, has-length, Command, open-line, take-line, send-line, line-number, values-of}
+use Rattle.rules.specs.Lines.{front, text, stands, Reading, command, broken, body, command-of, read-digits, read, read-refusal, Place, place-of, payload-place, payload, write-refusal, write-answer, write-left}
 
 -- A LINE BY HAND: what it is read as, the refusal's number, the payload's place, and the payload
 pub record Read : Type 0 where
@@ -77,7 +79,8 @@ lines-read =
     []
 
 pub lines-read-by-hand : read-by lines-read ≡ lines-read
-unfolding is-digit digit-value number-from all-digits body number-at read-digits read read-refusal place-of payload-place payload
+unfolding is-digit digit-value number-from all-digits count-digits numbers-at forms found front-size payload-fits has-length line-number body number-at
+    command-of read-digits read read-refusal place-of payload-place payload
 lines-read-by-hand = refl
 
 -- A WRITING BY HAND, into a buffer of so many sevens: the reply, and the buffer afterwards
@@ -131,5 +134,5 @@ lines-written =
     []
 
 pub lines-written-by-hand : written-by lines-written ≡ lines-written
-unfolding digit is-digit digits all-digits text stands write-refusal write-answer write-left
+unfolding digit is-digit digits all-digits numerals fit-digits forms found payload-fits line-number values-of front text stands write-refusal write-answer write-left
 lines-written-by-hand = refl

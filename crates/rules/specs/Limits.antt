@@ -81,7 +81,10 @@ kind-at = 10
 abbrev pub row-zeros-at : ℕ
 row-zeros-at = size row-widths
 
--- text lines: digits of a slot and of a weight or ticket, and the most payload digits
+-- text lines: digits of a line's or a refusal's number, of a slot, of a weight or ticket, and the most payload digits
+abbrev pub short-digits : ℕ
+short-digits = 2
+
 abbrev pub slot-digits : ℕ
 slot-digits = 4
 

@@ -1,10 +1,10 @@
 -- Text lines: their text, the reader, the payload and its place, the writer, and what stationround prints.
-use mathlib.Core.Bool.{Bool, true, _&&_, _||_, cond}
+use mathlib.Core.Bool.{Bool, true, false, _&&_, _||_, cond}
 use mathlib.Core.List.{List, [], _∷_, _++_}
 use Prim.Native.Nat.{ℕ, zero, suc, _+_, _*_, _-_, _/_, _%_, _^_}
 use lib.Dec.{ltb, leb, eqb}
 use lib.ListN.{length, getD, take, drop, replicate}
-use Rattle.rules.specs.Limits.{head-size, row-size, most-rows, slot-digits, wide-digits, most-payload}
+use Rattle.rules.specs.Limits.{head-size, row-size, most-rows, short-digits, slot-digits, wide-digits, most-payload}
 use Rattle.rules.specs.Rows.{framed, until}
 use Rattle.rules.specs.Calls.{taking, sending, Call, opening, acting, Out, silence, frame, kept-blank, ordinary, leap, Reply, refused, done, ticket, step, amount, blank-due, answer, left}
 
@@ -30,32 +30,102 @@ unfoldable pub all-digits : List ℕ → Bool
 all-digits [] = true
 all-digits (b ∷ bs) = is-digit b && all-digits bs
 
--- A COMMAND, one for each line number; the call that it asks for
+-- NUMBERS SIDE BY SIDE, each in so many digits: how many these are, the digits, and whether they hold the numbers
+unfoldable pub count-digits : (widths : List ℕ) → ℕ
+count-digits [] = 0
+count-digits (n ∷ ns) = n + count-digits ns
+
+unfoldable pub numerals : (widths values : List ℕ) → List ℕ
+numerals [] vs = []
+numerals (n ∷ ns) [] = []
+numerals (n ∷ ns) (v ∷ vs) = digits n v ++ numerals ns vs
+
+unfoldable pub fit-digits : (widths values : List ℕ) → Bool
+fit-digits [] [] = true
+fit-digits [] (v ∷ vs) = false
+fit-digits (n ∷ ns) [] = false
+fit-digits (n ∷ ns) (v ∷ vs) = ltb v (16 ^ n) && fit-digits ns vs
+
+-- the numbers that stand side by side from a place on
+unfoldable pub number-at : (at n : ℕ) → List ℕ → ℕ
+number-at a n ds = number-from 0 (take n (drop a ds))
+
+unfoldable pub numbers-at : (at : ℕ) (widths : List ℕ) → List ℕ → List ℕ
+numbers-at a [] ds = []
+numbers-at a (n ∷ ns) ds = number-at a n ds ∷ numbers-at (a + n) ns ds
+
+-- A LINE'S FORM: its number, the digits of each number behind that, and whether payload digits may follow
+pub record Form : Type 0 where
+  pub number : ℕ
+  pub widths : List ℕ
+  pub payload : Bool
+
+abbrev pub form : (number : ℕ) (widths : List ℕ) (payload : Bool) → Form
+form k ns p = record { number = k; widths = ns; payload = p }
+
+-- THE TABLE of forms
+unfoldable pub forms : List Form
+forms =
+    form 0 (slot-digits ∷ []) false
+    ∷ form 1 (slot-digits ∷ wide-digits ∷ []) true
+    ∷ form 2 [] false
+    ∷ []
+
+-- the form of a line number; a number that no line has would stand alone, and makes no command
+unfoldable pub found : (number : ℕ) → List Form → Form
+found k [] = form k [] false
+found k (f ∷ fs) = cond (eqb k (f .number)) f (found k fs)
+
+abbrev pub form-numbered : ℕ → Form
+form-numbered k = found k forms
+
+-- how many digits come before the payload, how many payload digits there can be, and how many digits in all
+unfoldable pub front-size : Form → ℕ
+front-size f = short-digits + count-digits (f .widths)
+
+unfoldable pub payload-fits : (payload : Bool) → (n : ℕ) → Bool
+payload-fits true n = eqb (n % 2) 0 && leb n most-payload
+payload-fits false n = eqb n 0
+
+unfoldable pub has-length : Form → (n : ℕ) → Bool
+has-length f n = leb (front-size f) n && payload-fits (f .payload) (n - front-size f)
+
+-- A COMMAND, one for each line number: that number and its values; the call that it asks for
 pub data Command : Type 0 where
   open-line : (last : ℕ) → Command
   take-line : (due weight : ℕ) → Command
   send-line : Command
+
+unfoldable pub line-number : Command → ℕ
+line-number (open-line l) = 0
+line-number (take-line d w) = 1
+line-number send-line = 2
+
+unfoldable pub values-of : Command → List ℕ
+values-of (open-line l) = l ∷ []
+values-of (take-line d w) = d ∷ w ∷ []
+values-of send-line = []
 
 unfoldable pub call-of : Command → Call
 call-of (open-line l) = opening (until l)
 call-of (take-line d w) = acting (taking (framed d w))
 call-of send-line = acting sending
 
+abbrev pub form-of : Command → Form
+form-of c = form-numbered (line-number c)
+
 -- THE TEXT of a command with its payload digits, and whether they can stand in a line
 abbrev pub line-end : ℕ
 line-end = 10
 
+unfoldable pub front : Command → List ℕ
+front c = digits short-digits (line-number c) ++ numerals (form-of c .widths) (values-of c)
+
 unfoldable pub text : Command → (payload : List ℕ) → List ℕ
-text (open-line l) ps = digits 2 0 ++ digits slot-digits l ++ ps ++ (line-end ∷ [])
-text (take-line d w) ps = digits 2 1 ++ digits slot-digits d ++ digits wide-digits w ++ ps ++ (line-end ∷ [])
-text send-line ps = digits 2 2 ++ ps ++ (line-end ∷ [])
+text c ps = front c ++ ps ++ (line-end ∷ [])
 
 unfoldable pub stands : Command → (payload : List ℕ) → Bool
-stands (open-line l) ps = ltb l (16 ^ slot-digits) && eqb (length ps) 0
-stands (take-line d w) ps =
-    (ltb d (16 ^ slot-digits) && ltb w (16 ^ wide-digits))
-    && (all-digits ps && (eqb (length ps % 2) 0 && leb (length ps) most-payload))
-stands send-line ps = eqb (length ps) 0
+stands c ps = fit-digits (form-of c .widths) (values-of c) && (all-digits ps && payload-fits (form-of c .payload) (length ps))
 
 -- THE READER: a command, or refusal 1. A line is its bytes with the 0A
 pub data Reading : Type 0 where
@@ -69,19 +139,18 @@ reading-refusal broken = 1
 unfoldable pub body : List ℕ → List ℕ
 body line = take (length line - 1) line
 
-unfoldable pub number-at : (at n : ℕ) → List ℕ → ℕ
-number-at a n ds = number-from 0 (take n (drop a ds))
-
--- where the payload of line 01 begins
-abbrev pub payload-at : ℕ
-payload-at = 14
+-- the command of a line number and values
+unfoldable pub command-of : (number : ℕ) (values : List ℕ) → Reading
+command-of k vs =
+    cond (eqb k 0) (command (open-line (getD vs 0 0)))
+    (cond (eqb k 1) (command (take-line (getD vs 0 0) (getD vs 1 0)))
+    (cond (eqb k 2) (command send-line) broken))
 
 unfoldable pub read-digits : List ℕ → Reading
 read-digits ds =
-    cond (eqb (length ds) 6 && eqb (number-at 0 2 ds) 0) (command (open-line (number-at 2 slot-digits ds)))
-    (cond ((leb payload-at (length ds) && leb (length ds) (payload-at + most-payload)) && (eqb (length ds % 2) 0 && eqb (number-at 0 2 ds) 1))
-    (command (take-line (number-at 2 slot-digits ds) (number-at 6 wide-digits ds)))
-    (cond (eqb (length ds) 2 && eqb (number-at 0 2 ds) 2) (command send-line) broken))
+    let k = number-at 0 short-digits ds in
+    let f = form-numbered k in
+    cond (has-length f (length ds)) (command-of k (numbers-at short-digits (f .widths) ds)) broken
 
 unfoldable pub read : List ℕ → Reading
 read line =
@@ -96,9 +165,9 @@ pub record Place : Type 0 where
   pub end : ℕ
 
 unfoldable pub place-of : Reading → (long : ℕ) → Place
-place-of (command (take-line d w)) n = cond (ltb (suc payload-at) n) (record { start = payload-at; end = n - 1 }) (record { start = 0; end = 0 })
-place-of (command (open-line l)) n = record { start = 0; end = 0 }
-place-of (command send-line) n = record { start = 0; end = 0 }
+place-of (command c) n =
+    let start = front-size (form-of c) in
+    cond (form-of c .payload && ltb (suc start) n) (record { start = start; end = n - 1 }) (record { start = 0; end = 0 })
 place-of broken n = record { start = 0; end = 0 }
 
 unfoldable pub payload-place : List ℕ → Place
@@ -106,6 +175,10 @@ payload-place line = place-of (read line) (length line)
 
 unfoldable pub payload : List ℕ → List ℕ
 payload line = take (payload-place line .end - payload-place line .start) (drop (payload-place line .start) line)
+
+-- where the payload of line 01 begins
+abbrev pub payload-at : ℕ
+payload-at = 14
 
 -- THE WRITER into a lent buffer: 1, 12; the length with its 0A, and the buffer afterwards
 unfoldable pub write-refusal : Command → (payload : List ℕ) → (room : ℕ) → ℕ
@@ -119,21 +192,28 @@ write-left c ps z = cond (eqb (write-refusal c ps (length z)) 0) (text c ps ++ d
 
 -- STATIONROUND: a reply's line, and all that is printed for an input
 unfoldable pub out-digits : (kind : ℕ) → Out → List ℕ
-out-digits k silence = digits 2 0 ++ digits 2 k ++ digits wide-digits 0
-out-digits k (frame n) = digits 2 1 ++ digits 2 k ++ digits wide-digits n
-out-digits k (kept-blank n) = digits 2 2 ++ digits 2 k ++ digits wide-digits n
+out-digits k silence = digits short-digits 0 ++ digits short-digits k ++ digits wide-digits 0
+out-digits k (frame n) = digits short-digits 1 ++ digits short-digits k ++ digits wide-digits n
+out-digits k (kept-blank n) = digits short-digits 2 ++ digits short-digits k ++ digits wide-digits n
 
 unfoldable pub reply-digits : Reply → List ℕ
-reply-digits (refused n) = digits 2 255 ++ digits 2 n
-reply-digits done = digits 2 0
-reply-digits (ticket k) = digits 2 1 ++ digits wide-digits k
-reply-digits (step (ordinary o)) = digits 2 2 ++ out-digits 0 o
-reply-digits (step (leap o)) = digits 2 2 ++ out-digits 1 o
+reply-digits (refused n) = digits short-digits 255 ++ digits short-digits n
+reply-digits done = digits short-digits 0
+reply-digits (ticket k) = digits short-digits 1 ++ digits wide-digits k
+reply-digits (step (ordinary o)) = digits short-digits 2 ++ out-digits 0 o
+reply-digits (step (leap o)) = digits short-digits 2 ++ out-digits 1 o
 reply-digits (amount n) = []
 reply-digits (blank-due s) = []
 
 unfoldable pub reply-text : Reply → List ℕ
 reply-text r = reply-digits r ++ (line-end ∷ [])
+
+-- the room that each reply's line fits in, and how often its line's length, at most, a reply is long
+abbrev pub reply-room : ℕ
+reply-room = 15
+
+abbrev pub reply-ratio : ℕ
+reply-ratio = 5
 
 -- an input cut after each 0A; what follows the last one is a line too
 unfoldable pub lines-from : (begun : List ℕ) → List ℕ → List (List ℕ)

@@ -1,13 +1,18 @@
 -- Broken lines: a line whose last byte is no 0A, one longer than any command's.
 use mathlib.Core.Path.{_≡_, refl, sym, ap, _∙_}
+use mathlib.Core.Bool.{Bool, true, false}
 use mathlib.Core.List.{List, [], _∷_}
-use Prim.Native.Nat.{ℕ, _+_, _-_, _<_}
+use Prim.Native.Nat.{ℕ, _+_, _-_, _%_, _≤_, _<_}
 use native.Mathlib.Omega.{arith}
+use lib.Dec.{leb, eqb}
 use lib.ListN.{length, getD, length-append}
 use lib.Seq.{length-take-le, getD-at}
-use Rattle.rules.specs.Lines.{Command, open-line, take-line, send-line, line-end, Reading, command, broken, body, read}
+use borrow.Author.Tests.{leb-true, eqb-true}
+use Rattle.rules.specs.Limits.{most-payload}
+use Rattle.rules.specs.Lines.{form-of, front-size, payload-fits, Command, line-end, Reading, command, broken, body, read}
 use Rattle.rules.specs.Reads.{longest-line}
-use Rattle.theory.specs.Lines.{Reads, Ended, command-ended}
+use Rattle.theory.specs.Tests.{and-true}
+use Rattle.theory.specs.Lines.{front-small, from-long, Ended, command-ended}
 
 pub length-body : (line : List ℕ) → length (body line) ≡ length line - 1
 unfolding body
@@ -30,12 +35,16 @@ ended-last c line h =
 pub unended : (line : List ℕ) → (getD line (length line - 1) 0 ≡ line-end → ⊥) → broken ≡ read line
 unended line f = read-not line (λ c h. f (ended-last c line h))
 
--- TOO LONG
+-- TOO LONG: no form has more digits than line 01 with a whole payload
+pub payload-most : (may : Bool) (n : ℕ) → payload-fits may n ≡ true → n ≤ most-payload
+unfolding payload-fits
+payload-most true n e = leb-true n most-payload (and-true (eqb (n % 2) 0) (leb n most-payload) e .1)
+payload-most false n e = omega (arith, eqb-true n 0 e)
+
 pub too-long : (line : List ℕ) → longest-line < length line → broken ≡ read line
-unfolding Reads
-too-long line g = read-not line no
-  where
-    no : (c : Command) → Ended c line → ⊥
-    no (open-line l) h = omega (arith, length-body line, h .reads .0)
-    no (take-line d w) h = omega (arith, length-body line, h .reads .1)
-    no send-line h = omega (arith, length-body line, h .reads .0)
+too-long line g =
+    read-not line λ c h.
+    let f = form-of c in
+    let n = length (body line) in
+    let l = from-long f n (h .reads .long) in
+    omega (arith, length-body line, l .front, front-small c, payload-most (f .payload) (n - front-size f) (l .payload))

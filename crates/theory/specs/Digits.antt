@@ -132,7 +132,7 @@ digits-of-number ds e = let m : 0 + length ds ≡ length ds = omega arith in rw 
 pub number-below : (ds : List ℕ) → all-digits ds ≡ true → number-from 0 ds < 16 ^ length ds
 number-below ds e = let m : 0 + length ds ≡ length ds = omega arith in rw m at (number-on 0 0 ds e (omega arith))
 
--- A NUMBER AT A PLACE: what is read there is what stands there
+-- A NUMBER AT A PLACE: what stands there is read, and what is read stands there
 pub number-placed : (a n v : ℕ) (ds : List ℕ) → drop a ds ≡ digits n v ++ drop (a + n) ds → v < 16 ^ n → number-at a n ds ≡ v
 unfolding number-at
 number-placed a n v ds e h =
@@ -140,13 +140,13 @@ number-placed a n v ds e h =
     ∙ ap (number-from 0) (take-at (digits n v) (drop (a + n) ds) n (length-digits n v))
     ∙ number-of-digits n v h
 
-pub record Placed (a n v : ℕ) (ds : List ℕ) : Type 0 where
+pub record Number-stands (a n v : ℕ) (ds : List ℕ) : Type 0 where
   pub stand : drop a ds ≡ digits n v ++ drop (a + n) ds
   pub fits : v < 16 ^ n
 
-pub placed : (a n v : ℕ) (ds : List ℕ) → all-digits ds ≡ true → a + n ≤ length ds → number-at a n ds ≡ v → Placed a n v ds
+pub number-stands : (a n v : ℕ) (ds : List ℕ) → all-digits ds ≡ true → a + n ≤ length ds → number-at a n ds ≡ v → Number-stands a n v ds
 unfolding number-at
-placed a n v ds e h q =
+number-stands a n v ds e h q =
     let bs = take n (drop a ds) in
     let l : length bs ≡ n = length-take-le n (drop a ds) (omega (arith, length-drop a ds)) in
     let d = all-digits-part a n ds e in

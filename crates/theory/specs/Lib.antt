@@ -67,6 +67,7 @@ pub mod Opened
 pub mod PlayedOut
 -- lines
 pub mod Digits
+pub mod Numerals
 pub mod Lines
 pub mod Reader
 pub mod Broken

@@ -1,190 +1,197 @@
--- Text lines: a line is read as a command with a payload exactly where it is their text; reader and writer undo each other.
+-- Text lines: a line is read as a command with a payload exactly where it is their text (lines-exact); reader and writer undo each other
+-- (written-read, read-written); 1 before 12 (write-refusals). Over any form; what is particular to a line stands first.
 use mathlib.Core.Path.{_≡_, refl, sym, ap, _∙_}
 use mathlib.Core.Logic.{inl, inr}
-use mathlib.Core.Bool.{true, false, _&&_, cond, false≢true}
-use mathlib.Core.List.{List, [], _∷_, _++_}
-use Prim.Native.Nat.{ℕ, suc, _+_, _-_, _%_, _^_, _≤_, _<_}
+use mathlib.Core.Bool.{Bool, true, false, _&&_, cond, false≢true}
+use mathlib.Core.List.{List, [], _∷_, _++_, append-assoc}
+use Prim.Native.Nat.{ℕ, zero, suc, _+_, _-_, _^_, _≤_, _<_}
 use native.Mathlib.Omega.{arith}
 use lib.Dec.{ltb, leb, eqb, eqb·suc-zero}
 use lib.ListN.{length, getD, take, drop, length-append, length-drop, take-append-drop, drop-of-length-le}
 use lib.Seq.{split-at, take-at, drop-at, getD-at, drop-append-le}
-use borrow.Author.Tests.{ltb-true, leb-true, eqb-true, lt-ltb, le-ltb, le-leb, ne-eqb}
-use Rattle.rules.specs.Limits.{slot-digits, wide-digits, most-payload}
+use borrow.Author.Tests.{leb-true, eqb-true, lt-ltb, le-ltb, le-leb, ne-eqb}
+use Rattle.rules.specs.Limits.{short-digits}
 use Rattle.rules.specs.Calls.{refused, amount, number-of}
-use Rattle.rules.specs.Lines.{digits, all-digits, number-at, Command, open-line, take-line, send-line, line-end, text, stands}
-use Rattle.rules.specs.Lines.{command, broken, body, read-digits, read, payload-at, place-of, payload-place, payload}
+use Rattle.rules.specs.Lines.{digits, all-digits, count-digits, numerals, fit-digits, number-at, numbers-at}
+use Rattle.rules.specs.Lines.{Form, forms, found, form-numbered, form-of, front-size, payload-fits, has-length}
+use Rattle.rules.specs.Lines.{Command, open-line, take-line, send-line, line-number, values-of, line-end, front, text, stands}
+use Rattle.rules.specs.Lines.{Reading, command, broken, body, command-of, read-digits, read, Place, place-of, payload-place, payload, payload-at}
 use Rattle.rules.specs.Lines.{write-refusal, write-answer, write-left}
 use Rattle.rules.specs.Demands.{Lines-exact, Written-read, Read-written, Write-refusals}
 use Rattle.theory.specs.Tests.{either, ltb?, eqb?, and?, and-true}
-use Rattle.theory.specs.Digits.{digits-are, all-digits-join, all-digits-split, number-placed, placed}
-
--- THE FRONT of a text: its digits before the payload, and how many they are
-unfoldable pub front : Command → List ℕ
-front (open-line l) = digits 2 0 ++ digits slot-digits l
-front (take-line d w) = digits 2 1 ++ digits slot-digits d ++ digits wide-digits w
-front send-line = digits 2 2
-
-unfoldable pub front-size : Command → ℕ
-front-size (open-line l) = 6
-front-size (take-line d w) = payload-at
-front-size send-line = 2
-
-pub length-front : (c : Command) → length (front c) ≡ front-size c
-unfolding front front-size digits
-length-front (open-line l) = refl
-length-front (take-line d w) = refl
-length-front send-line = refl
-
-pub front-digits : (c : Command) → all-digits (front c) ≡ true
-unfolding front
-front-digits (open-line l) = all-digits-join (digits 2 0) (digits slot-digits l) (digits-are 2 0) (digits-are slot-digits l)
-front-digits (take-line d w) =
-    let h = all-digits-join (digits 2 1) (digits slot-digits d) (digits-are 2 1) (digits-are slot-digits d) in
-    all-digits-join (digits 2 1 ++ digits slot-digits d) (digits wide-digits w) h (digits-are wide-digits w)
-front-digits send-line = digits-are 2 2
-
-pub text-front : (c : Command) (ps : List ℕ) → text c ps ≡ front c ++ ps ++ (line-end ∷ [])
-unfolding text front
-text-front (open-line l) ps = refl
-text-front (take-line d w) ps = refl
-text-front send-line ps = refl
-
-pub length-text : (c : Command) (ps : List ℕ) → length (text c ps) ≡ front-size c + length ps + 1
-length-text c ps = rw text-front (omega (arith, length-append (front c ++ ps) (line-end ∷ []), length-append (front c) ps, length-front c))
-
--- WHAT CAN STAND in a text, as facts
-unfoldable pub Stands : Command → (payload : List ℕ) → Type 0
-Stands (open-line l) ps = (l < 16 ^ slot-digits) × (length ps ≡ 0)
-Stands (take-line d w) ps =
-    (d < 16 ^ slot-digits) × (w < 16 ^ wide-digits) × (all-digits ps ≡ true) × (length ps % 2 ≡ 0) × (length ps ≤ most-payload)
-Stands send-line ps = length ps ≡ 0
-
-pub from-stands : (c : Command) (ps : List ℕ) → stands c ps ≡ true → Stands c ps
-unfolding stands Stands
-from-stands (open-line l) ps e =
-    let h = and-true (ltb l (16 ^ slot-digits)) (eqb (length ps) 0) e in
-    (ltb-true l (16 ^ slot-digits) (h .0), eqb-true (length ps) 0 (h .1))
-from-stands (take-line d w) ps e =
-    let long = eqb (length ps % 2) 0 && leb (length ps) most-payload in
-    let h = and-true (ltb d (16 ^ slot-digits) && ltb w (16 ^ wide-digits)) (all-digits ps && long) e in
-    let n = and-true (ltb d (16 ^ slot-digits)) (ltb w (16 ^ wide-digits)) (h .0) in
-    let p = and-true (all-digits ps) long (h .1) in
-    let q = and-true (eqb (length ps % 2) 0) (leb (length ps) most-payload) (p .1) in (
-      ltb-true d (16 ^ slot-digits) (n .0),
-      ltb-true w (16 ^ wide-digits) (n .1),
-      p .0,
-      eqb-true (length ps % 2) 0 (q .0),
-      leb-true (length ps) most-payload (q .1),
-    )
-from-stands send-line ps e = eqb-true (length ps) 0 e
-
-pub to-stands : (c : Command) (ps : List ℕ) → Stands c ps → stands c ps ≡ true
-unfolding stands Stands
-to-stands (open-line l) ps h = rw (lt-ltb l (16 ^ slot-digits) (h .0), h .1)
-to-stands (take-line d w) ps h =
-    rw (lt-ltb d (16 ^ slot-digits) (h .0), lt-ltb w (16 ^ wide-digits) (h .1), h .2, h .3, le-leb (length ps) most-payload (h .4))
-to-stands send-line ps h = rw h
-
-no-digits : (ps : List ℕ) → length ps ≡ 0 → all-digits ps ≡ true
-unfolding all-digits
-no-digits [] e = refl
-no-digits (p ∷ ps) e = absurd (omega arith)
-
-pub payload-digits : (c : Command) (ps : List ℕ) → Stands c ps → all-digits ps ≡ true
-unfolding Stands
-payload-digits (open-line l) ps h = no-digits ps (h .1)
-payload-digits (take-line d w) ps h = h .2
-payload-digits send-line ps h = no-digits ps h
-
--- WHAT THE READER ASKS of digits, as facts
-unfoldable pub Reads : Command → (digits : List ℕ) → Type 0
-Reads (open-line l) ds = (length ds ≡ 6) × (number-at 0 2 ds ≡ 0) × (number-at 2 slot-digits ds ≡ l)
-Reads (take-line d w) ds =
-    (payload-at ≤ length ds) × (length ds ≤ payload-at + most-payload) × (length ds % 2 ≡ 0)
-    × (number-at 0 2 ds ≡ 1) × (number-at 2 slot-digits ds ≡ d) × (number-at 6 wide-digits ds ≡ w)
-Reads send-line ds = (length ds ≡ 2) × (number-at 0 2 ds ≡ 2)
-
-pub to-command : (c : Command) (ds : List ℕ) → Reads c ds → read-digits ds ≡ command c
-unfolding Reads read-digits
-to-command (open-line l) ds h = rw (h .0, h .1, h .2)
-to-command (take-line d w) ds h =
-    let n : eqb (length ds) 6 ≡ false = ne-eqb (length ds) 6 (λ e. omega (arith, e, h .0)) in
-    rw (n, le-leb payload-at (length ds) (h .0), le-leb (length ds) (payload-at + most-payload) (h .1), h .2, h .3, h .4, h .5)
-to-command send-line ds h = rw (h .0, h .1)
+use Rattle.theory.specs.Digits.{length-digits, digits-are, all-digits-join, all-digits-split, number-placed, number-stands}
+use Rattle.theory.specs.Numerals.{length-numbers, length-fit, length-numerals, numerals-digits, got-from, got-all, numbers-read, numbers-stand}
 
 pub not-broken : (c : Command) → broken ≡ command c → ⊥
 not-broken c e = let z : _≡_ {A = ℕ} 0 1 = cc in omega arith
 
+told : (c o : Command) {k : ℕ} {vs : List ℕ} → line-number o ≡ k → values-of o ≡ vs → command o ≡ command c → (line-number c ≡ k) × (values-of c ≡ vs)
+told c o n v e = let q : c ≡ o = cc in (ap line-number q ∙ n, ap values-of q ∙ v)
+
+-- FORMS, line by line: a line's number fits its digits; a command comes back from its number and values, and they from it; no front is
+-- longer than the one of line 01, and that is where a payload begins
+pub number-fits : (c : Command) → line-number c < 16 ^ short-digits
+unfolding line-number
+number-fits (open-line l) = omega arith
+number-fits (take-line d w) = omega arith
+number-fits send-line = omega arith
+
+pub command-back : (c : Command) → command-of (line-number c) (values-of c) ≡ command c
+unfolding line-number values-of command-of
+command-back (open-line l) = refl
+command-back (take-line d w) = refl
+command-back send-line = refl
+
+pub no-line : (k : ℕ) (vs : List ℕ) → (k ≡ 0 → ⊥) → (k ≡ 1 → ⊥) → (k ≡ 2 → ⊥) → command-of k vs ≡ broken
+unfolding command-of
+no-line k vs f g h = rw (ne-eqb k 0 f, ne-eqb k 1 g, ne-eqb k 2 h)
+
+pub command-made : (k : ℕ) (vs : List ℕ) (c : Command) → length vs ≡ length (form-numbered k .widths) → command-of k vs ≡ command c →
+    (line-number c ≡ k) × (values-of c ≡ vs)
+unfolding forms found line-number values-of command-of got-from
+command-made zero vs c l e = told c (open-line (getD vs 0 0)) refl (got-all 0 1 vs (sym l)) e
+command-made (suc zero) vs c l e = told c (take-line (getD vs 0 0) (getD vs 1 0)) refl (got-all 0 2 vs (sym l)) e
+command-made (suc (suc zero)) vs c l e = told c send-line refl (got-all 0 0 vs (sym l)) e
+command-made (suc (suc (suc k))) vs c l e =
+    absurd (not-broken c (sym (no-line (suc (suc (suc k))) vs (λ q. omega arith) (λ q. omega arith) (λ q. omega arith)) ∙ e))
+
+pub front-small : (c : Command) → front-size (form-of c) ≤ payload-at
+unfolding count-digits forms found front-size line-number
+front-small (open-line l) = omega arith
+front-small (take-line d w) = omega arith
+front-small send-line = omega arith
+
+pub payload-start : (c : Command) → form-of c .payload ≡ true → front-size (form-of c) ≡ payload-at
+unfolding count-digits forms found front-size line-number
+payload-start (open-line l) e = absurd (false≢true e)
+payload-start (take-line d w) e = refl
+payload-start send-line e = absurd (false≢true e)
+
+-- A FRONT: how many digits it has, and that they are digits
+pub length-front : (c : Command) → fit-digits (form-of c .widths) (values-of c) ≡ true → length (front c) ≡ front-size (form-of c)
+unfolding front front-size
+length-front c e =
+    let ns = form-of c .widths in
+    let vs = values-of c in
+    omega (
+      arith,
+      length-append (digits short-digits (line-number c)) (numerals ns vs),
+      length-digits short-digits (line-number c),
+      length-numerals ns vs (length-fit ns vs e),
+    )
+
+pub front-digits : (c : Command) → all-digits (front c) ≡ true
+unfolding front
+front-digits c =
+    let ns = numerals (form-of c .widths) (values-of c) in
+    all-digits-join (digits short-digits (line-number c)) ns (digits-are short-digits (line-number c))
+    (numerals-digits (form-of c .widths) (values-of c))
+
+pub text-front : (c : Command) (ps : List ℕ) → text c ps ≡ front c ++ ps ++ (line-end ∷ [])
+unfolding text
+text-front c ps = refl
+
+-- WHAT STANDS: numbers that fit their digits, payload digits, and as many as may be
+pub record Stands (c : Command) (ps : List ℕ) : Type 0 where
+  pub fit : fit-digits (form-of c .widths) (values-of c) ≡ true
+  pub clean : all-digits ps ≡ true
+  pub long : payload-fits (form-of c .payload) (length ps) ≡ true
+
+pub from-stands : (c : Command) (ps : List ℕ) → stands c ps ≡ true → Stands c ps
+unfolding stands
+from-stands c ps e =
+    let fits = payload-fits (form-of c .payload) (length ps) in
+    let a = and-true (fit-digits (form-of c .widths) (values-of c)) (all-digits ps && fits) e in
+    let b = and-true (all-digits ps) fits (a .1) in
+    record { fit = a .0; clean = b .0; long = b .1 }
+
+pub to-stands : (c : Command) (ps : List ℕ) → Stands c ps → stands c ps ≡ true
+unfolding stands
+to-stands c ps h = rw (h .fit, h .clean, h .long)
+
+pub length-text : (c : Command) (ps : List ℕ) → stands c ps ≡ true → length (text c ps) ≡ front-size (form-of c) + length ps + 1
+length-text c ps e =
+    rw text-front
+    (omega (arith, length-append (front c ++ ps) (line-end ∷ []), length-append (front c) ps, length-front c (from-stands c ps e .fit)))
+
+-- WHAT IS READ: the line's number, a length that its form has, and its values
+pub record Reads (c : Command) (ds : List ℕ) : Type 0 where
+  pub number : number-at 0 short-digits ds ≡ line-number c
+  pub long : has-length (form-of c) (length ds) ≡ true
+  pub values : numbers-at short-digits (form-of c .widths) ds ≡ values-of c
+
+pub to-command : (c : Command) (ds : List ℕ) → Reads c ds → read-digits ds ≡ command c
+unfolding read-digits
+to-command c ds h = rw (h .number, h .long, h .values) (command-back c)
+
 pub from-command : (c : Command) (ds : List ℕ) → read-digits ds ≡ command c → Reads c ds
-unfolding read-digits Reads
+unfolding read-digits
 from-command c ds e =
-    let n = length ds in
-    let k = number-at 0 2 ds in
-    let s = number-at 2 slot-digits ds in
-    let w = number-at 6 wide-digits ds in
-    elim (and? (eqb n 6) (eqb k 0)) [
-      | inl a ↦ told (open-line s) (eqb-true n 6 (a .0), eqb-true k 0 (a .1), refl) (rw (a .0, a .1) at e)
-      | inr a ↦
-          elim (and? (leb payload-at n && leb n (payload-at + most-payload)) (eqb (n % 2) 0 && eqb k 1)) [
-            | inl b ↦
-                let p = and-true (leb payload-at n) (leb n (payload-at + most-payload)) (b .0) in
-                let q = and-true (eqb (n % 2) 0) (eqb k 1) (b .1) in
-                told (take-line s w)
-                (leb-true payload-at n (p .0), leb-true n (payload-at + most-payload) (p .1), eqb-true (n % 2) 0 (q .0), eqb-true k 1 (q .1), refl, refl)
-                (rw (a, b .0, b .1) at e)
-            | inr b ↦
-                elim (and? (eqb n 2) (eqb k 2)) [
-                  | inl f ↦ told send-line (eqb-true n 2 (f .0), eqb-true k 2 (f .1)) (rw (a, b, f .0, f .1) at e)
-                  | inr f ↦ absurd (not-broken c (rw (a, b, f) at e))
-                ]
-          ]
+    let k = number-at 0 short-digits ds in
+    let f = form-numbered k in
+    let vs = numbers-at short-digits (f .widths) ds in
+    elim (either (has-length f (length ds))) [
+      | inl a ↦
+          let m = command-made k vs c (length-numbers short-digits (f .widths) ds) (rw a at e) in
+          record { number = sym (m .0); long = rw (m .0) a; values = rw (m .0) (sym (m .1)) }
+      | inr a ↦ absurd (not-broken c (rw a at e))
     ]
-  where
-    told : (o : Command) → Reads o ds → command o ≡ command c → Reads c ds
-    told o h f = let q : o ≡ c = cc in rw q at h
+
+-- a length that a form has
+pub record Long (f : Form) (n : ℕ) : Type 0 where
+  pub front : front-size f ≤ n
+  pub payload : payload-fits (f .payload) (n - front-size f) ≡ true
+
+pub from-long : (f : Form) (n : ℕ) → has-length f n ≡ true → Long f n
+unfolding has-length
+from-long f n e =
+    let h = and-true (leb (front-size f) n) (payload-fits (f .payload) (n - front-size f)) e in
+    record { front = leb-true (front-size f) n (h .0); payload = h .1 }
+
+pub to-long : (f : Form) (n : ℕ) → Long f n → has-length f n ≡ true
+unfolding has-length
+to-long f n h = rw (le-leb (front-size f) n (h .front), h .payload)
 
 -- DIGITS THAT ARE READ are a front and a payload that can stand, and the other way round
 pub record Parted (c : Command) (ds : List ℕ) : Type 0 where
-  pub parts : ds ≡ front c ++ drop (front-size c) ds
-  pub stand : Stands c (drop (front-size c) ds)
+  pub parts : ds ≡ front c ++ drop (front-size (form-of c)) ds
+  pub stand : Stands c (drop (front-size (form-of c)) ds)
 
 pub reads-parted : (c : Command) (ds : List ℕ) → all-digits ds ≡ true → Reads c ds → Parted c ds
-unfolding Reads Stands front front-size digits
-reads-parted (open-line l) ds e h =
-    let k = placed 0 2 0 ds e (omega arith) (h .1) in
-    let s = placed 2 slot-digits l ds e (omega arith) (h .2) in
+unfolding front front-size
+reads-parted c ds e h =
+    let f = form-of c in
+    let m = front-size f in
+    let l = from-long f (length ds) (h .long) in
+    let k = number-stands 0 short-digits (line-number c) ds e (omega (arith, l .front)) (h .number) in
+    let s = numbers-stand (f .widths) short-digits ds e (l .front) in
+    let rest = numerals (f .widths) (values-of c) in
     record {
-      parts = k .stand ∙ ap (λ (bs : List ℕ). digits 2 0 ++ bs) (s .stand);
-      stand = (s .fits, omega (arith, length-drop 6 ds));
+      parts = k .stand ∙ ap (λ (bs : List ℕ). digits short-digits (line-number c) ++ bs) (rw (h .values) at (s .stand))
+          ∙ sym (append-assoc (digits short-digits (line-number c)) rest (drop m ds));
+      stand = record {
+        fit = rw (h .values) at (s .fit);
+        clean = all-digits-split (take m ds) (drop m ds) (rw take-append-drop e) .1;
+        long = ap (payload-fits (f .payload)) (length-drop m ds) ∙ l .payload;
+      };
     }
-reads-parted (take-line d w) ds e h =
-    let k = placed 0 2 1 ds e (omega arith) (h .3) in
-    let s = placed 2 slot-digits d ds e (omega arith) (h .4) in
-    let t = placed 6 wide-digits w ds e (omega arith) (h .5) in
-    let n = length-drop payload-at ds in
-    let p = all-digits-split (take payload-at ds) (drop payload-at ds) (rw take-append-drop e) in
-    record {
-      parts = k .stand ∙ ap (λ (bs : List ℕ). digits 2 1 ++ bs) (s .stand ∙ ap (λ (bs : List ℕ). digits slot-digits d ++ bs) (t .stand));
-      stand = (s .fits, t .fits, p .1, omega arith, omega arith);
-    }
-reads-parted send-line ds e h =
-    record { parts = placed 0 2 2 ds e (omega arith) (h .1) .stand; stand = omega (arith, length-drop 2 ds) }
 
 pub stands-reads : (c : Command) (ps : List ℕ) → Stands c ps → Reads c (front c ++ ps)
-unfolding Reads Stands front digits
-stands-reads (open-line l) ps h =
-    let ds = front (open-line l) ++ ps in
-    (omega arith, number-placed 0 2 0 ds refl (omega arith), number-placed 2 slot-digits l ds refl (h .0))
-stands-reads (take-line d w) ps h =
-    let ds = front (take-line d w) ++ ps in (
-      omega arith,
-      omega arith,
-      omega arith,
-      number-placed 0 2 1 ds refl (omega arith),
-      number-placed 2 slot-digits d ds refl (h .0),
-      number-placed 6 wide-digits w ds refl (h .1),
-    )
-stands-reads send-line ps h = (omega arith, number-placed 0 2 2 (front send-line ++ ps) refl (omega arith))
+unfolding front
+stands-reads c ps h =
+    let f = form-of c in
+    let k = line-number c in
+    let ns = numerals (f .widths) (values-of c) in
+    let ds = (digits short-digits k ++ ns) ++ ps in
+    let l : length ds ≡ front-size f + length ps = length-append (front c) ps ∙ ap (λ (n : ℕ). n + length ps) (length-front c (h .fit)) in
+    let d : ds ≡ digits short-digits k ++ (ns ++ ps) = append-assoc (digits short-digits k) ns ps in
+    let g : drop short-digits ds ≡ ns ++ ps = ap (drop short-digits) d ∙ drop-at (digits short-digits k) (ns ++ ps) short-digits (length-digits short-digits k) in
+    let p : length ds - front-size f ≡ length ps = omega arith in
+    record {
+      number = number-placed 0 short-digits k ds (d ∙ ap (λ (bs : List ℕ). digits short-digits k ++ bs) (sym g)) (number-fits c);
+      long = to-long f (length ds) record { front = omega arith; payload = rw p (h .long) };
+      values = numbers-read (f .widths) (values-of c) short-digits ds ps (h .fit) g;
+    }
 
 -- A LINE THAT IS READ is digits and the 0A
 pub body-ended : (ds : List ℕ) → body (ds ++ (line-end ∷ [])) ≡ ds
@@ -225,28 +232,63 @@ command-ended c line e =
       | inr a ↦ absurd (not-broken c (rw a at e))
     ]
 
--- its payload is what follows the front
+-- THE PAYLOAD'S PLACE behind the front, and its payload is what follows there
+abbrev pub place : (start end : ℕ) → Place
+place a b = record { start = a; end = b }
+
+both : (a b : Bool) → a ≡ true → b ≡ true → a && b ≡ true
+both true b e f = f
+both false b e f = e
+
+pub place-behind : (c : Command) (n : ℕ) → form-of c .payload ≡ true → suc (front-size (form-of c)) < n →
+    place-of (command c) n ≡ place (front-size (form-of c)) (n - 1)
+unfolding place-of
+place-behind c n p h = rw (both (form-of c .payload) (ltb (suc (front-size (form-of c))) n) p (lt-ltb (suc (front-size (form-of c))) n h))
+
+pub place-bare : (c : Command) (n : ℕ) → n ≤ suc (front-size (form-of c)) → place-of (command c) n ≡ place 0 0
+unfolding place-of
+place-bare c n h = bare (form-of c .payload) (ltb (suc (front-size (form-of c))) n) (le-ltb (suc (front-size (form-of c))) n h)
+  where
+    bare : (a b : Bool) → b ≡ false → cond (a && b) (place (front-size (form-of c)) (n - 1)) (place 0 0) ≡ place 0 0
+    bare true b e = rw e
+    bare false b e = refl
+
+-- a form whose line has payload digits may have some
+pub has-payload : (may : Bool) (n : ℕ) → payload-fits may n ≡ true → 1 ≤ n → may ≡ true
+unfolding payload-fits
+has-payload true n e h = refl
+has-payload false n e h = absurd (omega (arith, eqb-true n 0 e))
+
+part-at : (a b : ℕ) (line : List ℕ) → payload-place line ≡ place a b → payload line ≡ take (b - a) (drop a line)
+unfolding payload
+part-at a b line e = rw e
+
 pub payload-ended : (c : Command) (ds : List ℕ) → read (ds ++ (line-end ∷ [])) ≡ command c → Reads c ds →
-    payload (ds ++ (line-end ∷ [])) ≡ drop (front-size c) ds
-unfolding payload payload-place place-of front-size Reads
-payload-ended (open-line l) ds e h = rw e (sym (drop-of-length-le ds {i = 6} (omega arith)))
-payload-ended (take-line d w) ds e h =
-    let n = length (ds ++ (line-end ∷ [])) in
+    payload (ds ++ (line-end ∷ [])) ≡ drop (front-size (form-of c)) ds
+unfolding payload-place
+payload-ended c ds e h =
+    let line = ds ++ (line-end ∷ []) in
+    let n = length line in
+    let f = form-of c in
+    let m = front-size f in
     let l : n ≡ length ds + 1 = length-append ds (line-end ∷ []) in
-    let m : length (drop payload-at ds) ≡ n - 1 - payload-at = omega (arith, length-drop payload-at ds) in
-    elim (ltb? (suc payload-at) n) [
-      | inl a ↦
-          rw (e, a .0, drop-append-le payload-at ds (line-end ∷ []) (h .0)) (take-at (drop payload-at ds) (line-end ∷ []) (n - 1 - payload-at) m)
-      | inr a ↦ rw (e, a .0) (sym (drop-of-length-le ds {i = payload-at} (omega arith)))
+    let q = from-long f (length ds) (h .long) in
+    let t : length (drop m ds) ≡ n - 1 - m = omega (arith, length-drop m ds) in
+    let p : payload-place line ≡ place-of (command c) n = ap (λ (r : Reading). place-of r n) e in
+    elim (ltb? (suc m) n) [
+      | inl b ↦
+          part-at m (n - 1) line (p ∙ place-behind c n (has-payload (f .payload) (length ds - m) (q .payload) (omega arith)) (b .1))
+          ∙ ap (take (n - 1 - m)) (drop-append-le m ds (line-end ∷ []) (q .front))
+          ∙ take-at (drop m ds) (line-end ∷ []) (n - 1 - m) t
+      | inr b ↦ part-at 0 0 line (p ∙ place-bare c n (b .1)) ∙ sym (drop-of-length-le ds {i = m} (omega arith))
     ]
-payload-ended send-line ds e h = rw e (sym (drop-of-length-le ds {i = 2} (omega arith)))
 
 -- READER AND TEXT
 pub read-text : (c : Command) (line : List ℕ) → read line ≡ command c → (stands c (payload line) ≡ true) × (line ≡ text c (payload line))
 read-text c line e =
     let h = command-ended c line e in
     let ds = body line in
-    let ps = drop (front-size c) ds in
+    let ps = drop (front-size (form-of c)) ds in
     let g = reads-parted c ds (h .clean) (h .reads) in
     let p : payload line ≡ ps = ap payload (h .ends) ∙ payload-ended c ds (sym (ap read (h .ends)) ∙ e) (h .reads) in
     let t : line ≡ text c ps = h .ends ∙ ap (λ (bs : List ℕ). bs ++ (line-end ∷ [])) (g .parts) ∙ sym (text-front c ps) in
@@ -257,9 +299,9 @@ text-read c ps e =
     let h = from-stands c ps e in
     let ds = front c ++ ps in
     let g = stands-reads c ps h in
-    let a = all-digits-join (front c) ps (front-digits c) (payload-digits c ps h) in
+    let a = all-digits-join (front c) ps (front-digits c) (h .clean) in
     let r : read (ds ++ (line-end ∷ [])) ≡ command c = read-ended ds ∙ rw a (to-command c ds g) in
-    rw text-front (r, payload-ended c ds r g ∙ drop-at (front c) ps (front-size c) (length-front c))
+    rw text-front (r, payload-ended c ds r g ∙ drop-at (front c) ps (front-size (form-of c)) (length-front c (h .fit)))
 
 pub lines-exact : Lines-exact
 unfolding Lines-exact

@@ -1,16 +1,16 @@
 -- THE READER: refusal 1 just where a line is no command's text, and the payload's place: read-refusals, payload-places.
 use mathlib.Core.Path.{_≡_, refl, sym, ap, _∙_}
 use mathlib.Core.Logic.{_⊎_, inl, inr}
+use mathlib.Core.Bool.{true}
 use mathlib.Core.List.{List, []}
-use Prim.Native.Nat.{ℕ, suc, _+_, _≤_}
+use Prim.Native.Nat.{ℕ, _+_, _≤_}
 use native.Mathlib.Omega.{arith}
-use borrow.Author.Tests.{lt-ltb, le-ltb}
 use lib.ListN.{length}
-use Rattle.rules.specs.Lines.{Command, open-line, take-line, send-line, text, Reading, command, broken, reading-refusal, read, read-refusal}
+use Rattle.rules.specs.Lines.{form-of, front-size, Command, text, stands, Reading, command, broken, reading-refusal, read, read-refusal}
 use Rattle.rules.specs.Lines.{payload-at, place-of, payload-place, payload}
 use Rattle.rules.specs.Conditions.{No-command, read-given}
 use Rattle.rules.specs.Demands.{Place-is, Read-refusals, Payload-places}
-use Rattle.theory.specs.Lines.{front-size, length-text, Stands, from-stands, not-broken, read-text, text-read}
+use Rattle.theory.specs.Lines.{payload-start, length-text, Stands, from-stands, not-broken, has-payload, place-behind, place-bare, read-text, text-read}
 
 -- a line is read as a command, or is none's text
 abbrev pub Read-or-not : (line : List ℕ) → Reading → Type 0
@@ -35,23 +35,23 @@ pub place-broken : (line : List ℕ) → read line ≡ broken → Place-is (payl
 unfolding payload-place place-of
 place-broken line e = rw e (refl, refl)
 
-pub place-none : (c : Command) (n : ℕ) → n ≡ front-size c + 1 → Place-is (place-of (command c) n) 0 0
-unfolding place-of front-size
-place-none (open-line l) n e = (refl, refl)
-place-none (take-line d w) n e = rw (le-ltb (suc payload-at) n (omega arith)) (refl, refl)
-place-none send-line n e = (refl, refl)
+pub place-none : (c : Command) (n : ℕ) → n ≡ front-size (form-of c) + 1 → Place-is (place-of (command c) n) 0 0
+place-none c n e = rw (place-bare c n (omega arith)) (refl, refl)
 
-pub place-some : (c : Command) (ps : List ℕ) (n : ℕ) → Stands c ps → 1 ≤ length ps → n ≡ front-size c + length ps + 1 →
+pub place-some : (c : Command) (ps : List ℕ) (n : ℕ) → Stands c ps → 1 ≤ length ps → n ≡ front-size (form-of c) + length ps + 1 →
     Place-is (place-of (command c) n) payload-at (payload-at + length ps)
-unfolding place-of front-size Stands
-place-some (open-line l) ps n s h e = absurd (omega (arith, s .1))
-place-some (take-line d w) ps n s h e = rw (lt-ltb (suc payload-at) n (omega arith)) (refl, omega arith)
-place-some send-line ps n s h e = absurd (omega (arith, s))
+place-some c ps n s h e =
+    let p = has-payload (form-of c .payload) (length ps) (s .long) h in
+    let q = payload-start c p in
+    rw (place-behind c n p (omega arith)) (q, omega arith)
+
+length-bare : (c : Command) → stands c [] ≡ true → length (text c []) ≡ front-size (form-of c) + 1
+length-bare c s = omega (arith, length-text c [] s)
 
 pub payload-places : Payload-places
 unfolding Payload-places payload-place
 payload-places = (
   λ line f. elim (read? line) [ inl a ↦ absurd (a .2 f) | inr a ↦ place-broken line (a .0) ],
-  λ c s. rw (text-read c [] s .0) (place-none c (length (text c [])) (omega (arith, length-text c []))),
-  λ c ps s h. rw (text-read c ps s .0) (place-some c ps (length (text c ps)) (from-stands c ps s) h (length-text c ps)),
+  λ c s. rw (text-read c [] s .0) (place-none c (length (text c [])) (length-bare c s)),
+  λ c ps s h. rw (text-read c ps s .0) (place-some c ps (length (text c ps)) (from-stands c ps s) h (length-text c ps s)),
 )

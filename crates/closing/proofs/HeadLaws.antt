@@ -4,6 +4,7 @@ use mathlib.Core.List.{List}
 use Prim.Native.Nat.{ℕ, _≤_}
 use native.Mathlib.Omega.{arith}
 use lib.ListN.{length, drop}
+use Rattle.rules.specs.Limits.{head-size}
 use Rattle.rules.specs.Rows.{round}
 use Rattle.rules.specs.Conditions.{row-at, used-in}
 use Rattle.rules.specs.Table.{round-in, table-refusal}
@@ -20,7 +21,7 @@ module _ {t : List ℕ} {h : Head} (d : Head-of t h) where
 
   pub head-used : h .used ≡ length (round-in t .rows)
   unfolding round-in round
-  head-used = d .used ∙ sym (rows-count (used-in t) (drop 16 t))
+  head-used = d .used ∙ sym (rows-count (used-in t) (drop head-size t))
 
 -- so many rows fit a sound table
 pub table-room : (t : List ℕ) → table-refusal t ≡ 0 → {u : ℕ} → u ≡ length (round-in t .rows) → (u ≤ 1024) × (row-at u ≤ length t)

@@ -7,10 +7,12 @@ use Prim.Native.Nat.{ℕ, suc, _+_, _*_, _-_, _≤_, _<_}
 use lib.Dec.{leb, eqb}
 use lib.ListN.{length, drop, replicate}
 use lib.Seq.{paste}
+use Rattle.rules.specs.Limits.{row-size}
 use Rattle.rules.specs.Rows.{Round}
 use Rattle.rules.specs.Conditions.{row-at, ticket-in, due-in}
 use Rattle.rules.specs.Table.{table, round-in}
-use Rattle.theory.specs.Close.{closed, after-slot, head-bytes, Closing}
+use Rattle.theory.specs.Back.{head-of}
+use Rattle.theory.specs.Close.{closed, after-slot, Closing}
 
 -- whether the row of an index stays
 unfoldable pub stays-in : (slot gone : ℕ) → List ℕ → (row : ℕ) → Bool
@@ -19,7 +21,7 @@ stays-in s k t i = leb s (due-in t i) && not (eqb (ticket-in t i) k)
 -- ONE ROW: it is copied behind the n kept, which are one more then; or nothing changes
 abbrev pub Kept : (slot gone row kept : ℕ) → (t u : List ℕ) → (now-kept : ℕ) → Type 0
 Kept s k i n t u m =
-    ((stays-in s k t i ≡ true) × (m ≡ n + 1) × (u ≡ paste t (row-at n) (drop (row-at i) t) 24))
+    ((stays-in s k t i ≡ true) × (m ≡ n + 1) × (u ≡ paste t (row-at n) (drop (row-at i) t) row-size))
     ⊎ ((stays-in s k t i ≡ false) × (m ≡ n) × (u ≡ t))
 
 -- the first n rows all stay
@@ -30,7 +32,7 @@ pub record Front (slot gone used : ℕ) (t : List ℕ) (n : ℕ) : Type 0 where
 -- ROWS CLOSED UP among the first i of a sound table t, in w
 abbrev pub Closing-in : (slot gone : ℕ) → (r : Round) → (i : ℕ) → List ℕ → Type 0
 Closing-in s k r i w =
-    Closing s k (head-bytes (r .slot) (r .last) (r .next) (length (r .rows))) (r .rows) (replicate (24 * (r .room - length (r .rows))) 0) i w
+    Closing s k (head-of r) (r .rows) (replicate (row-size * (r .room - length (r .rows))) 0) i w
 
 pub record Closed-rows (slot gone : ℕ) (t w : List ℕ) (n : ℕ) : Type 0 where
   pub rows : Closing-in slot gone (round-in t) (length (round-in t .rows)) w

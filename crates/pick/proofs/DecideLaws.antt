@@ -75,7 +75,7 @@ module _ (r : Round) (fs : List ℕ) (x : Reach) (s : Scene r fs x) where
         within = record {
           near = omega (arith, h, n);
           segment = g;
-          from = fine-at r fs x s i (w .below) .0;
+          from = fine-at r fs x s i (w .below) .due-from;
           by = omega (arith, before-place r fs x s i e (w .below) n (w .before), h);
         };
       }
@@ -122,7 +122,7 @@ module _ (r : Round) (fs : List ℕ) (x : Reach) (s : Scene r fs x) where
   far-goes k z n p = elim (far-led r fs x s k p .who) [
     | inl v ↦
         let y = some-row r (s .fine) (s .time) (with-flag r fs) (plan-rows r fs x s) (at r 0) (getD-in (r .rows) (blank 0) 0 n) in
-        absurd (omega (arith, v .2 (y .0) (y .1), z, of-rows-fine r (s .fine) (with-flag r fs) (plan-rows r fs x s) (y .0) (y .1) .0))
+        absurd (omega (arith, v .2 (y .0) (y .1), z, of-rows-fine r (s .fine) (with-flag r fs) (plan-rows r fs x s) (y .0) (y .1) .due-from))
     | inr v ↦
         let q : r .slot + x .free ≡ r .slot = omega (arith, z) in
         record {

@@ -229,7 +229,7 @@ module _ (r : Round) (fs : List ℕ) (x : Reach) (s : Scene r fs x) where
         weight-key r fs x s i k h e,
         weight-key r fs x s (p .row) (l .key) (p .below) (p .key),
         lesser-key (at r i .weight) (at r i .due) i (at r (p .row) .weight) (at r (p .row) .due) (p .row) (omega (arith, g, p .leads .from))
-            (omega (arith, u .1, s .cap))
+            (omega (arith, u .due-by, s .cap))
             (omega (arith, h, s .small)) (omega (arith, p .below, s .small)) (omega (arith, e, p .key, m)),
       )
 

@@ -63,11 +63,11 @@ look-takes r fs by i m w x d a e l =
 pub skip-late : (r : Round) (fs : List ℕ) (by i d : ℕ) → Due-at r i d → by < d → Due-by r fs by i → ⊥
 skip-late r fs by i d a h g = omega (arith, a .is, h, g .1)
 
-pub skip-out : (r : Round) (fs : List ℕ) (by i : ℕ) → i < length fs → (getD fs i 0 ≡ 1 → ⊥) → Due-by r fs by i → ⊥
-skip-out r fs by i h n g = true≢false (sym (g .0) ∙ flag-off fs i h n)
+pub skip-out : (r : Round) (fs : List ℕ) (by i : ℕ) → (getD fs i 0 ≡ 1 → ⊥) → i < length fs → Due-by r fs by i → ⊥
+skip-out r fs by i n h g = true≢false (sym (g .0) ∙ flag-off fs i h n)
 
-pub due-kept : (r : Round) (fs : List ℕ) (by i d : ℕ) → i < length fs → getD fs i 0 ≡ 1 → Due-at r i d → d ≤ by → Due-by r fs by i
-due-kept r fs by i d h o a l = (flag-on fs i h o, omega (arith, a .is, l))
+pub due-kept : (r : Round) (fs : List ℕ) (by i d : ℕ) → getD fs i 0 ≡ 1 → i < length fs → Due-at r i d → d ≤ by → Due-by r fs by i
+due-kept r fs by i d o h a l = (flag-on fs i h o, omega (arith, a .is, l))
 
 pub look-end : (r : Round) → Fine r → (fs : List ℕ) (by i m : ℕ) → i ≡ length (r .rows) → Looking r fs by i m → Least-by r fs by m
 look-end r f fs by i m e l =
@@ -78,7 +78,7 @@ look-end r f fs by i m e l =
             let q = chosen-index (blank 0) y (raised fs) (r .rows) k in
             let a = ap (λ (x : Row). x .weight) (q .3) in
             let b = all-in (Row-fine r) (at r (q .0)) (r .rows) (f .fine) (getD-in (r .rows) (blank 0) (q .0) (q .1)) in
-            let w : y .weight ≡ m = omega (arith, s, a, b .3, least y k d) in
+            let w : y .weight ≡ m = omega (arith, s, a, b .most, least y k d) in
             record { row = y; inside = k; due = d; least = λ z j h. omega (arith, w, least z j h); weight = w }
         | inr s ↦
             record {

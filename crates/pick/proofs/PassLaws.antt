@@ -199,7 +199,7 @@ module _ (r : Round) (fs cs ks ls : List ℕ) (x : Reach) (s : Scene r fs x) (w 
         let a : at r i .due ≤ d = omega (arith, before-place r fs x s i e (q .below) (p .near) (q .before), y, f) in
         let m = weight-key r fs x s i k2 (q .below) (q .key) in
         record {
-          most = omega (arith, m, fine-at r fs x s i (q .below) .3);
+          most = omega (arith, m, fine-at r fs x s i (q .below) .most);
           found = λ _ _ _. record {
             row = at r i;
             inside = own;

@@ -62,7 +62,7 @@ module _ (r : Round) (fs : List ℕ) (x : Reach) (s : Scene r fs x) where
   -- PLACES and due slots
   pub from-place : (i e : ℕ) → i < length (r .rows) → e ≤ place r i → r .slot + e ≤ at r i .due
   unfolding bucket
-  from-place i e h k = by-number (top-of r) k (fine-at i h .0)
+  from-place i e h k = by-number (top-of r) k (fine-at i h .due-from)
     where
       by-number : (top : ℕ) → e ≤ min (at r i .due - r .slot) top → r .slot ≤ at r i .due → r .slot + e ≤ at r i .due
       by-number top k f = omega arith
@@ -78,7 +78,7 @@ module _ (r : Round) (fs : List ℕ) (x : Reach) (s : Scene r fs x) where
 
   pub before-place : (i e : ℕ) → i < length (r .rows) → e ≤ x .free → place r i < e → at r i .due < r .slot + e
   unfolding bucket
-  before-place i e h k l = by-number (top-of r) l free-high past-top (fine-at i h .0) (fine-at i h .1)
+  before-place i e h k l = by-number (top-of r) l free-high past-top (fine-at i h .due-from) (fine-at i h .due-by)
     where
       by-number : (top : ℕ) → min (at r i .due - r .slot) top < e → x .free ≤ suc top → (x .free ≡ suc top → r .slot + top ≡ r .last) →
           r .slot ≤ at r i .due → at r i .due ≤ r .last → at r i .due < r .slot + e
@@ -96,15 +96,15 @@ module _ (r : Round) (fs : List ℕ) (x : Reach) (s : Scene r fs x) where
   -- KEYS
   pub key-some : (i : ℕ) → i < length (r .rows) → 1 ≤ key-at r i
   unfolding key
-  key-some i h = omega (arith, fine-at i h .2)
+  key-some i h = omega (arith, fine-at i h .some)
 
   pub key-most : (i : ℕ) → i < length (r .rows) → key-at r i ≤ 70368748371967
-  key-most i h = key-bound (at r i .weight) (at r i .due) i (fine-at i h .3)
+  key-most i h = key-bound (at r i .weight) (at r i .due) i (fine-at i h .most)
 
   pub weight-key : (i k : ℕ) → i < length (r .rows) → k ≡ key-at r i → k / 4194304 ≡ at r i .weight
   weight-key i k h e =
       ap (λ (v : ℕ). v / 4194304) e
-      ∙ key-weight (at r i .weight) (at r i .due) i (omega (arith, h, s .small)) (omega (arith, fine-at i h .1, s .cap))
+      ∙ key-weight (at r i .weight) (at r i .due) i (omega (arith, h, s .small)) (omega (arith, fine-at i h .due-by, s .cap))
 
   pub kept-some : (i : ℕ) → 1 ≤ kept-key r fs i → (getD (raised fs) i false ≡ true) × (kept-key r fs i ≡ key-at r i)
   kept-some i h = elim (either (getD (raised fs) i false)) [ inl e ↦ (e, rw e) | inr e ↦ absurd (omega (arith, rw e at h)) ]

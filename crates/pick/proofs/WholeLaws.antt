@@ -117,7 +117,7 @@ module _ (r : Round) (x : Reach) (s : Scene r (every r) x) where
         most = λ i l u v.
             omega (
               arith,
-              p .most i l (from-place r (every r) x s i e l u) (omega (arith, fine-at r (every r) x s i l .1)),
+              p .most i l (from-place r (every r) x s i e l u) (omega (arith, fine-at r (every r) x s i l .due-by)),
               kept-is r (every r) x s i (flag-all i l),
             );
         some = λ o.
@@ -227,9 +227,9 @@ module _ (r : Round) (x : Reach) (s : Scene r (every r) x) where
           let y = first-all .1 in
           let a = fine-at r (every r) x s i (y .below) in
           let some : 1 ≤ g .light =
-          omega (arith, a .3, w .light .most i (y .below) (omega arith) (omega (arith, f, before-place r (every r) x s i e (y .below) m (y .before)))) in
+          omega (arith, a .most, w .light .most i (y .below) (omega arith) (omega (arith, f, before-place r (every r) x s i e (y .below) m (y .before)))) in
           let q = w .light .some some in
-          (some, omega (arith, q .4, fine-at r (every r) x s (q .0) (q .1) .2))
+          (some, omega (arith, q .4, fine-at r (every r) x s (q .0) (q .1) .some))
 
       pub light-least : Least-by r (every r) (r .slot + (e - 1)) (16777217 - g .light)
       light-least =
@@ -242,8 +242,8 @@ module _ (r : Round) (x : Reach) (s : Scene r (every r) x) where
               inside = flag-in (blank 0) (raised (every r)) (r .rows) (q .0) (q .1) (flag-all (q .0) (q .1));
               due = omega (arith, q .3, f, h);
               least = each-chosen (λ v. v .due ≤ r .slot + (e - 1) → at r (q .0) .weight ≤ v .weight) (blank 0) (raised (every r)) (r .rows)
-                  (λ j l _ u. omega (arith, w .light .most j l (omega arith) (omega (arith, u, f, h)), q .4, a .3, fine-at r (every r) x s j l .3));
-              weight = omega (arith, q .4, a .3);
+                  (λ j l _ u. omega (arith, w .light .most j l (omega arith) (omega (arith, u, f, h)), q .4, a .most, fine-at r (every r) x s j l .most));
+              weight = omega (arith, q .4, a .most);
             };
           }
 
@@ -270,7 +270,7 @@ module _ (r : Round) (x : Reach) (s : Scene r (every r) x) where
         goes-due =
             ap (λ (v : ℕ). 4095 - v / 1024 % 4096) (goes .key)
             ∙ key-due (at r (goes .row) .weight) (at r (goes .row) .due) (goes .row) (omega (arith, goes .below, s .small))
-            (omega (arith, fine-at r (every r) x s (goes .row) (goes .below) .1, s .cap))
+            (omega (arith, fine-at r (every r) x s (goes .row) (goes .below) .due-by, s .cap))
 
         pub goes-leading : Leading r (with-flag r (every r)) (g .later) (goes .row)
         goes-leading =
@@ -281,7 +281,7 @@ module _ (r : Round) (x : Reach) (s : Scene r (every r) x) where
             × (e ≤ key-bucket t (g .later))
         goes-from t q =
             let a = fine-at r (every r) x s (goes .row) (goes .below) in
-            (omega (arith, goes-due, q, a .0), omega (arith, goes-due, q, a .0), omega (arith, goes-due, q, goes .leads .from))
+            (omega (arith, goes-due, q, a .due-from), omega (arith, goes-due, q, a .due-from), omega (arith, goes-due, q, goes .leads .from))
 
         goes-by : (n : ℕ) → n ≡ g .later → Leading r (with-flag r (every r)) n (goes .row)
         goes-by n q = subst (λ (v : ℕ). Leading r (with-flag r (every r)) v (goes .row)) (sym q) goes-leading

@@ -48,7 +48,7 @@ module _ (t : List ℕ) (h : Head) (x : Reach) (k : Ready t h) (w : Reaches (rou
       let n = known t h k in
       let u : j < h .used = omega (arith, l, n .used) in
       let f = at-fine t h k j u in
-      omega (arith, due-held t j (omega (arith, u, k .head .used)), slot-held t, k .head .used, n .used, f .0, f .1)
+      omega (arith, due-held t j (omega (arith, u, k .head .used)), slot-held t, k .head .used, n .used, f .due-from, f .due-by)
 
   counted-is : (e : ℕ) → D e ≡ sum (under (r .slot) (top-of r) e) (r .rows)
   unfolding under before

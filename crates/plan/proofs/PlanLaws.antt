@@ -192,7 +192,7 @@ module _ (t : List ℕ) (e : table-refusal t ≡ 0) (fs : List ℕ) (size : leng
           where
             due-by-last : (i : ℕ) → i < used-in t → X i .due ≤ round-in t .last
             due-by-last i u =
-                all-in (Row-fine (round-in t)) (X i) (round-in t .rows) (f .fine) (getD-in (round-in t .rows) z i (omega (arith, rows-held t))) .1
+                all-in (Row-fine (round-in t)) (X i) (round-in t .rows) (f .fine) (getD-in (round-in t .rows) z i (omega (arith, rows-held t))) .due-by
 
     left-out : Left-out (round-in t) rs (X j)
     left-out =

@@ -4,4 +4,3 @@ pub mod HeadLaws
 pub mod JudgeLaws
 pub mod WriteLaws
 pub mod TableLaws
-pub mod Asked

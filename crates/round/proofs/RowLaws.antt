@@ -8,7 +8,10 @@ use native.Mathlib.Numerals.{add-one}
 use lib.Dec.{ltb, leb, eqb}
 use lib.ListN.{length, getD, take, drop, length-drop}
 use lib.Seq.{drop-cons, drop-drop, take-all, getD-take, getD-drop}
-use Rattle.rules.specs.Table.{field}
+use Rattle.rules.specs.Limits.{head-size, row-size, wide-bytes}
+use Rattle.rules.specs.Rows.{row}
+use Rattle.rules.specs.Table.{field, every}
+use Rattle.rules.specs.Conditions.{row-at}
 use Rattle.theory.specs.Judge.{zeros, row-judged, rows-judged}
 use Rattle.theory.specs.Fields.{zeros-at}
 use Rattle.numbers.proofs.NumberLaws.{field-suc, field-zero}
@@ -26,7 +29,7 @@ overlap true false r z y h = refl
 overlap true true r z y h = rw (h refl .0, h refl .1)
 
 -- KIND AND ZEROS of a row
-pub row-end : (xs : List ℕ) → length xs ≡ 24 → leb (field 10 8 xs) 1 && leb (field 16 8 xs) 1 ≡ leb (field 10 1 xs) 1 && zeros (drop 11 xs)
+pub row-end : (xs : List ℕ) → length xs ≡ row-size → leb (field 10 8 xs) 1 && leb (field 16 8 xs) 1 ≡ leb (field 10 1 xs) 1 && zeros (drop 11 xs)
 unfolding zeros
 row-end xs h =
     let k : 10 < length xs = omega arith in
@@ -43,30 +46,44 @@ row-end xs h =
     at : zeros (take 7 (drop 11 xs)) ≡ true → (i : ℕ) → i < 7 → getD xs (11 + i) 0 ≡ 0
     at e i h = sym (getD-take 7 (drop 11 xs) i 0 h ∙ getD-drop 11 xs i 0) ∙ zeros-at (take 7 (drop 11 xs)) e i
 
-pub row-is : (s l n b : ℕ) (xs : List ℕ) → length xs ≡ 24 →
+-- THE JUDGE of a row, its tests in the groups of the code
+grouped : (a b c d e f g z : Bool) → ((a && b) && (c && d)) && ((e && f) && (g && z)) ≡ (a && (b && (c && (d && (e && (f && (g && true))))))) && z
+grouped false b c d e f g z = refl
+grouped true false c d e f g z = refl
+grouped true true false d e f g z = refl
+grouped true true true false e f g z = refl
+grouped true true true true false f g z = refl
+grouped true true true true true false g z = refl
+grouped true true true true true true false z = refl
+grouped true true true true true true true z = refl
+
+pub row-is : (s l n b : ℕ) (xs : List ℕ) → length xs ≡ row-size →
     ((ltb b (field 0 4 xs) && ltb (field 0 4 xs) n) && (leb s (field 4 2 xs) && leb (field 4 2 xs) l))
     && ((leb 1 (field 6 4 xs) && leb (field 6 4 xs) 16777216) && (leb (field 10 8 xs) 1 && leb (field 16 8 xs) 1))
     ≡ row-judged s l n b xs
-unfolding row-judged
-row-is s l n b xs h = rw (row-end xs h)
+unfolding row-judged every row
+row-is s l n b xs h =
+    rw (row-end xs h)
+    (grouped (ltb b (field 0 4 xs)) (ltb (field 0 4 xs) n) (leb s (field 4 2 xs)) (leb (field 4 2 xs) l) (leb 1 (field 6 4 xs))
+    (leb (field 6 4 xs) 16777216) (leb (field 10 1 xs) 1) (zeros (drop 11 xs)))
 
 -- ONE ROW MORE
 pub rows-step : (s l n b : ℕ) (t : List ℕ) (u i : ℕ) → i < u →
-    rows-judged (u - i) s l n b (drop (16 + 24 * i) t)
-    ≡ row-judged s l n b (take 24 (drop (16 + 24 * i) t)) && rows-judged (u - (i + 1)) s l n (field (16 + 24 * i) 4 t) (drop (16 + 24 * (i + 1)) t)
+    rows-judged (u - i) s l n b (drop (row-at i) t)
+    ≡ row-judged s l n b (take row-size (drop (row-at i) t)) && rows-judged (u - (i + 1)) s l n (field (row-at i) wide-bytes t) (drop (row-at (i + 1)) t)
 unfolding rows-judged field
 rows-step s l n b t u i h =
     let e : u - i ≡ suc (u - (i + 1)) = omega arith in
-    let f : 16 + 24 * (i + 1) ≡ 16 + 24 * i + 24 = omega arith in
-    rw (e, f, ← drop-drop 24 (16 + 24 * i) t)
+    let f : row-at (i + 1) ≡ row-at i + row-size = omega arith in
+    rw (e, f, ← drop-drop row-size (row-at i) t)
 
 -- what the judge said of row i goes in front of the rest
-pub rows-more : (s l n b : ℕ) (t : List ℕ) (u i a : ℕ) (x v w : Bool) → i < u → a ≡ 16 + 24 * i →
-    x ≡ row-judged s l n b (take (a + 24 - a) (drop a t)) → x ≡ v →
-    w ≡ rows-judged (u - i) s l n b (drop (16 + 24 * i) t) → w ≡ v && rows-judged (u - (i + 1)) s l n (field a 4 t) (drop (16 + 24 * (i + 1)) t)
+pub rows-more : (s l n b : ℕ) (t : List ℕ) (u i a : ℕ) (x v w : Bool) → i < u → a ≡ row-at i →
+    x ≡ row-judged s l n b (take (a + row-size - a) (drop a t)) → x ≡ v →
+    w ≡ rows-judged (u - i) s l n b (drop (row-at i) t) → w ≡ v && rows-judged (u - (i + 1)) s l n (field a wide-bytes t) (drop (row-at (i + 1)) t)
 rows-more s l n b t u i a x v w h e j k inv =
-    let f : a + 24 - a ≡ 24 = omega arith in
-    let g : row-judged s l n b (take 24 (drop (16 + 24 * i) t)) ≡ v = rw (← e, ← f) (sym j ∙ k) in
+    let f : a + row-size - a ≡ row-size = omega arith in
+    let g : row-judged s l n b (take row-size (drop (row-at i) t)) ≡ v = rw (← e, ← f) (sym j ∙ k) in
     inv ∙ rows-step s l n b t u i h ∙ rw (g, e)
 
 pub rows-none : (s l n b : ℕ) (bs : List ℕ) (u i : ℕ) → u ≤ i → rows-judged (u - i) s l n b bs ≡ true

@@ -4,6 +4,7 @@ ghost use Prim.Native.Nat.{_+_, _≤_};
 ghost use lib.ListN.{length, drop};
 ghost use lib.Seq.{sets};
 ghost use Rattle.rules.specs.Limits.{head-size, row-size, most-rows};
+ghost use Rattle.rules.specs.Rows.{framed};
 ghost use Rattle.rules.specs.Conditions.{row-at};
 ghost use Rattle.theory.specs.Judge.{row-judged, rows-judged};
 ghost use Rattle.round.specs.Numbers.{row-numbers};
@@ -61,13 +62,13 @@ pub fn rows_are_sound(table: &[u8], round: Round) -> bool
     true
 }
 
-// A row's numbers written; its zero bytes stay as they are.
-pub fn write_row(table: &mut [u8], at: usize, ticket: Ticket, due: Slot, weight: Weight, kind: u8)
+// The numbers of a frame's row written; its zero bytes stay as they are.
+pub fn write_row(table: &mut [u8], at: usize, ticket: Ticket, due: Slot, weight: Weight)
     requires { ⌜ at + row-size ≤ length (now table) ⌝ }
-    ensures { λ _. ⌜ now (table .exit) ≡ sets (now (table .entry)) at (row-numbers (ticket .0) (due .0) (weight .0) kind) ⌝ }
+    ensures { λ _. ⌜ now (table .exit) ≡ sets (now (table .entry)) at (row-numbers (ticket .0) (framed (due .0) (weight .0))) ⌝ }
 {
     write4(table, at + Round::TICKET_AT, ticket.0);
     write2(table, at + Round::DUE_AT, due.0);
     write4(table, at + Round::WEIGHT_AT, weight.0);
-    table[at + Round::KIND_AT] = kind;
+    table[at + Round::KIND_AT] = 0;
 }

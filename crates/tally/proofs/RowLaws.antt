@@ -79,9 +79,9 @@ due-read t h i a d k l e q =
     let n = known t h k in
     record {
       is = is;
-      from = omega (arith, is, f .0);
-      by = omega (arith, is, f .1);
-      small = omega (arith, is, f .1, n .cap);
+      from = omega (arith, is, f .due-from);
+      by = omega (arith, is, f .due-by);
+      small = omega (arith, is, f .due-by, n .cap);
     }
 
 pub weight-read : (t : List ℕ) (h : Head) (i a w : ℕ) → Ready t h → i < h .used → a ≡ row-at i → w ≡ field (a + 6) 4 t → Weight-at (round-in t) i w
@@ -90,4 +90,4 @@ weight-read t h i a w k l e q =
     let p = ap (λ (x : Row). x .weight) (at-is t h k i l) in
     let is : w ≡ at (round-in t) i .weight = q ∙ ap (λ (v : ℕ). field (v + 6) 4 t) e ∙ sym p in
     let f = at-fine t h k i l in
-    record { is = is; some = omega (arith, is, f .2); most = omega (arith, is, f .3) }
+    record { is = is; some = omega (arith, is, f .some); most = omega (arith, is, f .most) }

@@ -74,14 +74,25 @@ pub length-head : (t l n u : ℕ) (m : Head-tail) → length (head-bytes t l n u
 unfolding head-bytes put low
 length-head t l n u m = refl
 
+-- a round's own
+abbrev pub head-of : Round → List ℕ
+head-of r = head-bytes (r .slot) (r .last) (r .next) (length (r .rows)) (r .tail)
+
+pub length-head-of : (r : Round) → length (head-of r) ≡ head-size
+length-head-of r = length-head (r .slot) (r .last) (r .next) (length (r .rows)) (r .tail)
+
+pub table-is : (r : Round) → table r ≡ head-of r ++ (rows-bytes (r .rows) ++ replicate (row-size * (r .room - length (r .rows))) 0)
+unfolding table
+table-is r = refl
+
 pub length-table : (r : Round) → length (r .rows) ≤ r .room → length (table r) ≡ head-size + row-size * r .room
 unfolding table
 length-table r h =
     let zs = replicate (row-size * (r .room - length (r .rows))) zero-byte in
     omega (
       arith,
-      length-append (head-bytes (r .slot) (r .last) (r .next) (length (r .rows)) (r .tail)) (rows-bytes (r .rows) ++ zs),
-      length-head (r .slot) (r .last) (r .next) (length (r .rows)) (r .tail),
+      length-append (head-of r) (rows-bytes (r .rows) ++ zs),
+      length-head-of r,
       length-append (rows-bytes (r .rows)) zs,
       length-rows (r .rows),
       length-replicate (row-size * (r .room - length (r .rows))) zero-byte,
@@ -107,9 +118,7 @@ room-back r h = omega (arith, length-table r h)
 
 pub rest-is : (r : Round) → drop head-size (table r) ≡ rows-bytes (r .rows) ++ replicate (row-size * (r .room - length (r .rows))) 0
 unfolding table
-rest-is r =
-    drop-at (head-bytes (r .slot) (r .last) (r .next) (length (r .rows)) (r .tail)) _ head-size
-    (length-head (r .slot) (r .last) (r .next) (length (r .rows)) (r .tail))
+rest-is r = drop-at (head-of r) _ head-size (length-head-of r)
 
 module _ (r : Round) (f : Fine r) (z : Sized r) where
   head-got : got 0 head-widths (table r) ≡ head-values (r .slot) (r .last) (r .next) (length (r .rows)) (r .tail)

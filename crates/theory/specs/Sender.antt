@@ -1,5 +1,5 @@
 -- Sending on a sound table, what is answered and every byte left: send-accepted, answer-sent, left-sent, table-parts.
-use mathlib.Core.Path.{_≡_, sym}
+use mathlib.Core.Path.{_≡_, sym, _∙_}
 use mathlib.Core.Bool.{cond}
 use mathlib.Core.List.{List, _++_}
 use Prim.Native.Nat.{ℕ, _*_, _-_, _≤_}
@@ -10,8 +10,9 @@ use Rattle.rules.specs.Limits.{row-size}
 use Rattle.rules.specs.Rows.{Row}
 use Rattle.rules.specs.Plan.{plan, first-end, best}
 use Rattle.rules.specs.Steps.{sent, is-ordinary}
-use Rattle.rules.specs.Table.{head-bytes, rows-bytes, table, round-in, table-refusal}
+use Rattle.rules.specs.Table.{rows-bytes, table, round-in, table-refusal}
 use Rattle.rules.specs.Calls.{sending, acting, act, deed, first, table-first, round-refusal, step, ordinary, leap, out-of, says, leaves, refusal, answer, left}
+use Rattle.theory.specs.Back.{head-of, table-is}
 use Rattle.theory.specs.Sane.{sound}
 
 module _ (t : List ℕ) (s : table-refusal t ≡ 0) (o : round-in t .slot ≤ round-in t .last) where
@@ -32,7 +33,5 @@ module _ (t : List ℕ) (s : table-refusal t ≡ 0) (o : round-in t .slot ≤ ro
 
 -- the table's own parts
 pub table-parts : (t : List ℕ) → table-refusal t ≡ 0 →
-    t ≡ head-bytes (round-in t .slot) (round-in t .last) (round-in t .next) (length (round-in t .rows)) (round-in t .tail)
-    ++ (rows-bytes (round-in t .rows) ++ replicate (row-size * (round-in t .room - length (round-in t .rows))) 0)
-unfolding table
-table-parts t s = sym (sound t s .bytes)
+    t ≡ head-of (round-in t) ++ (rows-bytes (round-in t .rows) ++ replicate (row-size * (round-in t .room - length (round-in t .rows))) 0)
+table-parts t s = sym (sound t s .bytes) ∙ table-is (round-in t)

@@ -39,7 +39,9 @@ loop-less c = search needs
 
 loop-again : tie.Need-loop-again Inv-loop μ-loop
 loop-again c =
-    let pre = c .before .before .before .before .before .before .before .before .before .before .pre in
+    let s = c .before .before .before .before .before .before .before .before .before .before in
+    let args = s .args in
+    let pre = s .pre in
     let if2 = c .before .before .if2 in
     let due-at = c .before .before .before .before .before .due-at in
     let if1 = c .before .before .before .before .if1 in
@@ -48,7 +50,8 @@ loop-again c =
     let loop = c .before .before .before .before .before .before .before .loop in (
       search needs,
       look-takes _ _ _ _ _ _ _
-          (due-kept _ _ _ _ _ (omega (arith, known _ _ (pre .0) .used, pre .1 .long)) (if2 .taken) (due-at .ensures) (if1 .taken)) (weight-at .ensures)
+          (due-kept (round-in (args .table .now)) (args .flags .now) _ _ _ (if2 .taken) (omega (arith, known _ _ (pre .0) .used, pre .1 .long))
+          (due-at .ensures) (if1 .taken)) (weight-at .ensures)
           (smaller .ensures) (loop .inv .1),
     )
 
@@ -64,7 +67,7 @@ loop-again-2 c =
     let loop = c .before .before .before .before .before .loop in (
       search needs,
       look-skips _ _ _ _ _
-          (skip-out (round-in (args .table .now)) _ _ _ (omega (arith, known _ _ (pre .0) .used, pre .1 .long)) (if2 .left)) (loop .inv .1),
+          (skip-out (round-in (args .table .now)) (args .flags .now) _ _ (if2 .left) (omega (arith, known _ _ (pre .0) .used, pre .1 .long))) (loop .inv .1),
     )
 
 loop-less-3 : tie.Need-loop-less-3 Inv-loop μ-loop

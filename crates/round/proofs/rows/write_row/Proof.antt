@@ -35,7 +35,7 @@ same-length c = simp length-set (omega arith)
 
 returns : tie.Need-returns
 returns c =
-    row-stored _ _ _ _ _ _ _ _ _
+    row-stored _ _ _ _ _ _ _ _
     (c .before .before .before .before .before .before .before .before .before .before .write4 .ensures)
     (c .before .before .before .before .before .before .write2 .ensures)
     (c .before .before .write42 .ensures)

@@ -170,7 +170,7 @@ module _ {t : List ℕ} {h : Head} {fs : List ℕ} {x : Reach} {cs ks : List ℕ
       mk = getD ms to 0
 
       abbrev ys : List Row
-      ys = changed (y .ticket) (row (y .ticket) (y .due) mk (y .kind)) xs
+      ys = changed (y .ticket) (row (y .ticket) (y .due) mk (y .tail)) xs
 
       light : Lightest rs (r .slot + to) mk
       light =
@@ -210,7 +210,7 @@ module _ {t : List ℕ} {h : Head} {fs : List ℕ} {x : Reach} {cs ks : List ℕ
 
       swap-sends : Sends r (at r (p .row)) false (at r (p .row) .ticket) ys
       swap-sends =
-          subst (λ (v : ℕ). Sends r (at r (p .row)) false (at r (p .row) .ticket) (changed (y .ticket) (row (y .ticket) (y .due) v (y .kind)) xs))
+          subst (λ (v : ℕ). Sends r (at r (p .row)) false (at r (p .row) .ticket) (changed (y .ticket) (row (y .ticket) (y .due) v (y .tail)) xs))
           (light .weight)
           (sends-row r (sc .fine) (sc .time) rs the-rows zn near-z (at r (p .row)) (p .leading .leads) (r .slot + b) (r .slot + e) (p .within .near)
           (p .within .segment)
@@ -225,7 +225,7 @@ module _ {t : List ℕ} {h : Head} {fs : List ℕ} {x : Reach} {cs ks : List ℕ
           let z = sound t (k .sound) .sane in
           let g = p .within .segment in
           let w = of-rows-fine r (sc .fine) rs the-rows (light .row) (light .inside) in
-          fit-changed r xs (y .ticket) (row (y .ticket) (y .due) mk (y .kind))
+          fit-changed r xs (y .ticket) (row (y .ticket) (y .due) mk (y .tail))
           (fit-moves r z rs the-rows (r .slot + e) (r .slot + to) (s .links) (r .rows) (s .chain) (omega arith)
           (omega (arith, p .within .near, near-z .by)) (fit-self r z))
           refl (y-fine .0, y-fine .1, omega (arith, w .2, light .weight), omega (arith, w .3, light .weight)) (all-in Kind y (r .rows) (z .size .kinds) y-in)
@@ -238,7 +238,7 @@ module _ {t : List ℕ} {h : Head} {fs : List ℕ} {x : Reach} {cs ks : List ℕ
           ∙ ap (λ (n : ℕ). sets u (row-at j + 6) (low 4 n)) g
           ∙ ap₂ (λ (n : ℕ) (bs : List ℕ). sets bs (row-at n + 6) (low 4 mk)) (jo ∙ named-row k i oo (q .below) (q .key)) (s .bytes)
           ∙ sym (table-weight r xs 1 i (rising-moves r 1 (r .next) (r .slot + e) (s .links) (r .rows) (sc .fine .rising)) (omega (arith, q .below, xs-long)) mk)
-          ∙ ap (λ (z : Row). table (having r (changed (z .ticket) (row (z .ticket) (z .due) mk (z .kind)) xs))) y-there)
+          ∙ ap (λ (z : Row). table (having r (changed (z .ticket) (row (z .ticket) (z .due) mk (z .tail)) xs))) y-there)
 
       pub swap-says : {v l : List ℕ} {w : Went} {n a b : ℕ} → v ≡ sets u (row-at j + 6) (low 4 a) → a ≡ mk → n ≡ row-named o → Went-of (at r n) true w →
           l ≡ closed-up b v → b ≡ w .ticket .0 → Sent-says t l w

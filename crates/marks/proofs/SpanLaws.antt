@@ -37,7 +37,7 @@ module _ (r : Round) (f : Fine r) (rs : List Row) (c : Rows r rs) where
   -- no row is due past the last slot
   pub num-past : (e : ℕ) → suc (r .last) ≤ e → num 0 e rs ≡ num 0 (suc (r .last)) rs
   num-past e h =
-      num-early 0 (suc (r .last)) e h rs (all-of-in (λ x. 0 ≤ x .weight → x .due < suc (r .last)) rs (λ x i _. omega (arith, of-rows-fine r f rs c x i .1)))
+      num-early 0 (suc (r .last)) e h rs (all-of-in (λ x. 0 ≤ x .weight → x .due < suc (r .last)) rs (λ x i _. omega (arith, of-rows-fine r f rs c x i .due-by)))
 
   pub num-feas : (e : ℕ) → r .slot ≤ e → num 0 e rs ≤ e - r .slot
   num-feas e h = elim (leb? e (suc (r .last))) [

@@ -124,11 +124,11 @@ module _ (r : Round) (f : Fine r) (time : r .slot ≤ r .last) (small : length (
   fine-of j l = all-in (Row-fine r) (at r j) (r .rows) (f .fine) (getD-in (r .rows) (blank 0) j l)
 
   pub key-under : (j : ℕ) → j < length (r .rows) → key-at r j < 70368748371968
-  key-under j l = omega (arith, key-bound (at r j .weight) (at r j .due) j (fine-of j l .3))
+  key-under j l = omega (arith, key-bound (at r j .weight) (at r j .due) j (fine-of j l .most))
 
   pub key-over : (j : ℕ) → j < length (r .rows) → 1 ≤ key-at r j
   unfolding key
-  key-over j l = omega (arith, fine-of j l .2)
+  key-over j l = omega (arith, fine-of j l .some)
 
   pub flag-one : (j : ℕ) → j < length (r .rows) → getD (raised fs) j false ≡ true → getD fs j 0 ≡ 1
   flag-one j l e = elim (eqb? (getD fs j 0) 1) [
@@ -140,7 +140,7 @@ module _ (r : Round) (f : Fine r) (time : r .slot ≤ r .last) (small : length (
   flag-none j l e a = true≢false (sym (flag-on fs j (omega (arith, c .long, l)) a) ∙ e)
 
   pub here : Start r (plan r) (at r i .due) (segment-start r (plan r) (at r i .due))
-  here = start r (plan r) (at r i .due) (plan-feas r f) (f .time) (fine-of i h .0)
+  here = start r (plan r) (at r i .due) (plan-feas r f) (f .time) (fine-of i h .due-from)
 
   -- IN THE FIRST SEGMENT
   pub first-by : x .first ≡ r .slot → (at r i .due ≤ first-end r (plan r)) × (x .last ≡ first-end r (plan r))
@@ -148,7 +148,7 @@ module _ (r : Round) (f : Fine r) (time : r .slot ≤ r .last) (small : length (
   first-by e =
       let d = at r i .due in
       let n = next r (plan r) (r .slot) time (plan-full r f) in
-      let m = next r (plan r) d (fine-of i h .1) (plan-full r f) in
+      let m = next r (plan r) d (fine-of i h .due-by) (plan-full r f) in
       let a : d ≤ tight-after r (plan r) (r .slot) = elim (leb? d (tight-after r (plan r) (r .slot))) [
         | inl g ↦ g .1
         | inr g ↦ absurd (here .none (tight-after r (plan r) (r .slot)) (omega (arith, w .first, e, n .from)) (g .1) (n .tight))
@@ -158,7 +158,7 @@ module _ (r : Round) (f : Fine r) (time : r .slot ≤ r .last) (small : length (
           arith,
           w .last,
           next-by r (plan r) d (tight-after r (plan r) d) (tight-after r (plan r) (r .slot)) m a (n .tight),
-          next-by r (plan r) (r .slot) (tight-after r (plan r) (r .slot)) (tight-after r (plan r) d) n (omega (arith, m .from, fine-of i h .0)) (m .tight),
+          next-by r (plan r) (r .slot) (tight-after r (plan r) (r .slot)) (tight-after r (plan r) d) n (omega (arith, m .from, fine-of i h .due-from)) (m .tight),
         ),
       )
 

@@ -18,8 +18,8 @@ unfoldable pub taken : Round → Frame → Round
 taken r f = going-on (r .slot) (suc (r .next)) (r .rows ++ (taken-row (r .next) f ∷ [])) r
 
 -- a row at another due slot and weight; a row kept as a blank there
-abbrev pub moved-to : (due weight : ℕ) → Row → Row
-moved-to d w x = row (x .ticket) d w (x .tail)
+abbrev pub set-to : (due weight : ℕ) → Row → Row
+set-to d w x = row (x .ticket) d w (x .tail)
 
 abbrev pub kept-at : (due weight : ℕ) → Row → Row
 kept-at d w x = row (x .ticket) d w blank-tail
@@ -44,7 +44,7 @@ unfoldable pub shifted : (fuel : ℕ) → Round → (ps : List Row) → (e g : �
 shifted zero r ps e g xs = xs
 shifted (suc n) r ps e g xs =
     let h = heaviest-between e g ps (blank (suc g)) in
-    let moved = changed (h .ticket) (moved-to e (max (h .weight) (mark-in r ps e)) h) xs in
+    let moved = changed (h .ticket) (set-to e (max (h .weight) (mark-in r ps e)) h) xs in
     cond (ltb e g) (shifted n r ps (tight-after r ps (h .due)) g moved) xs
 
 -- step 3: r's weight becomes its mark; a blank becomes a kept blank in p's row where that is above 0
@@ -53,7 +53,7 @@ replaced r ps p s xs =
     let m = mark-in r ps (s .due) in
     cond (eqb (s .ticket) 0)
     (cond (ltb 0 m) (changed (p .ticket) (kept-at (s .due) m p) xs) (without (p .ticket) xs))
-    (without (p .ticket) (changed (s .ticket) (moved-to (s .due) m s) xs))
+    (without (p .ticket) (changed (s .ticket) (set-to (s .due) m s) xs))
 
 unfoldable pub leapt : Round → (ps : List Row) → (p : Row) → List Row
 leapt r ps p =

@@ -5,7 +5,7 @@ use mathlib.Core.List.{List, [], _∷_}
 use Prim.Native.Nat.{ℕ, suc, _≤_, _<_, max}
 use Rattle.rules.specs.Rows.{Row, Round, blank, Heavier, In}
 use Rattle.rules.specs.Plan.{plan, tight-after, first-end, mark, substitute, best}
-use Rattle.rules.specs.Steps.{moved-to, kept-at, sent}
+use Rattle.rules.specs.Steps.{set-to, kept-at, sent}
 use Rattle.rules.specs.Calls.{Out, silence, frame, kept-blank, ordinary, leap, step, acting, sending, says}
 
 -- document 01's p and r, here p and s, and where the segment of a row ends: the first tight slot at or after its due slot
@@ -70,10 +70,10 @@ Shifted (c ∷ cs) x e = (Is x (c .h) × (e ≡ c .e)) ⊎ Shifted cs x e
 
 -- A LEAP, its marks those before the slot: x shifted to e; x with its mark for weight; the kept blank in x's row
 abbrev pub shifted-to : Round → (e : ℕ) → Row → Row
-shifted-to r e x = moved-to e (max (x .weight) (mark r e)) x
+shifted-to r e x = set-to e (max (x .weight) (mark r e)) x
 
 abbrev pub at-mark : Round → Row → Row
-at-mark r x = moved-to (x .due) (mark r (x .due)) x
+at-mark r x = set-to (x .due) (mark r (x .due)) x
 
 abbrev pub kept-in : Round → Row → Row
 kept-in r x = kept-at (stands-in r .due) (mark r (stands-in r .due)) x

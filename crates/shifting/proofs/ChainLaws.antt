@@ -104,7 +104,7 @@ module _ (r : Round) (fs : List ℕ) (x : Reach) (z : Scene r fs x) (to : ℕ) (
       ∙ ap₂ (λ (j v : ℕ). sets t (row-at j + 4) (low 2 d ++ low 4 (max v m))) (named-row k i (w .below) (w .key)) (weight-key r fs x z i k (w .below) (w .key))
       ∙ ap (λ (bs : List ℕ). sets bs (row-at i + 4) (low 2 d ++ low 4 (max (at r i .weight) m))) (l .bytes)
       ∙ sym shift
-      ∙ ap₂ (λ (y : Row) (v : ℕ). table (having r (changed (y .ticket) (row (y .ticket) d (max (at r i .weight) v) (y .kind)) xs))) same (sym q)
+      ∙ ap₂ (λ (y : Row) (v : ℕ). table (having r (changed (y .ticket) (row (y .ticket) d (max (at r i .weight) v) (y .tail)) xs))) same (sym q)
       ∙ ap (λ (ys : List Row). table (having r ys))
       (moves-changed r (at r i .ticket) (moved-to r d (at r i)) (moved-ticket r d (at r i)) e1 (l .links) (r .rows) o)
 

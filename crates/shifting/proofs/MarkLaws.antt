@@ -172,7 +172,7 @@ module _ (r : Round) (f : Fine r) (fs : List ℕ) (c : Chosen r fs) (l : ℕ) (m
   row-fine i h = all-in (Row-fine r) (at r i) (r .rows) (f .fine) (getD-in (r .rows) (blank 0) i h)
 
   bucket-most : (s : ℕ) → s ≤ l → getD ms s 0 ≤ most-weight
-  bucket-most s h = elim (o .some s h) [ inl e ↦ omega (arith, e) | inr g ↦ omega (arith, g .is, row-fine (g .row) (g .below) .3) ]
+  bucket-most s h = elim (o .some s h) [ inl e ↦ omega (arith, e) | inr g ↦ omega (arith, g .is, row-fine (g .row) (g .below) .most) ]
 
   mark-found : (s : ℕ) → s ≤ l → (y : Row) → In y (with-flag r fs) → y .due ≤ r .slot + s → Lightest (with-flag r fs) (r .slot + s) (getD us s 0)
   mark-found s h y i d =
@@ -190,7 +190,7 @@ module _ (r : Round) (f : Fine r) (fs : List ℕ) (c : Chosen r fs) (l : ℕ) (m
         | inr g ↦ record {
           row = at r (g .row);
           inside = flag-in (blank 0) (raised fs) (r .rows) (g .row) (g .below) (g .flag);
-          due = omega (arith, g .place, m .1, row-fine (g .row) (g .below) .0);
+          due = omega (arith, g .place, m .1, row-fine (g .row) (g .below) .due-from);
           least = λ x j k. omega (arith, below-all x j k, e, g .is);
           weight = g .is ∙ sym e;
         }
@@ -210,7 +210,7 @@ module _ (r : Round) (f : Fine r) (fs : List ℕ) (c : Chosen r fs) (l : ℕ) (m
 
       most-of : (x : Row) → In x (with-flag r fs) → x .weight ≤ most-weight
       most-of x j =
-          let q = chosen-index (blank 0) x (raised fs) (r .rows) j in omega (arith, row-fine (q .0) (q .1) .3, ap (λ (z : Row). z .weight) (q .3))
+          let q = chosen-index (blank 0) x (raised fs) (r .rows) j in omega (arith, row-fine (q .0) (q .1) .most, ap (λ (z : Row). z .weight) (q .3))
 
   pub marks-made : Marks r fs l us
   marks-made =

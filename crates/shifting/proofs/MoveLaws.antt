@@ -8,18 +8,18 @@ use lib.Dec.{eqb}
 use borrow.Author.Tests.{ne-eqb}
 use lib.ListN.{length, getD, replicate}
 use lib.Seq.{sets}
+use Rattle.rules.specs.Limits.{head-size, row-size, due-at, weight-at, slot-bytes, wide-bytes}
 use Rattle.rules.specs.Rows.{Row, Round, round, row, blank, All}
 use Rattle.rules.specs.Plan.{plan, tight-after}
-use Rattle.rules.specs.Steps.{changed}
+use Rattle.rules.specs.Steps.{set-to, kept-at, changed}
 use Rattle.rules.specs.Conditions.{row-at}
-use Rattle.rules.specs.Table.{low, rows-bytes, table}
+use Rattle.rules.specs.Table.{low, head-bytes, rows-bytes, table}
 use Rattle.theory.specs.Tests.{eqb?}
 use Rattle.theory.specs.Full.{Fine, Rising}
-use Rattle.theory.specs.Back.{length-changed, length-table}
+use Rattle.theory.specs.Back.{length-changed, length-head, table-is, length-table}
 use Rattle.theory.specs.Members.{Rows}
 use Rattle.theory.specs.Chain.{Chain, moved-to, moves}
 use Rattle.theory.specs.Leaping.{final-row, final-other, moves-each, each-at, moved-ticket}
-use Rattle.theory.specs.Close.{head-bytes, length-head, table-is}
 use Rattle.theory.specs.Write.{shift-bytes, weight-bytes, kept-bytes}
 use Rattle.shifting.specs.Chain.{having}
 
@@ -58,7 +58,8 @@ moves-other r f rs c e g hs i k h a =
     ∙ final-other r e hs (getD (r .rows) i (blank 0)) a
 
 -- as many rows make as long a table
-pub length-having : (r : Round) (xs : List Row) → length xs ≡ length (r .rows) → length (r .rows) ≤ r .room → length (table (having r xs)) ≡ 16 + 24 * r .room
+pub length-having : (r : Round) (xs : List Row) → length xs ≡ length (r .rows) → length (r .rows) ≤ r .room →
+    length (table (having r xs)) ≡ head-size + row-size * r .room
 unfolding round
 length-having r xs e h = length-table (having r xs) (omega arith)
 
@@ -67,33 +68,44 @@ module _ (r : Round) (xs : List Row) (a i : ℕ) (s : Rising a (r .next) xs) (h 
   abbrev x : Row
   x = getD xs i (blank 0)
 
-  with-same : (y : Row) → table (having r (changed (x .ticket) y xs))
-      ≡ head-bytes (r .slot) (r .last) (r .next) (length xs) ++ (rows-bytes (changed (x .ticket) y xs) ++ replicate (24 * (r .room - length xs)) 0)
+  abbrev hd : List ℕ
+  hd = head-bytes (r .slot) (r .last) (r .next) (length xs) (r .tail)
+
+  abbrev zs : List ℕ
+  zs = replicate (row-size * (r .room - length xs)) 0
+
+  with-same : (y : Row) → table (having r (changed (x .ticket) y xs)) ≡ hd ++ (rows-bytes (changed (x .ticket) y xs) ++ zs)
+  unfolding round
   with-same y =
-      table-is (r .slot) (r .last) (r .next) (r .room) (changed (x .ticket) y xs)
-      ∙ ap (λ (n : ℕ). head-bytes (r .slot) (r .last) (r .next) n ++ (rows-bytes (changed (x .ticket) y xs) ++ replicate (24 * (r .room - n)) 0))
+      let ys = changed (x .ticket) y xs in
+      table-is (having r ys)
+      ∙ ap (λ (n : ℕ). head-bytes (r .slot) (r .last) (r .next) n (r .tail) ++ (rows-bytes ys ++ replicate (row-size * (r .room - n)) 0))
       (length-changed (x .ticket) y xs)
 
-  pub table-shift : (d w : ℕ) → table (having r (changed (x .ticket) (row (x .ticket) d w (x .kind)) xs)) ≡ sets (table (having r xs)) (row-at i + 4)
-      (low 2 d ++ low 4 w)
+  same-table : hd ++ (rows-bytes xs ++ zs) ≡ table (having r xs)
+  unfolding round
+  same-table = sym (table-is (having r xs))
+
+  hd-long : length hd ≡ head-size
+  hd-long = length-head (r .slot) (r .last) (r .next) (length xs) (r .tail)
+
+  pub table-shift : (d w : ℕ) → table (having r (changed (x .ticket) (set-to d w x) xs))
+      ≡ sets (table (having r xs)) (row-at i + due-at) (low slot-bytes d ++ low wide-bytes w)
   table-shift d w =
-      with-same (row (x .ticket) d w (x .kind))
-      ∙ shift-bytes a (r .next) (head-bytes (r .slot) (r .last) (r .next) (length xs)) (replicate (24 * (r .room - length xs)) 0) xs i (blank 0) d w s h
-      (length-head (r .slot) (r .last) (r .next) (length xs))
-      ∙ ap (λ (bs : List ℕ). sets bs (row-at i + 4) (low 2 d ++ low 4 w)) (sym (table-is (r .slot) (r .last) (r .next) (r .room) xs))
+      with-same (set-to d w x)
+      ∙ shift-bytes a (r .next) hd zs xs i (blank 0) d w s h hd-long
+      ∙ ap (λ (bs : List ℕ). sets bs (row-at i + due-at) (low slot-bytes d ++ low wide-bytes w)) same-table
 
-  pub table-weight : (w : ℕ) → table (having r (changed (x .ticket) (row (x .ticket) (x .due) w (x .kind)) xs)) ≡ sets (table (having r xs))
-      (row-at i + 6) (low 4 w)
+  pub table-weight : (w : ℕ) → table (having r (changed (x .ticket) (set-to (x .due) w x) xs))
+      ≡ sets (table (having r xs)) (row-at i + weight-at) (low wide-bytes w)
   table-weight w =
-      with-same (row (x .ticket) (x .due) w (x .kind))
-      ∙ weight-bytes a (r .next) (head-bytes (r .slot) (r .last) (r .next) (length xs)) (replicate (24 * (r .room - length xs)) 0) xs i (blank 0) w s h
-      (length-head (r .slot) (r .last) (r .next) (length xs))
-      ∙ ap (λ (bs : List ℕ). sets bs (row-at i + 6) (low 4 w)) (sym (table-is (r .slot) (r .last) (r .next) (r .room) xs))
+      with-same (set-to (x .due) w x)
+      ∙ weight-bytes a (r .next) hd zs xs i (blank 0) w s h hd-long
+      ∙ ap (λ (bs : List ℕ). sets bs (row-at i + weight-at) (low wide-bytes w)) same-table
 
-  pub table-kept : (d w : ℕ) → table (having r (changed (x .ticket) (row (x .ticket) d w 1) xs))
-      ≡ sets (table (having r xs)) (row-at i + 4) ((low 2 d ++ low 4 w) ++ (1 ∷ []))
+  pub table-kept : (d w : ℕ) → table (having r (changed (x .ticket) (kept-at d w x) xs))
+      ≡ sets (table (having r xs)) (row-at i + due-at) ((low slot-bytes d ++ low wide-bytes w) ++ (1 ∷ []))
   table-kept d w =
-      with-same (row (x .ticket) d w 1)
-      ∙ kept-bytes a (r .next) (head-bytes (r .slot) (r .last) (r .next) (length xs)) (replicate (24 * (r .room - length xs)) 0) xs i (blank 0) d w s h
-      (length-head (r .slot) (r .last) (r .next) (length xs))
-      ∙ ap (λ (bs : List ℕ). sets bs (row-at i + 4) ((low 2 d ++ low 4 w) ++ (1 ∷ []))) (sym (table-is (r .slot) (r .last) (r .next) (r .room) xs))
+      with-same (kept-at d w x)
+      ∙ kept-bytes a (r .next) hd zs xs i (blank 0) d w s h hd-long
+      ∙ ap (λ (bs : List ℕ). sets bs (row-at i + due-at) ((low slot-bytes d ++ low wide-bytes w) ++ (1 ∷ []))) same-table

@@ -12,7 +12,7 @@ use lib.Seq.{take-suc, drop-cons, take-at, drop-at, drop-drop, take-add, take-le
 use Rattle.rules.specs.Limits.{head-size, row-size}
 use Rattle.rules.specs.Rows.{Row, Round, blank, row, All, In, going-on}
 use Rattle.rules.specs.Plan.{plan, tight-after, segment-start, mark, first-end, substitute, best}
-use Rattle.rules.specs.Steps.{moved-to, kept-at, changed, without, still-due, sent}
+use Rattle.rules.specs.Steps.{set-to, kept-at, changed, without, still-due, sent}
 use Rattle.rules.specs.Table.{row-bytes, rows-bytes}
 use Rattle.rules.specs.Conditions.{row-at}
 use Rattle.theory.specs.Tests.{either, eqb?}
@@ -108,7 +108,7 @@ module _ (r : Round) (f : Fine r) (rs : List Row) (c : Rows r rs) where
   pub sent-row : (p s : Row) (hs : List Row) → best r (plan r) ≡ p → first-end r (plan r) < p .due → substitute r (plan r) p ≡ s → In s (r .rows) →
       Chain r rs (tight-after r (plan r) (p .due)) (tight-after r (plan r) (s .due)) hs →
       sent r ≡ after-slot r (closed (suc (r .slot)) (p .ticket)
-      (changed (s .ticket) (moved-to (s .due) (mark r (s .due)) s) (moves r (tight-after r (plan r) (p .due)) hs (r .rows))))
+      (changed (s .ticket) (set-to (s .due) (mark r (s .due)) s) (moves r (tight-after r (plan r) (p .due)) hs (r .rows))))
   unfolding sent row
   sent-row p s hs e h u i k =
       rw (
@@ -116,8 +116,8 @@ module _ (r : Round) (f : Fine r) (rs : List Row) (c : Rows r rs) where
         lt-leb (p .due) (first-end r (plan r)) h,
         leapt-row r f rs c p s hs u i k,
         closed-without (suc (r .slot)) (p .ticket) 1 (r .next)
-            (changed (s .ticket) (moved-to (s .due) (mark r (s .due)) s) (moves r (tight-after r (plan r) (p .due)) hs (r .rows)))
-            (rising-changed 1 (r .next) (s .ticket) (moved-to (s .due) (mark r (s .due)) s) refl
+            (changed (s .ticket) (set-to (s .due) (mark r (s .due)) s) (moves r (tight-after r (plan r) (p .due)) hs (r .rows)))
+            (rising-changed 1 (r .next) (s .ticket) (set-to (s .due) (mark r (s .due)) s) refl
             (moves r (tight-after r (plan r) (p .due)) hs (r .rows)) (rising-moves r 1 (r .next) (tight-after r (plan r) (p .due)) hs (r .rows) (f .rising))),
       )
 

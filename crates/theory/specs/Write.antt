@@ -7,7 +7,7 @@ use lib.ListN.{length, getD, set, take, drop, replicate, length-append, length-s
 use lib.Seq.{drop-cons, sets, set-append-left, set-split}
 use Rattle.rules.specs.Limits.{head-size, row-size, slot-at, used-at, due-at, weight-at, slot-bytes, wide-bytes}
 use Rattle.rules.specs.Rows.{Row, Head-tail, row}
-use Rattle.rules.specs.Steps.{moved-to, kept-at, changed}
+use Rattle.rules.specs.Steps.{set-to, kept-at, changed}
 use Rattle.rules.specs.Table.{low, put, row-bytes, rows-bytes, head-bytes}
 use Rattle.rules.specs.Conditions.{row-at}
 use Rattle.theory.specs.Full.{Rising}
@@ -55,12 +55,12 @@ row-part hd zs vs xs i c z y h k e =
     ∙ ap₂ (λ (bs : List ℕ) (m : ℕ). sets bs m vs) (append-assoc hd ps (row-bytes x ++ d) ∙ ap (λ (bs : List ℕ). hd ++ bs) (sym a)) (sym n)
 
 -- due slot and weight
-pub write-shift : (x : Row) (d w : ℕ) → sets (row-bytes x) due-at (low slot-bytes d ++ low wide-bytes w) ≡ row-bytes (moved-to d w x)
+pub write-shift : (x : Row) (d w : ℕ) → sets (row-bytes x) due-at (low slot-bytes d ++ low wide-bytes w) ≡ row-bytes (set-to d w x)
 unfolding row-bytes put low row
 write-shift x d w = refl
 
 -- the weight alone
-pub write-weight : (x : Row) (w : ℕ) → sets (row-bytes x) weight-at (low wide-bytes w) ≡ row-bytes (moved-to (x .due) w x)
+pub write-weight : (x : Row) (w : ℕ) → sets (row-bytes x) weight-at (low wide-bytes w) ≡ row-bytes (set-to (x .due) w x)
 unfolding row-bytes put low row
 write-weight x w = refl
 
@@ -71,23 +71,23 @@ write-kept x d w = refl
 
 -- THE SAME BY TICKET, as the steps change rows
 pub shift-bytes : (a b : ℕ) (hd zs : List ℕ) (xs : List Row) (i : ℕ) (z : Row) (d w : ℕ) → Rising a b xs → i < length xs → length hd ≡ head-size →
-    hd ++ (rows-bytes (changed (getD xs i z .ticket) (moved-to d w (getD xs i z)) xs) ++ zs)
+    hd ++ (rows-bytes (changed (getD xs i z .ticket) (set-to d w (getD xs i z)) xs) ++ zs)
     ≡ sets (hd ++ (rows-bytes xs ++ zs)) (row-at i + due-at) (low slot-bytes d ++ low wide-bytes w)
 unfolding low
 shift-bytes a b hd zs xs i z d w s h e =
     let n : length hd + (row-size * i + due-at) ≡ row-at i + due-at = omega (arith, e) in
-    ap (λ (ys : List Row). hd ++ (rows-bytes ys ++ zs)) (changed-at a b xs i z (moved-to d w (getD xs i z)) s h)
-    ∙ row-part hd zs (low slot-bytes d ++ low wide-bytes w) xs i due-at z (moved-to d w (getD xs i z)) h (omega arith) (write-shift (getD xs i z) d w)
+    ap (λ (ys : List Row). hd ++ (rows-bytes ys ++ zs)) (changed-at a b xs i z (set-to d w (getD xs i z)) s h)
+    ∙ row-part hd zs (low slot-bytes d ++ low wide-bytes w) xs i due-at z (set-to d w (getD xs i z)) h (omega arith) (write-shift (getD xs i z) d w)
     ∙ ap (λ (m : ℕ). sets (hd ++ (rows-bytes xs ++ zs)) m (low slot-bytes d ++ low wide-bytes w)) n
 
 pub weight-bytes : (a b : ℕ) (hd zs : List ℕ) (xs : List Row) (i : ℕ) (z : Row) (w : ℕ) → Rising a b xs → i < length xs → length hd ≡ head-size →
-    hd ++ (rows-bytes (changed (getD xs i z .ticket) (moved-to (getD xs i z .due) w (getD xs i z)) xs) ++ zs)
+    hd ++ (rows-bytes (changed (getD xs i z .ticket) (set-to (getD xs i z .due) w (getD xs i z)) xs) ++ zs)
     ≡ sets (hd ++ (rows-bytes xs ++ zs)) (row-at i + weight-at) (low wide-bytes w)
 unfolding low
 weight-bytes a b hd zs xs i z w s h e =
     let n : length hd + (row-size * i + weight-at) ≡ row-at i + weight-at = omega (arith, e) in
-    ap (λ (ys : List Row). hd ++ (rows-bytes ys ++ zs)) (changed-at a b xs i z (moved-to (getD xs i z .due) w (getD xs i z)) s h)
-    ∙ row-part hd zs (low wide-bytes w) xs i weight-at z (moved-to (getD xs i z .due) w (getD xs i z)) h (omega arith) (write-weight (getD xs i z) w)
+    ap (λ (ys : List Row). hd ++ (rows-bytes ys ++ zs)) (changed-at a b xs i z (set-to (getD xs i z .due) w (getD xs i z)) s h)
+    ∙ row-part hd zs (low wide-bytes w) xs i weight-at z (set-to (getD xs i z .due) w (getD xs i z)) h (omega arith) (write-weight (getD xs i z) w)
     ∙ ap (λ (m : ℕ). sets (hd ++ (rows-bytes xs ++ zs)) m (low wide-bytes w)) n
 
 pub kept-bytes : (a b : ℕ) (hd zs : List ℕ) (xs : List Row) (i : ℕ) (z : Row) (d w : ℕ) → Rising a b xs → i < length xs → length hd ≡ head-size →

@@ -93,8 +93,8 @@ def order(body, known):
 
 
 def orders(text):
-    """(words of the head, numbers) of each clause that has some. A name of one clause stands for its numbers; a clause of several, as a call's, has
-    those too that its user puts in front, as if-sound does."""
+    """(words of the head, numbers) of each clause that has some. A name of one clause stands for its numbers; a clause of several,
+    as a call's, has those too that its user puts in front, as if-sound does."""
     defined = clauses(text)
     names = [name for name, _, _ in defined]
     known = {name: found for name, _, body in defined if names.count(name) == 1 and (found := list(order(body, {})))}
@@ -164,7 +164,8 @@ FAULTS = [
     ("tests/rust/src/refusal.rs", "The ticket is in no row.", "The ticket's row is not in the plan."),
     ("crates/rules/specs/Conditions.antt", "gives 4", "gives 5"),
     ("crates/rules/specs/Conditions.antt", "(Unsound t gives 3) ∷ cs", "cs"),
-    ("crates/rules/specs/Conditions.antt", "(No-row k t gives 10) ∷ (Not-planned k t gives 11)", "(No-row k t gives 11) ∷ (Not-planned k t gives 10)"),
+    ("crates/rules/specs/Conditions.antt", "(No-row k t gives 10) ∷ (Not-planned k t gives 11)",
+     "(No-row k t gives 11) ∷ (Not-planned k t gives 10)"),
     ("crates/rules/specs/Conditions.antt", "question-conditions totalling t = (Past t gives 5) ∷ []\n", ""),
     ("crates/rules/specs/Conditions.antt", "when 1 (", "when 2 ("),
     ("crates/rules/specs/Calls.antt", "⇒ 8)", "⇒ 9)"),

@@ -11,10 +11,11 @@ from pathlib import Path
 TOP = Path(__file__).resolve().parent.parent
 SOURCE = "docs/REPLIES.md"
 # The columns that are not lirvedd_COLUMN for C, and the function of each in Rattle.
-IN_RATTLE = {"list": "list_plan", "read": "read_command", "write": "write_line"}
-# How the rules name a column's call, or the definition that has its conditions.
-IN_RULES = {"open": "opening", "take": "taking", "send": "sending", "total": "totalling", "mark": "marking",
-            "substitute": "substitute-given", "list": "list-given", "read": "read-given"}
+IN_RATTLE = {"list": "list", "read": "read_command", "write": "write_line"}
+# Where the rules have a call's conditions: the case of a call, or the definition; and where they have its tests, less 2 and 3.
+CONDITIONS = {"open": "opening", "take": "taking", "send": "sending", "total": "totalling", "mark": "marking",
+              "substitute": "substitute-given", "list": "list-given", "read": "read-given"}
+TESTS = {call: f"{call}-tests" for call in ("open", "take", "send", "total", "mark")}
 
 
 def rows(page, column):
@@ -80,25 +81,38 @@ def wrong_in_second(text, source):
 
 
 def clauses(text):
-    """(head, body) of each clause of the rules' definitions."""
+    """(name, head, body) of each clause of the rules' definitions."""
     joined = re.sub(r"\n +", " ", re.sub(r"--.*", "", text))
-    return re.findall(r"^([\w-]+(?: [^=\n:]*)?) = (.*)$", joined, re.M)
+    return [(head.split()[0], head, body) for head, body in re.findall(r"^([\w-]+(?: [^=\n:]*)?) = (.*)$", joined, re.M)]
 
 
-def wrong_in_rules(text, source):
-    """A number counts where `when` is before it; a definition that has some, as if-sound, stands for them."""
-    bodies = {head.split()[0]: body for head, body in clauses(text)}
+def order(body, known):
+    """The numbers in a body, in order: those given, and those of the definitions that it names."""
+    for number, name in re.findall(r"(?:gives|⇒|when) (\d+)|(?<![.\w-])([a-z][\w-]*)", body):
+        yield from [int(number)] if number else known.get(name, [])
 
-    def order(body):
-        for word, number in re.findall(r"([\w-]+)(?: (\d+)\b)?", body):
-            if word == "when" and number:
-                yield int(number)
-            elif word != "when" and word in bodies and "when " in bodies[word]:
-                yield from order(bodies[word])
 
-    for column, word in IN_RULES.items():
-        told = [list(order(body)) for head, body in clauses(text) if word in re.findall(r"[\w-]+", head)]
-        yield from differ("the refusals of", {word: [found for found in told if found]}, {word: [source.orders[column]]})
+def orders(text):
+    """(words of the head, numbers) of each clause that has some. A name of one clause stands for its numbers; a clause of several,
+    as a call's, has those too that its user puts in front, as if-sound does."""
+    defined = clauses(text)
+    names = [name for name, _, _ in defined]
+    known = {name: found for name, _, body in defined if names.count(name) == 1 and (found := list(order(body, {})))}
+    for name, head, body in defined:
+        if found := list(order(body, known)):
+            uses = re.compile(rf"(?<![\w-]){name}(?![\w-])")
+            users = [b for user, _, b in defined if user != name and name not in known and uses.search(b) and list(order(b, known))]
+            yield re.findall(r"[\w-]+", head), list(order(users[0], known | {name: found})) if users else found
+
+
+def wrong_in_rules(words, less):
+    """A check of the rules' orders, each found by a word of its head, less the numbers that stand elsewhere."""
+    def check(text, source):
+        told = list(orders(text))
+        for call, word in words.items():
+            found = [numbers for head, numbers in told if word in head]
+            yield from differ("the refusals of", {word: found}, {word: [[n for n in source.orders[call] if n not in less]]})
+    return check
 
 
 PLACES = {
@@ -106,7 +120,8 @@ PLACES = {
     "docs/FIRMWARE.md": wrong_in_firmware,
     "docs/LINES.md": wrong_in_lines,
     "tests/rust/src/refusal.rs": wrong_in_second,
-    "crates/rules/specs/Conditions.antt": wrong_in_rules,
+    "crates/rules/specs/Conditions.antt": wrong_in_rules(CONDITIONS, []),
+    "crates/rules/specs/Calls.antt": wrong_in_rules(TESTS, [2, 3]),
 }
 
 
@@ -147,9 +162,14 @@ FAULTS = [
     ("tests/rust/src/refusal.rs", "Over = 5", "Over = 13"),
     ("tests/rust/src/refusal.rs", "    /// Every row is in use.\n    Full = 9,\n", ""),
     ("tests/rust/src/refusal.rs", "The ticket is in no row.", "The ticket's row is not in the plan."),
-    ("crates/rules/specs/Conditions.antt", "when 4 (", "when 5 ("),
-    ("crates/rules/specs/Conditions.antt", "when 3 (Unsound t) (when 5 (Past t) later)", "when 5 (Past t) (when 3 (Unsound t) later)"),
-    ("crates/rules/specs/Conditions.antt", "refusal-given totalling t = if-sound t accepted\n", ""),
+    ("crates/rules/specs/Conditions.antt", "gives 4", "gives 5"),
+    ("crates/rules/specs/Conditions.antt", "(Unsound t gives 3) ∷ cs", "cs"),
+    ("crates/rules/specs/Conditions.antt", "(No-row k t gives 10) ∷ (Not-planned k t gives 11)",
+     "(No-row k t gives 11) ∷ (Not-planned k t gives 10)"),
+    ("crates/rules/specs/Conditions.antt", "question-conditions totalling t = (Past t gives 5) ∷ []\n", ""),
+    ("crates/rules/specs/Conditions.antt", "when 1 (", "when 2 ("),
+    ("crates/rules/specs/Calls.antt", "⇒ 8)", "⇒ 9)"),
+    ("crates/rules/specs/Calls.antt", "over t l ∷ not-ahead t l s", "not-ahead t l s ∷ over t l"),
 ]
 
 

@@ -1,4 +1,4 @@
--- Broken lines: a line whose last byte is no 0A, one longer than any command's.
+-- Broken lines, whose last byte is no 0A, or that are longer than any command's: unended, too-long.
 use mathlib.Core.Path.{_≡_, refl, sym, ap, _∙_}
 use mathlib.Core.Bool.{Bool, true, false}
 use mathlib.Core.List.{List, [], _∷_}

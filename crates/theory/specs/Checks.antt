@@ -1,4 +1,4 @@
--- A CALL'S CHECKS IN ORDER, each refusal under its condition and no earlier one: Decides, check, table-checked, calls-given.
+-- A CALL'S CHECKS IN ORDER, each refusal under its condition and no earlier one: Ground, given, table-given, calls-given.
 use mathlib.Core.Path.{_≡_, refl}
 use mathlib.Core.Logic.{_⊎_, inl, inr}
 use mathlib.Core.Bool.{Bool, true, false, _||_, cond}

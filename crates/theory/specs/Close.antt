@@ -1,4 +1,4 @@
--- What a sending leaves, as rows closed up and as bytes: closed, after-slot, sent-ordinary, sent-row, sent-kept, sent-gone, table-is.
+-- What a sending leaves, as rows closed up and as bytes: closed, after-slot, sent-ordinary, sent-row, sent-kept, sent-gone, closing-rows.
 use mathlib.Core.Path.{_≡_, refl, sym, ap, ap₂, _∙_, subst}
 use mathlib.Core.Logic.{inl, inr, _≢_}
 use mathlib.Core.Bool.{Bool, true, false, _&&_, not, cond}

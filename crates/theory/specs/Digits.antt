@@ -1,4 +1,4 @@
--- Digits, and numbers in digits: each is read back from the other.
+-- Digits, and numbers in digits, each read back from the other: digits-of-number, number-of-digits, number-placed, number-stands.
 use mathlib.Core.Path.{_≡_, refl, sym, ap, _∙_}
 use mathlib.Core.Logic.{_⊎_, inl, inr}
 use mathlib.Core.Bool.{true}

@@ -1,5 +1,5 @@
--- Text lines: a line is read as a command with a payload exactly where it is their text (lines-exact); reader and writer undo each other
--- (written-read, read-written); 1 before 12 (write-refusals). Over any form; what is particular to a line stands first.
+-- A line is read as a command with a payload exactly where it is their text, over any form; reader and writer undo each other:
+-- lines-exact, write-refusals, written-read, read-written.
 use mathlib.Core.Path.{_≡_, refl, sym, ap, _∙_}
 use mathlib.Core.Logic.{inl, inr}
 use mathlib.Core.Bool.{Bool, true, false, _&&_, cond, false≢true}

@@ -1,5 +1,4 @@
--- A LISTING ACCEPTED: the count, the entries of what it shows, the old entries behind them: listings; of the plan, its rows in canonical order:
--- plan-listings.
+-- A LISTING ACCEPTED: its count, the entries of what it shows, the plan's in canonical order, the old ones behind: listings, plan-listings.
 use mathlib.Core.Path.{_≡_, sym, ap, _∙_}
 use mathlib.Core.Logic.{inl, inr}
 use mathlib.Core.List.{List, map}

@@ -1,4 +1,4 @@
--- Numbers side by side in digits: what stands there is read (numbers-read), and what is read stands there (numbers-stand).
+-- Numbers side by side in digits: what stands there is read, and what is read stands there: numbers-read, numbers-stand.
 use mathlib.Core.Path.{_≡_, refl, sym, ap, ap₂, _∙_}
 use mathlib.Core.Bool.{true, false≢true}
 use mathlib.Core.List.{List, [], _∷_, _++_, append-assoc}

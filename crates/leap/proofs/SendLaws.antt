@@ -9,7 +9,7 @@ use lib.ListN.{length, getD, take, replicate, length-replicate, getD-replicate}
 use lib.Seq.{sets}
 use Rattle.rules.specs.Rows.{Row, Round, row, blank}
 use Rattle.rules.specs.Plan.{planned}
-use Rattle.rules.specs.Steps.{changed}
+use Rattle.rules.specs.Steps.{kept-at, changed}
 use Rattle.rules.specs.Conditions.{row-at}
 use Rattle.rules.specs.Table.{low, field, table, round-in}
 use Rattle.theory.specs.Flags.{with-flag, raised-at}
@@ -27,6 +27,7 @@ use Rattle.pick.specs.declared.choice.Pick.{Pick}
 use Rattle.pick.specs.declared.choice.Pick.the-variants.{First, Far, Kept, Swapped}
 use Rattle.tally.proofs.RowLaws.{known, at-is, reads-within}
 use Rattle.pick.proofs.SceneLaws.{Scene, scene, plan-rows, fine-at, free-high, flag-is}
+use Rattle.theory.specs.Bounds.{kept-right}
 use Rattle.theory.specs.Close.{closed, after-slot}
 use Rattle.sorts.specs.declared.Round.{Round as Head}
 use Rattle.closing.specs.Close.{closed-up}
@@ -48,7 +49,7 @@ went-read t h k i a n b leaps l e f g =
     record {
       leap = refl;
       ticket = f ∙ ap (λ (y : ℕ). field (y + 0) 4 t) e ∙ sym (ap (λ (y : Row). y .ticket) q);
-      kind = g ∙ ap (λ (y : ℕ). getD t (y + 10) 0) e ∙ p ∙ sym (ap (λ (y : Row). y .kind) q);
+      kind = g ∙ ap (λ (y : ℕ). getD t (y + 10) 0) e ∙ p ∙ sym (ap (λ (y : Row). y .tail .kind) q);
     }
 
 -- the row that a key names
@@ -208,25 +209,30 @@ module _ {t : List ℕ} {h : Head} {fs : List ℕ} {x : Reach} {o b e : ℕ} (g 
     light : Lightest rs (r .slot + e) m
     light = by-slot t h (g .ready) fs e m q .found (at r i) (p .leading .leads .inside) (p .within .by)
 
-    kept-sends : Sends r (at r i) false 0 (changed (at r i .ticket) (row (at r i .ticket) (r .slot + b) m 1) (r .rows))
+    kept-sends : Sends r (at r i) false 0 (changed (at r i .ticket) (kept-at (r .slot + b) m (at r i)) (r .rows))
     kept-sends =
         let z = going-scene g in
-        subst (λ (v : ℕ). Sends r (at r i) false 0 (changed (at r i .ticket) (row (at r i .ticket) (r .slot + b) v 1) (r .rows))) (light .weight)
+        subst (λ (v : ℕ). Sends r (at r i) false 0 (changed (at r i .ticket) (kept-at (r .slot + b) v (at r i)) (r .rows))) (light .weight)
         (sends-kept r (z .fine) (z .time) rs (going-rows g) (r .slot + x .free) (g .reach .near) (at r i) (p .leading .leads) (r .slot + b)
         (r .slot + e) (p .within .near)
         (p .within .segment) (p .later) (p .within .from) (p .within .by) (g .picked .1) (light .row) (light .inside) (light .due) (light .least))
 
     pub kept-stood : {u : List ℕ} → u ≡ sets t (row-at j + 4) ((low 2 (h .slot .0 + b) ++ low 4 m) ++ (1 ∷ [])) →
-        Stood t h (changed (at r i .ticket) (row (at r i .ticket) (r .slot + b) m 1) (r .rows)) u
+        Stood t h (changed (at r i .ticket) (kept-at (r .slot + b) m (at r i)) (r .rows)) u
     unfolding row
     kept-stood {u} a =
         let z = going-scene g in
         let l = p .leading .below in
         let v = of-rows-fine r (z .fine) rs (going-rows g) (light .row) (light .inside) in
-        stood t h (changed (at r i .ticket) (row (at r i .ticket) (r .slot + b) m 1) (r .rows)) u (g .ready)
-        (fit-changed r (r .rows) (at r i .ticket) (row (at r i .ticket) (r .slot + b) m 1) (fit-self r (sound t (g .ready .sound) .sane)) refl
-        (omega arith, omega (arith, p .within .from, fine-at r fs x z i l .1), omega (arith, v .2, light .weight), omega (arith, v .3, light .weight))
-        (omega arith))
+        stood t h (changed (at r i .ticket) (kept-at (r .slot + b) m (at r i)) (r .rows)) u (g .ready)
+        (fit-changed r (r .rows) (at r i .ticket) (kept-at (r .slot + b) m (at r i)) (fit-self r (sound t (g .ready .sound) .sane)) refl
+        (record {
+          due-from = omega arith;
+          due-by = omega (arith, p .within .from, fine-at r fs x z i l .due-by);
+          some = omega (arith, v .some, light .weight);
+          most = omega (arith, v .most, light .weight);
+        })
+        kept-right)
         (a
         ∙ ap₂ (λ (n d : ℕ). sets t (row-at n + 4) ((low 2 d ++ low 4 m) ++ (1 ∷ []))) (f ∙ named-row (g .ready) i o l (p .leading .key))
         (head-first t h (g .ready) b)
@@ -236,7 +242,7 @@ module _ {t : List ℕ} {h : Head} {fs : List ℕ} {x : Reach} {o b e : ℕ} (g 
     pub kept-says : {u v : List ℕ} {w : Went} {n : ℕ} → u ≡ sets t (row-at j + 4) ((low 2 (h .slot .0 + b) ++ low 4 m) ++ (1 ∷ [])) →
         Went-of (at r j) true w → v ≡ closed-up n u → n ≡ 0 → Sent-says t v w
     kept-says {u} {v} {w} a d s z =
-        sent-says t h (g .ready) (at r i) true 0 (changed (at r i .ticket) (row (at r i .ticket) (r .slot + b) m 1) (r .rows)) v w kept-sends
-        (stood-closed t h (changed (at r i .ticket) (row (at r i .ticket) (r .slot + b) m 1) (r .rows)) u v 0 (kept-stood a) (s
+        sent-says t h (g .ready) (at r i) true 0 (changed (at r i .ticket) (kept-at (r .slot + b) m (at r i)) (r .rows)) v w kept-sends
+        (stood-closed t h (changed (at r i .ticket) (kept-at (r .slot + b) m (at r i)) (r .rows)) u v 0 (kept-stood a) (s
         ∙ ap (λ (n : ℕ). closed-up n u) z))
         (subst (λ (n : ℕ). Went-of (at r n) true w) (f ∙ named-row (g .ready) i o (p .leading .below) (p .leading .key)) d)

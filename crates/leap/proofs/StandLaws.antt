@@ -15,7 +15,8 @@ use Rattle.theory.specs.All.{all-in}
 use Rattle.theory.specs.Bounds.{Row-fine}
 use Rattle.theory.specs.Full.{Fine, Rising}
 use Rattle.theory.specs.Change.{all-changed, rising-changed}
-use Rattle.theory.specs.Back.{Sized, Kind, read-back, table-good, length-changed}
+use Rattle.theory.specs.Back.{Sized, read-back, table-good, length-changed}
+use Rattle.theory.specs.Bounds.{Tail-fine}
 use Rattle.theory.specs.Clauses.{rows-count}
 use Rattle.theory.specs.Sane.{Sane, sound}
 use Rattle.theory.specs.Marks.{mark-limit}
@@ -36,7 +37,7 @@ use Rattle.leap.specs.declared.send.Went.{Went}
 -- rows that a sound table of a round can have
 pub record Rows-fit (r : Round) (xs : List Row) : Type 0 where
   pub fine : All (Row-fine r) xs
-  pub kinds : All Kind xs
+  pub tails : All Tail-fine xs
   pub rising : Rising 1 (r .next) xs
   pub long : length xs ≡ length (r .rows)
 
@@ -66,7 +67,7 @@ stood t h xs u k f e =
     let z = sound t (k .sound) .sane in
     let fine : Fine (having r xs) = record { time = z .fine .time; fine = f .fine; rising = f .rising } in
     let size : Sized (having r xs) =
-    record { last = z .size .last; room = z .size .room; next = z .size .next; long = omega (arith, f .long, z .size .long); kinds = f .kinds } in
+    record { last = z .size .last; room = z .size .room; next = z .size .next; long = omega (arith, f .long, z .size .long); tails = f .tails } in
     let back : round-in u ≡ having r xs = ap round-in e ∙ read-back (having r xs) fine size in
     record {
       sound = ap table-refusal e ∙ table-good (having r xs) fine size (z .some);
@@ -112,13 +113,13 @@ sent-says t h k p leaps g xs v w s e d =
 
 -- ROWS THAT FIT: the round's own, one changed, and those of a chain moved
 pub fit-self : (r : Round) → Sane r → Rows-fit r (r .rows)
-fit-self r z = record { fine = z .fine .fine; kinds = z .size .kinds; rising = z .fine .rising; long = refl }
+fit-self r z = record { fine = z .fine .fine; tails = z .size .tails; rising = z .fine .rising; long = refl }
 
-pub fit-changed : (r : Round) (xs : List Row) (k : ℕ) (y : Row) → Rows-fit r xs → y .ticket ≡ k → Row-fine r y → Kind y → Rows-fit r (changed k y xs)
+pub fit-changed : (r : Round) (xs : List Row) (k : ℕ) (y : Row) → Rows-fit r xs → y .ticket ≡ k → Row-fine r y → Tail-fine y → Rows-fit r (changed k y xs)
 fit-changed r xs k y f e a b =
     record {
       fine = all-changed (Row-fine r) k y a xs (f .fine);
-      kinds = all-changed Kind k y b xs (f .kinds);
+      tails = all-changed Tail-fine k y b xs (f .tails);
       rising = rising-changed 1 (r .next) k y e xs (f .rising);
       long = length-changed k y xs ∙ f .long;
     }
@@ -132,6 +133,11 @@ fit-moves r z rs c e g (h ∷ hs) xs k a b f =
     let i = k .0 .inside in
     let w = of-rows-fine r (z .fine) rs c h i in
     let n = end-of r (z .fine) rs c h i in
-    fit-moves r z rs c (tight-after r (plan r) (h .due)) g hs (changed (h .ticket) (moved-to r e h) xs) (k .1) (omega (arith, w .0, n .from)) (n .by)
-    (fit-changed r xs (h .ticket) (moved-to r e h) f refl (a, b, omega (arith, w .2), omega (arith, w .3, mark-limit r (plan r) e))
-    (all-in Kind h (r .rows) (z .size .kinds) (of-rows-in r (z .fine) rs c h i)))
+    fit-moves r z rs c (tight-after r (plan r) (h .due)) g hs (changed (h .ticket) (moved-to r e h) xs) (k .1) (omega (arith, w .due-from, n .from)) (n .by)
+    (fit-changed r xs (h .ticket) (moved-to r e h) f refl (record {
+      due-from = a;
+      due-by = b;
+      some = omega (arith, w .some);
+      most = omega (arith, w .most, mark-limit r (plan r) e);
+    })
+    (all-in Tail-fine h (r .rows) (z .size .tails) (of-rows-in r (z .fine) rs c h i)))

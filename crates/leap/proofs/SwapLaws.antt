@@ -15,7 +15,8 @@ use Rattle.theory.specs.Tests.{ltb?}
 use Rattle.theory.specs.All.{all-in, all-map}
 use Rattle.theory.specs.Feas.{num}
 use Rattle.theory.specs.Bounds.{Row-fine}
-use Rattle.theory.specs.Back.{Kind, length-table}
+use Rattle.theory.specs.Back.{length-table}
+use Rattle.theory.specs.Bounds.{Tail-fine}
 use Rattle.theory.specs.Change.{rising-same}
 use Rattle.theory.specs.Flags.{with-flag}
 use Rattle.theory.specs.Keys.{key, key-due, getD-in}
@@ -90,10 +91,10 @@ module _ {t : List ℕ} {h : Head} {fs : List ℕ} {x : Reach} {cs ks : List ℕ
 
   -- the key's due slot
   due-is : due-named oo ≡ y .due
-  due-is = ap due-named (q .key) ∙ key-due (y .weight) (y .due) (q .row) (omega (arith, q .below, sc .small)) (omega (arith, y-fine .1, sc .cap))
+  due-is = ap due-named (q .key) ∙ key-due (y .weight) (y .due) (q .row) (omega (arith, q .below, sc .small)) (omega (arith, y-fine .due-by, sc .cap))
 
   pub swap-ahead : h .slot .0 ≤ due-named oo
-  swap-ahead = omega (arith, due-is, y-fine .0, known t h (nt .goes .ready) .slot)
+  swap-ahead = omega (arith, due-is, y-fine .due-from, known t h (nt .goes .ready) .slot)
 
   counts-upto : (s : ℕ) → s ≤ x .free → upto s cs ≡ num 0 (r .slot + s) rs
   counts-upto s l =
@@ -109,7 +110,7 @@ module _ {t : List ℕ} {h : Head} {fs : List ℕ} {x : Reach} {cs ks : List ℕ
 
   pub swap-walk : {d : ℕ} → d ≡ due-named oo - h .slot .0 → (d < x .free) × (x .free ≤ 1025) × (upto (x .free) cs ≡ x .free)
   swap-walk a = (
-    omega (arith, a, due-is, y-near, y-fine .0, known t h (nt .goes .ready) .slot),
+    omega (arith, a, due-is, y-near, y-fine .due-from, known t h (nt .goes .ready) .slot),
     omega (arith, free-high r fs x sc, sc .small),
     omega (arith, counts-upto (x .free) (omega arith), near-edge r (sc .fine) rs the-rows zn near-z),
   )
@@ -119,7 +120,7 @@ module _ {t : List ℕ} {h : Head} {fs : List ℕ} {x : Reach} {cs ks : List ℕ
     to = st .last
 
     d-is : r .slot + d ≡ y .due
-    d-is = omega (arith, a, due-is, y-fine .0, known t h (nt .goes .ready) .slot)
+    d-is = omega (arith, a, due-is, y-fine .due-from, known t h (nt .goes .ready) .slot)
 
     to-tight : num 0 (suc (r .slot + to)) rs ≡ suc to
     to-tight = omega (arith, counts-upto (suc to) (omega (arith, f .near)), f .end, next-slot to)
@@ -228,7 +229,8 @@ module _ {t : List ℕ} {h : Head} {fs : List ℕ} {x : Reach} {cs ks : List ℕ
           fit-changed r xs (y .ticket) (row (y .ticket) (y .due) mk (y .tail))
           (fit-moves r z rs the-rows (r .slot + e) (r .slot + to) (s .links) (r .rows) (s .chain) (omega arith)
           (omega (arith, p .within .near, near-z .by)) (fit-self r z))
-          refl (y-fine .0, y-fine .1, omega (arith, w .2, light .weight), omega (arith, w .3, light .weight)) (all-in Kind y (r .rows) (z .size .kinds) y-in)
+          refl (record { due-from = y-fine .due-from; due-by = y-fine .due-by; some = omega (arith, w .some, light .weight); most = omega (arith, w .most, light .weight) })
+          (all-in Tail-fine y (r .rows) (z .size .tails) y-in)
 
       pub swap-stood : {v : List ℕ} {n : ℕ} → v ≡ sets u (row-at j + 6) (low 4 n) → n ≡ mk → Stood t h ys v
       swap-stood {v} {n} w g =

@@ -6,7 +6,7 @@ use Prim.Native.Nat.{ℕ, _<_}
 use lib.ListN.{length}
 use Rattle.rules.specs.Rows.{Row, row}
 use Rattle.rules.specs.Table.{round-in}
-use Rattle.rules.specs.Calls.{Out, Step, out-of, sending, ordinary, leap, step, answer, left}
+use Rattle.rules.specs.Calls.{Out, Step, out-of, sending, ordinary, leap, step, answer, left, acting}
 use Rattle.theory.specs.Flags.{Chosen, with-flag}
 use Rattle.theory.specs.Whole.{Sends}
 use Rattle.sorts.specs.declared.Round.{Round as Head}
@@ -23,7 +23,7 @@ use Rattle.leap.specs.declared.send.Went.{Went}
 pub record Went-of (p : Row) (leaps : Bool) (w : Went) : Type 0 where
   pub leap : w .leap ≡ leaps
   pub ticket : w .ticket .0 ≡ p .ticket
-  pub kind : w .kind ≡ p .kind
+  pub kind : w .kind ≡ p .tail .kind
 
 -- SILENCE: no ticket goes, and none is told
 pub record Silent (t u : List ℕ) (w : Went) : Type 0 where
@@ -55,12 +55,12 @@ pub record Noted (t : List ℕ) (h : Head) (fs : List ℕ) (x : Reach) (cs ks : 
 
 -- what went out
 unfoldable pub went-out : Went → Out
-went-out w = out-of (row (w .ticket .0) 0 0 (w .kind))
+went-out w = out-of (row (w .ticket .0) 0 0 (record { kind = w .kind }))
 
 unfoldable pub went-step : Went → Step
 went-step w = cond (w .leap) (leap (went-out w)) (ordinary (went-out w))
 
 -- SENT: u is what sending leaves of the table t, and w what it answers
 pub record Sent-says (t u : List ℕ) (w : Went) : Type 0 where
-  pub leaves : u ≡ left sending t
-  pub answers : answer sending t ≡ step (went-step w)
+  pub leaves : u ≡ left (acting sending) t
+  pub answers : answer (acting sending) t ≡ step (went-step w)

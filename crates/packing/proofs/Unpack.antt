@@ -3,7 +3,7 @@ use mathlib.Core.Path.{_≡_, refl, ap, _∙_}
 use Prim.Native.Nat.{ℕ, _+_, _*_, _/_, _%_, _≤_, _<_}
 use native.Mathlib.Omega.{arith}
 use borrow.Author.Tests.{eq-eqb, ne-eqb}
-use Rattle.rules.specs.Calls.{Call, opening, taking, sending, marking, totalling, Out, silence, frame, kept-blank, ordinary, leap, Reply, refused, done, ticket, step, amount, blank-due}
+use Rattle.rules.specs.Calls.{taking, sending, marking, totalling, Call, opening, acting, asking, Out, silence, frame, kept-blank, ordinary, leap, Reply, refused, done, ticket, step, amount, blank-due}
 use Rattle.packing.specs.Packing.{pack-out, pack, out-in, step-in, accepted-in, unpack, unpack-substitute, value-place, out-place, leap-place, Fits-out, silence-fits, frame-fits, blank-fits}
 use Rattle.packing.specs.Packing.{refusal-fits, opening-fits, taking-fits, ordinary-fits, leap-fits, mark-fits, total-fits, Unpacks, Fits-substitute, refusal-stands, row-stands, blank-stands}
 
@@ -41,30 +41,30 @@ out-back silence silence-fits l h =
 out-back (frame k) (frame-fits f) l h = out-at 1 k l (omega arith) (omega arith) _ (omega arith) f h (frame k) refl
 out-back (kept-blank k) (blank-fits f) l h = out-at 2 k l (omega arith) (omega arith) _ (omega arith) f h (kept-blank k) refl
 
-pub ordinary-back : (o : Out) → Fits-out o → unpack sending (pack-out o) ≡ step (ordinary o)
+pub ordinary-back : (o : Out) → Fits-out o → unpack (acting sending) (pack-out o) ≡ step (ordinary o)
 unfolding accepted-in step-in
 ordinary-back o f =
     let n : pack-out o + 0 * leap-place ≡ pack-out o = omega arith in
     let b : Out-back o 0 (pack-out o) = rw n at (out-back o f 0 (omega arith)) in
-    unpack-accepted sending (pack-out o) (b .accepted) ∙ rw (b .out, b .leapt)
+    unpack-accepted (acting sending) (pack-out o) (b .accepted) ∙ rw (b .out, b .leapt)
 
-pub leap-back : (o : Out) → Fits-out o → unpack sending (pack-out o + leap-place) ≡ step (leap o)
+pub leap-back : (o : Out) → Fits-out o → unpack (acting sending) (pack-out o + leap-place) ≡ step (leap o)
 unfolding accepted-in step-in
 leap-back o f =
     let n : pack-out o + 1 * leap-place ≡ pack-out o + leap-place = omega arith in
     let b : Out-back o 1 (pack-out o + leap-place) = rw n at (out-back o f 1 (omega arith)) in
-    unpack-accepted sending (pack-out o + leap-place) (b .accepted) ∙ rw (b .out, b .leapt)
+    unpack-accepted (acting sending) (pack-out o + leap-place) (b .accepted) ∙ rw (b .out, b .leapt)
 
 pub unpacks : Unpacks
 unfolding Unpacks unpack pack accepted-in
 unpacks c (refused n) (refusal-fits h k) = rw (ne-eqb (n % 256) 0 (λ z. omega (arith, z)))
-unpacks (opening l) done opening-fits = unpack-accepted (opening l) 0 (omega arith)
-unpacks (taking d w) (ticket k) (taking-fits h) =
-    unpack-accepted (taking d w) (256 * k) (omega arith) ∙ ap ticket (omega arith)
-unpacks sending (step (ordinary o)) (ordinary-fits f) = ordinary-back o f
-unpacks sending (step (leap o)) (leap-fits f) = leap-back o f
-unpacks (marking s) (amount n) (mark-fits h) = unpack-accepted (marking s) (256 * n) (omega arith) ∙ ap amount (omega arith)
-unpacks totalling (amount n) (total-fits h) = unpack-accepted totalling (256 * n) (omega arith) ∙ ap amount (omega arith)
+unpacks (opening u) done opening-fits = unpack-accepted (opening u) 0 (omega arith)
+unpacks (acting (taking f)) (ticket k) (taking-fits h) =
+    unpack-accepted (acting (taking f)) (256 * k) (omega arith) ∙ ap ticket (omega arith)
+unpacks (acting sending) (step (ordinary o)) (ordinary-fits f) = ordinary-back o f
+unpacks (acting sending) (step (leap o)) (leap-fits f) = leap-back o f
+unpacks (asking (marking s)) (amount n) (mark-fits h) = unpack-accepted (asking (marking s)) (256 * n) (omega arith) ∙ ap amount (omega arith)
+unpacks (asking totalling) (amount n) (total-fits h) = unpack-accepted (asking totalling) (256 * n) (omega arith) ∙ ap amount (omega arith)
 
 -- a substitute: a ticket, or a blank with its due slot
 row-back : (n k : ℕ) → n ≡ value-place * k → 1 ≤ k → k < 16777216 → unpack-substitute n ≡ ticket k

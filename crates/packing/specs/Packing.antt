@@ -3,7 +3,8 @@ use mathlib.Core.Path.{_≡_}
 use mathlib.Core.Bool.{cond}
 use Prim.Native.Nat.{ℕ, zero, suc, _+_, _*_, _/_, _%_, _≤_, _<_}
 use lib.Dec.{eqb}
-use Rattle.rules.specs.Calls.{Call, opening, taking, sending, marking, totalling, Out, silence, frame, kept-blank, Step, ordinary, leap, Reply, refused, done, ticket, step, amount, blank-due}
+use Rattle.rules.specs.Rows.{Frame, Setup}
+use Rattle.rules.specs.Calls.{taking, sending, marking, totalling, Call, opening, acting, asking, Out, silence, frame, kept-blank, Step, ordinary, leap, Reply, refused, done, ticket, step, amount, blank-due}
 
 -- places: the refusal's number below 2^8, a ticket or an amount from there on, what went out from 2^32, a leap at 2^34
 abbrev pub value-place : ℕ
@@ -49,11 +50,11 @@ step-in n =
     let o = out-in (n / out-place % 4) (n / value-place % 16777216) in cond (eqb (n / leap-place % 2) 0) (ordinary o) (leap o)
 
 unfoldable pub accepted-in : Call → ℕ → Reply
-accepted-in (opening l) n = done
-accepted-in (taking d w) n = ticket (n / value-place)
-accepted-in sending n = step (step-in n)
-accepted-in (marking s) n = amount (n / value-place)
-accepted-in totalling n = amount (n / value-place)
+accepted-in (opening u) n = done
+accepted-in (acting (taking f)) n = ticket (n / value-place)
+accepted-in (acting sending) n = step (step-in n)
+accepted-in (asking (marking s)) n = amount (n / value-place)
+accepted-in (asking totalling) n = amount (n / value-place)
 
 unfoldable pub unpack : Call → ℕ → Reply
 unpack c n = cond (eqb (n % value-place) 0) (accepted-in c n) (refused n)
@@ -72,12 +73,12 @@ pub data Fits-out : Out → Type 0 where
 
 pub data Fits : Call → Reply → Type 0 where
   refusal-fits : {c : Call} {n : ℕ} → 1 ≤ n → n < value-place → Fits c (refused n)
-  opening-fits : {l : ℕ} → Fits (opening l) done
-  taking-fits : {d w k : ℕ} → k < 16777216 → Fits (taking d w) (ticket k)
-  ordinary-fits : {o : Out} → Fits-out o → Fits sending (step (ordinary o))
-  leap-fits : {o : Out} → Fits-out o → Fits sending (step (leap o))
-  mark-fits : {s n : ℕ} → n ≤ 16777216 → Fits (marking s) (amount n)
-  total-fits : {n : ℕ} → n ≤ 17179869184 → Fits totalling (amount n)
+  opening-fits : {u : Setup} → Fits (opening u) done
+  taking-fits : {f : Frame} {k : ℕ} → k < 16777216 → Fits (acting (taking f)) (ticket k)
+  ordinary-fits : {o : Out} → Fits-out o → Fits (acting sending) (step (ordinary o))
+  leap-fits : {o : Out} → Fits-out o → Fits (acting sending) (step (leap o))
+  mark-fits : {s n : ℕ} → n ≤ 16777216 → Fits (asking (marking s)) (amount n)
+  total-fits : {n : ℕ} → n ≤ 17179869184 → Fits (asking totalling) (amount n)
 
 pub data Fits-substitute : Reply → Type 0 where
   refusal-stands : {n : ℕ} → 1 ≤ n → n < value-place → Fits-substitute (refused n)

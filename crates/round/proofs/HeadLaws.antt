@@ -1,10 +1,9 @@
 -- The head: its judge as the code tests it, and what a sound table says of it.
-use mathlib.Core.Path.{_≡_, sym, ap, _∙_}
-use mathlib.Core.Bool.{_&&_}
+use mathlib.Core.Path.{_≡_, refl, sym, ap, _∙_}
+use mathlib.Core.Bool.{Bool, true, false, _&&_, and-true, and-assoc}
 use mathlib.Core.List.{List}
 use Prim.Native.Nat.{ℕ, _+_, _*_, _≤_}
 use native.Mathlib.Omega.{arith}
-use native.Mathlib.Numerals.{add-one}
 use lib.Dec.{leb, eqb}
 use lib.ListN.{length, drop}
 use Rattle.rules.specs.Rows.{round}
@@ -15,17 +14,23 @@ use Rattle.theory.specs.Judge.{head-judged}
 use Rattle.theory.specs.Clauses.{rows-count}
 use Rattle.theory.specs.Sane.{sound}
 use Rattle.sorts.specs.declared.Round.{Round}
+use Rattle.checks.specs.Tests.{head-tests, every}
 use Rattle.round.specs.Head.{Head-of}
 use Rattle.round.proofs.ZeroLaws.{zeros-split, zeros-field}
 
 -- THE JUDGE of a head
+by-groups : (l t n m u z : Bool) → (l && (t && (n && (m && (u && true))))) && z ≡ (u && l) && ((t && (n && m)) && z)
+by-groups l t n m true z = rw (and-true, and-assoc)
+by-groups false t n m false z = refl
+by-groups true false n m false z = refl
+by-groups true true false m false z = refl
+by-groups true true true false false z = refl
+by-groups true true true true false z = refl
+
 pub head-is : (t : List ℕ) (h : Round) → Head-of t h →
-    (leb (h .used) (h .room) && leb (h .last .0) 4095)
-    && ((leb (h .slot .0) (h .last .0 + 1) && (leb 1 (h .next .0) && leb (h .next .0) 16777216)) && (eqb (field 10 2 t) 0 && eqb (field 12 4 t) 0))
-    ≡ head-judged t
-unfolding head-judged
-head-is t h d =
-    rw (d .slot, d .last, d .next, d .used, d .room, add-one, zeros-split t 10 2 4, zeros-field t 12 4)
+    every (head-tests (h .slot .0) (h .last .0) (h .next .0) (h .used) (h .room)) && (eqb (field 10 2 t) 0 && eqb (field 12 4 t) 0) ≡ head-judged t
+unfolding head-judged every
+head-is t h d = rw (d .slot, d .last, d .next, d .used, d .room, zeros-split t 10 2 4, zeros-field t 12 4, by-groups)
 
 -- THE HEAD OF A SOUND TABLE
 pub record Sound-head (t : List ℕ) (h : Round) : Type 0 where

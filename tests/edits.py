@@ -23,14 +23,14 @@ This page is written by tests/edits.py from the first lines of the edits.
 
 # The nearest is another program, not an edit of this one: it is proved that it sends otherwise.
 PLAYED_OUT = "`played-out-misses`, `canonical-first-differs`, `no-order-serves` in crates/theory/specs/PlayedOut.antt; "
-OVER = " ".join(f"{call}over_in_the_last_slot" for call in ("calls/", "calls/send_", "questions/mark_", "questions/total_")) + " rules/last_slot_over"
+OVER = "checks/over_in_the_last_slot rules/last_slot_over"
 TURNED_DOWN = " ".join(f"calls/every_{call}_turned_down" for call in ("opening", "taking", "sending"))
 
 BREAKAGES = [
     ("a sender that plans the first slot and plays that plan out afterwards (demand 2)",
      "rules/canonical_first"),
     ("a listing whose count is not the plan's rows (2)", "listing/list_count_of_all_rows order/rows_left_out_are_listed"),
-    ("a table reported full with a row free, or a round reported over in its last slot (1)", "calls/full_with_a_row_free " + OVER),
+    ("a table reported full with a row free, or a round reported over in its last slot (1)", "checks/full_with_a_row_free " + OVER),
     ("a sender always silent (2)", "sender/always_silent sender/silence_with_a_row_waiting"),
     ("a taker that gives a ticket but stores nothing (2 and 3)", "calls/ticket_but_nothing_stored"),
     ("a station that turns every call down (1 and 2)", TURNED_DOWN),
@@ -84,6 +84,7 @@ KINDS = [
 CONTRACTS = {
     "rules": "the definitions, held to the rounds, bytes and lines worked out by hand in crates/rules/proofs",
     "numbers": "numbers in bytes: read (`field`) and written (`low`)",
+    "checks": "a table's length (`length-good`), a head's numbers (`head-tests`), and each call's refusals in their order (`first-of`)",
     "packing": "each reply packed (`pack`), and read back (`Unpacks`)",
     "round": "`judge` (`Judge-says`): a table is sound, or refused with 2 or 3; `word`: 0 exactly when its eight bytes are",
     "plan": "`choose_rows` (`Chosen`): the flags are those of the plan's rows",

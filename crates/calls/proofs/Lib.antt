@@ -1,4 +1,3 @@
 pub mod Went
 pub mod Opened
-pub mod TakingNumber
 pub mod Taken

@@ -1,25 +1,24 @@
--- Opening: refusal 4, and what is owed once all is written.
+-- Opening: its refusals by the last slot asked for, and what is owed once all is written.
 use mathlib.Core.Path.{_≡_, ap, _∙_}
 use mathlib.Core.Bool.{true}
 use mathlib.Core.List.{List, _++_}
-use Prim.Native.Nat.{ℕ, _-_, _≤_, _<_}
+use Prim.Native.Nat.{ℕ, _-_, _≤_}
 use native.Mathlib.Omega.{arith}
-use borrow.Author.Tests.{lt-ltb, le-ltb}
 use lib.ListN.{length, take, drop, replicate, length-append}
 use lib.Seq.{length-take-le}
-use Rattle.rules.specs.Limits.{most-last}
 use Rattle.rules.specs.Rows.{round}
 use Rattle.rules.specs.Table.{round-in, length-good}
 use Rattle.rules.specs.Calls.{opening, done, open-refusal, refusal, says, leaves, Says}
 use Rattle.theory.specs.Clauses.{length-long}
 use Rattle.theory.specs.Outcomes.{says-accepted, opening-number}
+use Rattle.rules.specs.Calls.{first-of, open-tests}
 use Rattle.round.specs.Numbers.{head-numbers}
 use Rattle.round.proofs.TableLaws.{opened-table}
 
 module _ (l : ℕ) (t : List ℕ) (good : length-good (length t) ≡ true) where
-  pub last-refused : most-last < l → refusal (opening l) t ≡ 4
+  pub opening-by : refusal (opening l) t ≡ first-of (open-tests l)
   unfolding open-refusal
-  last-refused h = opening-number l t good ∙ rw (lt-ltb most-last l h)
+  opening-by = opening-number l t good
 
   pub head-fits : 16 ≤ length t
   head-fits = omega (arith, length-long t good .0)
@@ -29,9 +28,9 @@ module _ (l : ℕ) (t : List ℕ) (good : length-good (length t) ≡ true) where
       omega (arith, head-fits, ap length e, length-append (take 10 t) (replicate (length t - 10) 0), length-take-le 10 t (omega (arith, head-fits)))
 
   -- ALL WRITTEN: zeros behind the head, then the head of a round just opened
-  pub opened-says : l ≤ most-last → (a b n u : ℕ) (v z : List ℕ) → (a ≡ 0) × (b ≡ l) × (n ≡ 1) × (u ≡ 0) → v ≡ take 10 t ++ replicate (length t - 10) 0 →
+  pub opened-says : first-of (open-tests l) ≡ 0 → (a b n u : ℕ) (v z : List ℕ) → (a ≡ 0) × (b ≡ l) × (n ≡ 1) × (u ≡ 0) → v ≡ take 10 t ++ replicate (length t - 10) 0 →
       z ≡ head-numbers a b n u ++ drop 10 v → Says (opening l) done t z
-  unfolding open-refusal says leaves round-in round
+  unfolding says leaves round-in round
   opened-says h a b n u v z g e f =
-      says-accepted (opening l) t z (opening-number l t good ∙ rw (le-ltb most-last l h))
+      says-accepted (opening l) t z (opening-by ∙ h)
       (opened-table l t v z good e (f ∙ rw (g .0, g .1, g .2, g .3)))

@@ -1,8 +1,9 @@
 // Opening a round: refusals 2 and 4.
 ghost use Rattle.rules.specs.Calls.{opening, Says};
 ghost use Rattle.replies.specs.Replies.{of-opened};
+use checks::head::length_is_good;
+use checks::refusals::opening_refusal;
 use replies::Opened;
-use round::head::length_is_good;
 use round::head::rows_of;
 use round::head::write_head;
 use round::zeros::clear;
@@ -16,8 +17,9 @@ pub fn open_round(last: Slot, table: &mut [u8]) -> Opened
     if !length_is_good(table.len()) {
         return Opened::Refused(2);
     }
-    if Round::LAST.0 < last.0 {
-        return Opened::Refused(4);
+    let refusal = opening_refusal(last);
+    if 0 < refusal {
+        return Opened::Refused(refusal);
     }
     let round = Round::new(last, rows_of(table));
     clear(table, Round::HEAD_ZEROS_AT);

@@ -5,6 +5,7 @@ ghost use Rattle.rules.specs.Calls.{sending, Says};
 ghost use Rattle.round.specs.Head.{Head-of};
 ghost use Rattle.leap.specs.Send.{went-out, went-step};
 ghost use Rattle.replies.specs.Replies.{of-out, of-step, of-sent};
+use checks::refusals::sending_refusal;
 use leap::send::Went;
 use replies::Out;
 use replies::Sent;
@@ -28,8 +29,9 @@ fn send_in(table: &mut [u8], round: Round) -> Sent
     requires { ⌜ (table-refusal (now table) ≡ 0) × Head-of (now table) round ⌝ }
     ensures { λ r. ⌜ Says sending (of-sent r) (now (table .entry)) (now (table .exit)) ⌝ }
 {
-    if round.last.0 < round.slot.0 {
-        return Sent::Refused(5);
+    let refusal = sending_refusal(round);
+    if 0 < refusal {
+        return Sent::Refused(refusal);
     }
     Sent::Went(step_of(send_sound(table, round)))
 }

@@ -4,7 +4,7 @@ ghost use Rattle.rules.specs.Table.{table-refusal};
 ghost use Rattle.rules.specs.Calls.{taking, Says};
 ghost use Rattle.round.specs.Head.{Head-of};
 ghost use Rattle.replies.specs.Replies.{of-taken};
-ghost use Rattle.calls.specs.Taking.{taking-number};
+use checks::refusals::taking_refusal;
 use replies::Taken;
 use round::head::write_head;
 use round::rows::row_at;
@@ -39,32 +39,4 @@ fn take_into(table: &mut [u8], round: Round, due: Slot, weight: Weight) -> Taken
     let head = round.one_more();
     write_head(table, head);
     Taken::As(next)
-}
-
-// 5 to 9, or 0: the first that applies.
-fn taking_refusal(round: Round, due: Slot, weight: Weight) -> u32
-    ensures { λ r. ⌜ r ≡ taking-number (round .slot .0) (round .last .0) (round .next .0) (round .used) (round .room) (due .0) (weight .0) ⌝ }
-{
-    if round.last.0 < round.slot.0 {
-        return 5;
-    }
-    if weight.0 == 0 {
-        return 6;
-    }
-    if Round::WEIGHT.0 < weight.0 {
-        return 6;
-    }
-    if due.0 < round.slot.0 {
-        return 7;
-    }
-    if round.last.0 < due.0 {
-        return 7;
-    }
-    if round.next.0 == Round::TICKETS.0 {
-        return 8;
-    }
-    if round.room <= round.used {
-        return 9;
-    }
-    0
 }

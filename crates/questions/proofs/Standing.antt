@@ -77,9 +77,9 @@ substitute-table k t n e h =
     let f = ne-eqb (table-refusal t) 0 (λ z. h (e ∙ z)) in rw (f, f) (ap refused e)
 
 module _ (k : ℕ) (t : List ℕ) (sound : table-refusal t ≡ 0) where
-  pub substitute-over : send-refusal (round-in t) ≡ 5 → refused 5 ≡ substitute-answer k t
+  pub substitute-over : (n : ℕ) → send-refusal (round-in t) ≡ n → (n ≡ 0 → ⊥) → refused n ≡ substitute-answer k t
   unfolding substitute-answer first
-  substitute-over e = rw (sound, e)
+  substitute-over n e h = rw (sound, e, ne-eqb n 0 h)
 
   pub substitute-nowhere : send-refusal (round-in t) ≡ 0 → ((i : ℕ) → i < length (round-in t .rows) → at (round-in t) i .ticket ≡ k → ⊥) →
       refused 10 ≡ substitute-answer k t

@@ -7,6 +7,7 @@ ghost use Rattle.rules.specs.Calls.{marking, Says};
 ghost use Rattle.round.specs.Head.{Head-of};
 ghost use Rattle.tally.specs.Rows.{Ready};
 ghost use Rattle.replies.specs.Replies.{of-marked};
+use checks::refusals::marking_refusal;
 use marks::mark::mark_at;
 use marks::near::is_far;
 use plan::choose::choose_rows;
@@ -32,14 +33,9 @@ fn mark_in(table: &[u8], round: Round, slot: Slot) -> Marked
     requires { ⌜ (table-refusal (now table) ≡ 0) × Head-of (now table) round ⌝ }
     ensures { λ r. ⌜ Says (marking (slot .0)) (of-marked r) (now (table .entry)) (now (table .exit)) ⌝ }
 {
-    if round.last.0 < round.slot.0 {
-        return Marked::Refused(5);
-    }
-    if slot.0 < round.slot.0 {
-        return Marked::Refused(7);
-    }
-    if round.last.0 < slot.0 {
-        return Marked::Refused(7);
+    let refusal = marking_refusal(round, slot);
+    if 0 < refusal {
+        return Marked::Refused(refusal);
     }
     Marked::At(mark_ahead(table, round, slot))
 }

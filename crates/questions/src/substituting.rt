@@ -9,6 +9,7 @@ ghost use Rattle.tally.specs.Rows.{Ready, at};
 ghost use Rattle.tally.specs.Near.{Counted, Reaches};
 ghost use Rattle.replies.specs.Replies.{of-substituted};
 ghost use Rattle.questions.specs.Finding.{Finds, Stands};
+use checks::refusals::sending_refusal;
 use marks::substitute::Sub;
 use marks::substitute::substitute_at;
 use numbers::read4;
@@ -37,8 +38,9 @@ fn substitute_in(table: &[u8], round: Round, ticket: Ticket) -> Substituted
     requires { ⌜ (table-refusal (now table) ≡ 0) × Head-of (now table) round ⌝ }
     ensures { λ r. ⌜ Looks (substitute-answer (ticket .0) (now (table .entry))) (of-substituted r) (now (table .entry)) (now (table .exit)) ⌝ }
 {
-    if round.last.0 < round.slot.0 {
-        return Substituted::Refused(5);
+    let refusal = sending_refusal(round);
+    if 0 < refusal {
+        return Substituted::Refused(refusal);
     }
     match find_row(table, round, ticket) {
         Found::Nowhere => Substituted::Refused(10),

@@ -6,6 +6,7 @@ ghost use Rattle.rules.specs.Calls.{totalling, Says};
 ghost use Rattle.round.specs.Head.{Head-of};
 ghost use Rattle.tally.specs.Rows.{Ready};
 ghost use Rattle.replies.specs.Replies.{of-totalled};
+use checks::refusals::sending_refusal;
 use marks::total::total_of;
 use plan::choose::choose_rows;
 use replies::Totalled;
@@ -28,8 +29,9 @@ fn total_in(table: &[u8], round: Round) -> Totalled
     requires { ⌜ (table-refusal (now table) ≡ 0) × Head-of (now table) round ⌝ }
     ensures { λ r. ⌜ Says totalling (of-totalled r) (now (table .entry)) (now (table .exit)) ⌝ }
 {
-    if round.last.0 < round.slot.0 {
-        return Totalled::Refused(5);
+    let refusal = sending_refusal(round);
+    if 0 < refusal {
+        return Totalled::Refused(refusal);
     }
     Totalled::Of(total_ahead(table, round))
 }

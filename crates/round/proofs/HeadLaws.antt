@@ -1,14 +1,13 @@
 -- The head: its judge as the code tests it, and what a sound table says of it.
 use mathlib.Core.Path.{_≡_, refl, sym, ap, _∙_}
-use mathlib.Core.Bool.{Bool, true, false, _&&_}
+use mathlib.Core.Bool.{Bool, true, false, _&&_, and-true, and-assoc}
 use mathlib.Core.List.{List}
 use Prim.Native.Nat.{ℕ, suc, _+_, _*_, _≤_}
 use native.Mathlib.Omega.{arith}
-use native.Mathlib.Numerals.{add-one}
 use lib.Dec.{leb, eqb}
 use lib.ListN.{length, take, drop}
 use Rattle.rules.specs.Rows.{round}
-use Rattle.rules.specs.Table.{field, every, rows-of, round-in, table-refusal}
+use Rattle.rules.specs.Table.{field, every, head-tests, rows-of, round-in, table-refusal}
 use Rattle.rules.specs.Conditions.{slot-in, last-in, next-in, used-in}
 use Rattle.theory.specs.Back.{length-table, rising-le}
 use Rattle.theory.specs.Judge.{zeros, head-judged}
@@ -18,24 +17,11 @@ use Rattle.sorts.specs.declared.Round.{Round}
 use Rattle.round.specs.Head.{Head-of}
 use Rattle.round.proofs.ZeroLaws.{zeros-split, zeros-field}
 
-regrouped : (a b c d e z : Bool) → (a && b) && ((c && (d && e)) && z) ≡ (a && (b && (c && (d && (e && true))))) && z
-regrouped false b c d e z = refl
-regrouped true false c d e z = refl
-regrouped true true false d e z = refl
-regrouped true true true false e z = refl
-regrouped true true true true false z = refl
-regrouped true true true true true z = refl
-
 -- THE JUDGE of a head
 pub head-is : (t : List ℕ) (h : Round) → Head-of t h →
-    (leb (h .used) (h .room) && leb (h .last .0) 4095)
-    && ((leb (h .slot .0) (h .last .0 + 1) && (leb 1 (h .next .0) && leb (h .next .0) 16777216)) && (eqb (field 10 2 t) 0 && eqb (field 12 4 t) 0))
-    ≡ head-judged t
-unfolding head-judged every
-head-is t h d =
-    rw (d .slot, d .last, d .next, d .used, d .room, add-one, zeros-split t 10 2 4, zeros-field t 12 4)
-    (regrouped (leb (used-in t) (rows-of t)) (leb (last-in t) 4095) (leb (slot-in t) (suc (last-in t))) (leb 1 (next-in t)) (leb (next-in t) 16777216)
-    (eqb (field 10 2 t) 0 && eqb (field 12 4 t) 0))
+    every (head-tests (h .slot .0) (h .last .0) (h .next .0) (h .used) (h .room)) && (eqb (field 10 2 t) 0 && eqb (field 12 4 t) 0) ≡ head-judged t
+unfolding head-judged
+head-is t h d = rw (d .slot, d .last, d .next, d .used, d .room, zeros-split t 10 2 4, zeros-field t 12 4)
 
 -- THE HEAD OF A SOUND TABLE
 pub record Sound-head (t : List ℕ) (h : Round) : Type 0 where

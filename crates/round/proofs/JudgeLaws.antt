@@ -11,7 +11,7 @@ use Rattle.rules.specs.Limits.{head-size, row-size, most-rows}
 use Rattle.rules.specs.Table.{every, head-tests, length-good, rows-of}
 use Rattle.rules.specs.Conditions.{Bytes, slot-in, last-in, next-in, used-in, row-at}
 use Rattle.theory.specs.Tests.{and-true}
-use Rattle.theory.specs.Bounds.{every-hold}
+use Rattle.theory.specs.Bounds.{tests-head}
 use Rattle.theory.specs.Judge.{zeros, rows-judged, head-judged, judged}
 use Rattle.theory.specs.Judged.{judged-refusal}
 use Rattle.theory.specs.Checks.{refusal-two}
@@ -45,7 +45,8 @@ unfolding head-judged rows-of
 rows-fit {t} k e =
     let l = good-long (length t) (k .good) in
     let tests = head-tests (slot-in t) (last-in t) (next-in t) (used-in t) (rows-of t) in
-    let u : used-in t ≤ (length t - head-size) / row-size = leb-true (used-in t) (rows-of t) (every-hold tests (and-true (every tests) _ e .0) .0) in
+    let u : used-in t ≤ (length t - head-size) / row-size =
+    tests-head (slot-in t) (last-in t) (next-in t) (used-in t) (rows-of t) (and-true (every tests) _ e .0) .fit in
     record {
       few = omega (arith, l .2, k .head .used);
       within = omega (arith, l .0, k .head .used);

@@ -4,3 +4,4 @@ pub mod HeadLaws
 pub mod JudgeLaws
 pub mod WriteLaws
 pub mod TableLaws
+pub mod ByHead

@@ -1,13 +1,14 @@
-// The table's length and its head.
+// The table's head.
 ghost use mathlib.Core.Path.{_≡_};
 ghost use mathlib.Core.List.{_++_};
 ghost use Prim.Native.Nat.{_≤_};
 ghost use lib.ListN.{length, drop};
 ghost use Rattle.rules.specs.Limits.{head-size, most-rows, head-zeros-at};
-ghost use Rattle.rules.specs.Table.{length-good, rows-of};
+ghost use Rattle.rules.specs.Table.{rows-of};
 ghost use Rattle.theory.specs.Judge.{head-judged};
 ghost use Rattle.round.specs.Head.{Head-of};
 ghost use Rattle.round.specs.Numbers.{head-numbers};
+use checks::head::head_is_good;
 use numbers::read2;
 use numbers::read4;
 use numbers::write2;
@@ -15,17 +16,6 @@ use numbers::write4;
 use sorts::Round;
 use sorts::Slot;
 use sorts::Ticket;
-
-// Refusal 2: whether a length is that of a head and 1 to 1,024 rows.
-pub fn length_is_good(length: usize) -> bool
-    ensures { λ r. ⌜ r ≡ length-good length ⌝ }
-{
-    if length < Round::HEAD_SIZE + Round::ROW_SIZE {
-        return false;
-    }
-    let behind = length - Round::HEAD_SIZE;
-    (behind % Round::ROW_SIZE == 0) & (behind / Round::ROW_SIZE <= Round::ROWS)
-}
 
 // How many rows a table has room for.
 pub fn rows_of(table: &[u8]) -> usize
@@ -54,12 +44,9 @@ pub fn head_is_sound(table: &[u8], round: Round) -> bool
     requires { ⌜ (head-size ≤ length (now table)) × Head-of (now table) round ⌝ }
     ensures { λ r. ⌜ r ≡ head-judged (now (table .entry)) ⌝ }
 {
-    let fits = (round.used <= round.room) & (round.last.0 <= Round::LAST.0);
-    let in_time = round.slot.0 as u64 <= round.last.0 as u64 + 1;
-    let next = (1 <= round.next.0) & (round.next.0 <= Round::TICKETS.0);
     let zeros = (read2(table, Round::HEAD_ZEROS_AT) == 0)
         & (read4(table, Round::HEAD_ZEROS_AT + 2) == 0);
-    fits & ((in_time & next) & zeros)
+    head_is_good(round) & zeros
 }
 
 // A round's numbers written into the head; its zero bytes stay as they are.

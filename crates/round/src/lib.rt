@@ -1,5 +1,5 @@
 // A round over its lent table of bytes: head, rows, zeros, and the judge of a table.
 pub mod zeros; // zeros.rt: bytes that are zero
-pub mod head; // head.rt: the table's length and its head
+pub mod head; // head.rt: the table's head
 pub mod rows; // rows.rt: a row's bytes
 pub mod sound; // sound.rt: the judge of a whole table

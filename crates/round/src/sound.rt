@@ -1,11 +1,11 @@
 // The judge of a whole table.
 ghost use Rattle.round.specs.Judge.{Judge-says};
 use crate::head::head_is_sound;
-use crate::head::length_is_good;
 use crate::head::read_head;
 use crate::rows::row_at;
 use crate::rows::rows_are_sound;
 use crate::zeros::zeros_from;
+use checks::head::length_is_good;
 use sorts::Round;
 
 // A sound table's head as a value, or the number of the refusal: 2 or 3.

@@ -66,12 +66,8 @@ rows-good-are r b x xs =
     (regrouped (ltb b (x .ticket)) (ltb (x .ticket) (r .next)) (leb (r .slot) (x .due)) (leb (x .due) (r .last)) (leb 1 (x .weight))
     (leb (x .weight) 16777216) (leb (x .tail .kind) 1) (rows-good r (x .ticket) xs))
 
-regrouped-head : (a b c d e z : Bool) → ((a && (b && (c && (d && (e && true))))) && z) ≡ (((b && c) && (d && e)) && (a && z))
-regrouped-head false false c d e z = refl
-regrouped-head false true false d e z = refl
-regrouped-head false true true false e z = refl
-regrouped-head false true true true false z = refl
-regrouped-head false true true true true z = refl
+regrouped-head : (a b c d e z : Bool) → ((a && (b && (c && (d && (e && true))))) && z) ≡ (((a && b) && (c && d)) && (e && z))
+regrouped-head false b c d e z = refl
 regrouped-head true false c d e z = refl
 regrouped-head true true false d e z = refl
 regrouped-head true true true false e z = refl
@@ -83,7 +79,7 @@ pub round-good-is : (r : Round) → round-good r
     && (leb (length (r .rows)) (r .room) && rows-good r 0 (r .rows)))
 unfolding round-good every
 round-good-is r =
-    regrouped-head (leb (length (r .rows)) (r .room)) (leb (r .last) 4095) (leb (r .slot) (suc (r .last))) (leb 1 (r .next)) (leb (r .next) 16777216)
+    regrouped-head (leb (r .last) 4095) (leb (r .slot) (suc (r .last))) (leb 1 (r .next)) (leb (r .next) 16777216) (leb (length (r .rows)) (r .room))
     (rows-good r 0 (r .rows))
 
 -- REFUSALS in their order, replies and rounds left

@@ -102,7 +102,7 @@ rows-good r b (x ∷ xs) = every (row-tests (r .slot) (r .last) (r .next) b x) &
 
 -- a head's, with the rows in use and the room for them
 abbrev pub head-tests : (slot last next used room : ℕ) → List Bool
-head-tests s l n u k = leb u k ∷ leb l most-last ∷ leb s (suc l) ∷ leb 1 n ∷ leb n ticket-limit ∷ []
+head-tests s l n u k = leb l most-last ∷ leb s (suc l) ∷ leb 1 n ∷ leb n ticket-limit ∷ leb u k ∷ []
 
 unfoldable pub round-good : Round → Bool
 round-good r = every (head-tests (r .slot) (r .last) (r .next) (length (r .rows)) (r .room)) && rows-good r 0 (r .rows)

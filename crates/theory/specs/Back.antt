@@ -17,7 +17,7 @@ use Rattle.rules.specs.Table.{low, field, put, tail-values, row-values, front-r
 use Rattle.rules.specs.Calls.{Act, taking, sending, Call, acting, act, deed, round-refusal, leaves, next-round}
 use Rattle.theory.specs.Tests.{either, both-ways}
 use Rattle.theory.specs.All.{all-map, all-append}
-use Rattle.theory.specs.Bounds.{Row-fine, Tail-right, Tail-fine, frame-right, kept-right, blank-right, right-tests, hold-every}
+use Rattle.theory.specs.Bounds.{Row-fine, Tail-right, Tail-fine, frame-right, kept-right, blank-right, right-tests, head-tested}
 use Rattle.theory.specs.Full.{plan-all, Fine, Rising}
 use Rattle.theory.specs.Change.{all-changed, all-without, all-still}
 use Rattle.theory.specs.Calls.{Takes, takes, next-keeps}
@@ -162,16 +162,13 @@ rows-good-yes r b (x ∷ xs) f k s =
 pub good : (r : Round) → Fine r → Sized r → round-good r ≡ true
 unfolding round-good
 good r f z =
-    rw (hold-every (head-tests (r .slot) (r .last) (r .next) (length (r .rows)) (r .room)) (
-      le-leb (length (r .rows)) (r .room) (z .long),
-      (
-        le-leb (r .last) most-last (z .last),
-        (
-          le-leb (r .slot) (suc (r .last)) (f .time),
-          (le-leb 1 (r .next) (rising-le 1 (r .next) (r .rows) (f .rising)), (le-leb (r .next) ticket-limit (z .next), tt)),
-        ),
-      ),
-    ))
+    rw (head-tested (r .slot) (r .last) (r .next) (length (r .rows)) (r .room) (record {
+      last-most = z .last;
+      slot-most = f .time;
+      next-least = rising-le 1 (r .next) (r .rows) (f .rising);
+      next-most = z .next;
+      fit = z .long;
+    }))
     (rows-good-yes r 0 (r .rows) (f .fine) (z .tails) (f .rising))
 
 pub same-same : (bs : List ℕ) → same bs bs ≡ true

@@ -1,13 +1,13 @@
--- A ROW'S BOUNDS as facts by name, and that the list of tests decides them: tests-right, right-tests.
+-- A ROW'S AND A HEAD'S BOUNDS as facts by name, decided by the lists of tests: tests-right, right-tests, tests-head, head-tested.
 use mathlib.Core.Path.{_≡_, refl}
 use mathlib.Core.Bool.{Bool, true}
 use mathlib.Core.List.{List, [], _∷_}
-use Prim.Native.Nat.{ℕ, _≤_, _<_}
+use Prim.Native.Nat.{ℕ, suc, _≤_, _<_}
 use native.Mathlib.Omega.{arith}
 use borrow.Author.Tests.{ltb-true, leb-true, lt-ltb, le-leb}
-use Rattle.rules.specs.Limits.{most-weight}
+use Rattle.rules.specs.Limits.{most-last, most-weight, ticket-limit}
 use Rattle.rules.specs.Rows.{Tail, Row, Round, blank, frame-tail, blank-tail}
-use Rattle.rules.specs.Table.{every, row-tests, tail-tests}
+use Rattle.rules.specs.Table.{every, row-tests, tail-tests, head-tests}
 use Rattle.theory.specs.Tests.{and-true}
 
 -- TESTS that all hold, one by one
@@ -82,18 +82,44 @@ tests-right s l n b x e =
     }
 
 pub right-tests : (s l n b : ℕ) (x : Row) → Row-right s l n b x → every (row-tests s l n b x) ≡ true
+unfolding every
 right-tests s l n b x r =
-    let i = r .bounds in
-    hold-every (row-tests s l n b x) (
+    rw (
       lt-ltb b (x .ticket) (r .from),
-      (
-        lt-ltb (x .ticket) n (r .below),
-        (
-          le-leb s (x .due) (i .due-from),
-          (
-            le-leb (x .due) l (i .due-by),
-            (le-leb 1 (x .weight) (i .some), (le-leb (x .weight) most-weight (i .most), holds-tail (x .tail) (r .tail))),
-          ),
-        ),
-      ),
+      lt-ltb (x .ticket) n (r .below),
+      le-leb s (x .due) (r .bounds .due-from),
+      le-leb (x .due) l (r .bounds .due-by),
+      le-leb 1 (x .weight) (r .bounds .some),
+      le-leb (x .weight) most-weight (r .bounds .most),
+    )
+    (hold-every (tail-tests (x .tail)) (holds-tail (x .tail) (r .tail)))
+
+-- A HEAD within bounds, with the rows in use and the room for them
+pub record Head-right (slot last next used room : ℕ) : Type 0 where
+  pub last-most : last ≤ most-last
+  pub slot-most : slot ≤ suc last
+  pub next-least : 1 ≤ next
+  pub next-most : next ≤ ticket-limit
+  pub fit : used ≤ room
+
+pub tests-head : (s l n u k : ℕ) → every (head-tests s l n u k) ≡ true → Head-right s l n u k
+tests-head s l n u k e =
+    let (a, (b, (c, (d, (f, _))))) = every-hold (head-tests s l n u k) e in
+    record {
+      last-most = leb-true l most-last a;
+      slot-most = leb-true s (suc l) b;
+      next-least = leb-true 1 n c;
+      next-most = leb-true n ticket-limit d;
+      fit = leb-true u k f;
+    }
+
+pub head-tested : (s l n u k : ℕ) → Head-right s l n u k → every (head-tests s l n u k) ≡ true
+unfolding every
+head-tested s l n u k h =
+    rw (
+      le-leb l most-last (h .last-most),
+      le-leb s (suc l) (h .slot-most),
+      le-leb 1 n (h .next-least),
+      le-leb n ticket-limit (h .next-most),
+      le-leb u k (h .fit),
     )

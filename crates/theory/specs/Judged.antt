@@ -15,7 +15,7 @@ use Rattle.rules.specs.Conditions.{Bytes, row-at, slot-in, last-in, next-in, us
 use Rattle.theory.specs.Tests.{either, and-true}
 use Rattle.theory.specs.Judge.{zeros, row-judged, rows-judged, head-judged, judged}
 use Rattle.theory.specs.Fields.{Part, field-take, test-zeros, zeros-test, taken-zeros}
-use Rattle.theory.specs.Bounds.{every-hold, hold-every, Row-right, tests-right, right-tests}
+use Rattle.theory.specs.Bounds.{tests-head, head-tested, Row-right, tests-right, right-tests}
 use Rattle.theory.specs.Clauses.{Rows-right, Clauses, length-long, clauses-accepted, accepted-length, accepted-clauses, refusal-three}
 
 -- A ROW JUDGED on its own bytes
@@ -71,13 +71,13 @@ judged-clauses t e =
     let a = and-true (head-judged t) _ e in
     let r = and-true rows (zeros (drop m t)) (a .1) in
     let h = and-true (every tests) (zeros (take (head-size - head-zeros-at) (drop head-zeros-at t))) (a .0) in
-    let (fit, (last, (time, (least, (most, _))))) = every-hold tests (h .0) in
+    let b = tests-head (slot-in t) (last-in t) (next-in t) (used-in t) (rows-of t) (h .0) in
     record {
-      fit = leb-true (used-in t) (rows-of t) fit;
-      last-most = leb-true (last-in t) most-last last;
-      slot-most = leb-true (slot-in t) (suc (last-in t)) time;
-      next-least = leb-true 1 (next-in t) least;
-      next-most = leb-true (next-in t) ticket-limit most;
+      fit = b .fit;
+      last-most = b .last-most;
+      slot-most = b .slot-most;
+      next-least = b .next-least;
+      next-most = b .next-most;
       head-zeros = taken-zeros head-zeros-at (head-size - head-zeros-at) t .0 (h .1);
       rows = rows-true (used-in t) (slot-in t) (last-in t) (next-in t) 0 (drop head-size t) (r .0);
       rest-zeros = test-zeros m (length t) t (drop m t) (λ i h. getD-drop m t i 0) (r .1);
@@ -86,16 +86,13 @@ judged-clauses t e =
 pub head-yes : (t : List ℕ) → Clauses t → head-judged t ≡ true
 unfolding head-judged
 head-yes t c =
-    rw (hold-every (head-tests (slot-in t) (last-in t) (next-in t) (used-in t) (rows-of t)) (
-      le-leb (used-in t) (rows-of t) (c .fit),
-      (
-        le-leb (last-in t) most-last (c .last-most),
-        (
-          le-leb (slot-in t) (suc (last-in t)) (c .slot-most),
-          (le-leb 1 (next-in t) (c .next-least), (le-leb (next-in t) ticket-limit (c .next-most), tt)),
-        ),
-      ),
-    ))
+    rw (head-tested (slot-in t) (last-in t) (next-in t) (used-in t) (rows-of t) (record {
+      last-most = c .last-most;
+      slot-most = c .slot-most;
+      next-least = c .next-least;
+      next-most = c .next-most;
+      fit = c .fit;
+    }))
     (taken-zeros head-zeros-at (head-size - head-zeros-at) t .1 (c .head-zeros))
 
 pub clauses-judged : (t : List ℕ) → row-at (used-in t) ≤ length t → Clauses t → judged t ≡ true

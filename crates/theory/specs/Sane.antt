@@ -12,7 +12,7 @@ use Rattle.rules.specs.Rows.{Row, Round, round, All}
 use Rattle.rules.specs.Table.{every, row-tests, head-tests, table, rows-of, round-in, length-good, rows-good, round-good, same, table-refusal}
 use Rattle.rules.specs.Calls.{Call, opening, acting, asking, Reply, refused, first, round-refusal, table-first, refusal, says, leaves, answer, left, run, replies, next-round, after}
 use Rattle.theory.specs.Tests.{and-true}
-use Rattle.theory.specs.Bounds.{every-hold, Row-fine, Tail-fine, tests-right}
+use Rattle.theory.specs.Bounds.{tests-head, Row-fine, Tail-fine, tests-right}
 use Rattle.theory.specs.Full.{Fine, Rising}
 use Rattle.theory.specs.Calls.{no-refusal, next-fine}
 use Rattle.theory.specs.Back.{Sized, next-sized, read-back, table-good, length-good-yes}
@@ -56,16 +56,10 @@ unfolding round-good
 good-true r e =
     let tests = head-tests (r .slot) (r .last) (r .next) (length (r .rows)) (r .room) in
     let a = and-true (every tests) (rows-good r 0 (r .rows)) e in
-    let (fit, (last, (time, (least, (most, _))))) = every-hold tests (a .0) in
-    let q = rows-good-true r 0 (r .rows) (leb-true 1 (r .next) least) (a .1) in (
-      record { time = leb-true (r .slot) (suc (r .last)) time; fine = q .0; rising = q .2 },
-      λ k. record {
-        last = leb-true (r .last) most-last last;
-        room = k;
-        next = leb-true (r .next) ticket-limit most;
-        long = leb-true (length (r .rows)) (r .room) fit;
-        tails = q .1;
-      },
+    let h = tests-head (r .slot) (r .last) (r .next) (length (r .rows)) (r .room) (a .0) in
+    let q = rows-good-true r 0 (r .rows) (h .next-least) (a .1) in (
+      record { time = h .slot-most; fine = q .0; rising = q .2 },
+      λ k. record { last = h .last-most; room = k; next = h .next-most; long = h .fit; tails = q .1 },
       q .1,
     )
 

@@ -8,7 +8,8 @@ use lib.ListN.{length}
 use Rattle.rules.specs.Table.{length-good}
 use Rattle.rules.specs.Calls.{opening}
 use Rattle.theory.specs.Outcomes.{says-refused, opening-length}
-use Rattle.calls.proofs.Opened.{last-refused, head-fits, cleared-fits, opened-says}
+use Rattle.rules.specs.Calls.{first-of, open-tests}
+use Rattle.calls.proofs.Opened.{opening-by, head-fits, cleared-fits, opened-says}
 use Rattle.calls.proofs.opening.open_round.Statement.{statement}
 use Rattle.calls.proofs.opening.open_round.Tie as tie
 
@@ -24,29 +25,36 @@ returns c =
     says-refused (opening (s .args .last .0)) (s .args .table .now) 2
     (opening-length (s .args .last .0) (s .args .table .now) (sym (c .before .length-is-good .ensures) ∙ not-true _ (c .if1 .taken))) (λ z. omega (arith, z))
 
+opening-refusal-requires : tie.Need-opening-refusal-requires
+opening-refusal-requires c κs = search needs
+
 returns-2 : tie.Need-returns-2
 returns-2 c =
-    let s = c .before .before .before .before .before .before in
-    says-refused (opening (s .args .last .0)) (s .args .table .now) 4
-    (last-refused (s .args .last .0) (s .args .table .now) (good (c .before .before .before)) (omega arith)) (λ z. omega (arith, z))
+    let s = c .before .before .before .before .before in
+    says-refused (opening (s .args .last .0)) (s .args .table .now) _
+    (omega (arith, opening-by (s .args .last .0) (s .args .table .now) (good (c .before .before)), c .before .opening-refusal .ensures)) (λ z. omega (arith, z))
+
+-- no refusal where the number is not above 0
+free : (c : tie.Else2) → first-of (open-tests (c .before .before .before .before .before .args .last .0)) ≡ 0
+free c = omega (arith, c .before .opening-refusal .ensures)
 
 rows-of-requires : tie.Need-rows-of-requires
 rows-of-requires c κs =
-    let s = c .before .before .before .before .before .before .before in
-    head-fits (s .args .last .0) (s .args .table .now) (good (c .before .before .before .before))
+    let s = c .before .before .before .before .before .before in
+    head-fits (s .args .last .0) (s .args .table .now) (good (c .before .before .before))
 
 new-requires : tie.Need-new-requires
 new-requires c κs = search needs
 
 clear-requires : tie.Need-clear-requires
 clear-requires c κs =
-    let s = c .before .before .before .before .before .before .before .before .before .before in
-    omega (arith, head-fits (s .args .last .0) (s .args .table .now) (good (c .before .before .before .before .before .before .before)))
+    let s = c .before .before .before .before .before .before .before .before .before in
+    omega (arith, head-fits (s .args .last .0) (s .args .table .now) (good (c .before .before .before .before .before .before)))
 
 write-head-requires : tie.Need-write-head-requires
 write-head-requires c κs =
-    let s = c .before .before .before .before .before .before .before .before .before .before .before .before .before .before in (
-      cleared-fits (s .args .last .0) (s .args .table .now) (good (c .before .before .before .before .before .before .before .before .before .before .before))
+    let s = c .before .before .before .before .before .before .before .before .before .before .before .before .before in (
+      cleared-fits (s .args .last .0) (s .args .table .now) (good (c .before .before .before .before .before .before .before .before .before .before))
           (c .before .before .before .clear .last .0) (c .before .before .before .clear .ensures),
       omega (arith, c .before .before .before .before .before .new .ensures .3),
     )
@@ -56,10 +64,10 @@ same-length c = search needs
 
 returns-3 : tie.Need-returns-3
 returns-3 c =
-    let s = c .before .before .before .before .before .before .before .before .before .before .before .before .before .before .before .before .before in
+    let s = c .before .before .before .before .before .before .before .before .before .before .before .before .before .before .before .before in
     let n = c .before .before .before .before .before .before .before .before .new .ensures in
     opened-says (s .args .last .0) (s .args .table .now)
-    (good (c .before .before .before .before .before .before .before .before .before .before .before .before .before .before)) (omega arith) _ _ _ _
+    (good (c .before .before .before .before .before .before .before .before .before .before .before .before .before)) (free (c .before .before .before .before .before .before .before .before .before .before .before)) _ _ _ _
     (c .before .before .before .before .before .before .clear .last .0) (c .before .before .write-head .last .0)
     (omega (arith, n .0), omega (arith, n .1), omega (arith, n .2), omega (arith, n .3))
     (cc (c .before .before .before .before .before .before .clear .ensures)) (c .before .before .write-head .ensures)
@@ -70,6 +78,7 @@ open-round-spec =
     (tie.spec
     length-is-good-requires
     returns
+    opening-refusal-requires
     returns-2
     rows-of-requires
     new-requires

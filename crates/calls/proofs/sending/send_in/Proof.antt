@@ -1,20 +1,31 @@
 -- `calls::sending::send_in` meets its contract.
-use Rattle.round.proofs.Asked.{over}
+use Rattle.checks.proofs.Accepted.{send-accepted}
+use Rattle.round.proofs.ByHead.{sending-number, sending-by}
 use Rattle.theory.specs.Outcomes.{says-refused}
 use Rattle.rules.specs.Calls.{sending, step}
 use native.Mathlib.Omega.{arith}
-use mathlib.Core.Path.{sym, ap, _∙_}
+use mathlib.Core.Path.{_≡_, sym, ap, _∙_}
 use borrow.Author.Needs.{needs}
 use Rattle.calls.proofs.sending.send_in.Statement.{statement}
 use Rattle.calls.proofs.sending.send_in.Tie as tie
 
+sending-refusal-requires : tie.Need-sending-refusal-requires
+sending-refusal-requires c κs = search needs
+
 returns : tie.Need-returns
 returns c =
     let s = c .before .before .before in
-    says-refused sending (s .args .table .now) 5 (over (s .args .table .now) (s .args .round) (s .pre .0) (s .pre .1) (omega arith) .0) (λ z. omega (arith, z))
+    says-refused sending (s .args .table .now) _
+    (omega (arith, sending-by (s .args .table .now) (s .args .round) (s .pre .0) (s .pre .1), c .before .sending-refusal .ensures)) (λ z. omega (arith, z))
+
+-- no refusal where the number is not above 0
+free : (c : tie.Else1) → sending-number (c .before .before .before .args .round) ≡ 0
+free c = omega (arith, c .before .sending-refusal .ensures)
 
 send-sound-requires : tie.Need-send-sound-requires
-send-sound-requires c κs = search needs
+send-sound-requires c κs =
+    let s = c .before .before .before .before in
+    record { sound = s .pre .0; head = s .pre .1; time = send-accepted _ _ (free (c .before)) }
 
 step-of-requires : tie.Need-step-of-requires
 step-of-requires c κs = search needs
@@ -30,4 +41,4 @@ returns-2 c = (
 
 pub send-in-spec : {M : Type 1} → statement M
 send-in-spec =
-    tie.close (tie.spec returns send-sound-requires step-of-requires same-length returns-2)
+    tie.close (tie.spec sending-refusal-requires returns send-sound-requires step-of-requires same-length returns-2)

@@ -6,12 +6,13 @@ use lib.ListN.{length}
 use lib.Seq.{length-sets}
 use Rattle.rules.specs.Calls.{taking}
 use Rattle.theory.specs.Outcomes.{says-refused}
-use Rattle.calls.proofs.Taken.{number-of, taking-refused, used-room, row-free, taken-says}
+use Rattle.round.proofs.ByHead.{taking-number, taking-by}
+use Rattle.calls.proofs.Taken.{used-room, row-free, taken-says}
 use Rattle.calls.proofs.taking.take_into.Statement.{statement}
 use Rattle.calls.proofs.taking.take_into.Tie as tie
 
 -- no refusal where the number is not above 0
-free : (c : tie.Else1) → let s = c .before .before .before in number-of (s .args .round) (s .args .due .0) (s .args .weight .0) ≡ 0
+free : (c : tie.Else1) → let s = c .before .before .before in taking-number (s .args .round) (s .args .due .0) (s .args .weight .0) ≡ 0
 free c = omega (arith, c .before .taking-refusal .ensures)
 
 taking-refusal-requires : tie.Need-taking-refusal-requires
@@ -23,7 +24,7 @@ returns c =
     says-refused (taking (s .args .due .0) (s .args .weight .0)) (s .args .table .now) _
     (omega (
       arith,
-      taking-refused (s .args .table .now) (s .args .round) (s .pre .0) (s .pre .1) (s .args .due .0) (s .args .weight .0),
+      taking-by (s .args .table .now) (s .args .round) (s .pre .0) (s .pre .1) (s .args .due .0) (s .args .weight .0),
       c .before .taking-refusal .ensures,
     ))
     (λ z. omega (arith, z))

@@ -4,15 +4,6 @@ use Rattle.round.proofs.HeadLaws.{head-is}
 use Rattle.round.proofs.head.head_is_sound.Statement.{statement}
 use Rattle.round.proofs.head.head_is_sound.Tie as tie
 
-cast-in-time : tie.Need-cast-in-time
-cast-in-time c = search needs
-
-cast-in-time-2 : tie.Need-cast-in-time-2
-cast-in-time-2 c = search needs
-
-add-in-time : tie.Need-add-in-time
-add-in-time c = search needs
-
 read2-requires : tie.Need-read2-requires
 read2-requires c κs = search needs
 
@@ -22,11 +13,12 @@ add-read4 c = search needs
 read4-requires : tie.Need-read4-requires
 read4-requires c κs = search needs
 
+head-is-good-requires : tie.Need-head-is-good-requires
+head-is-good-requires c κs = search needs
+
 returns : tie.Need-returns
-returns c = rw (c .before .read2 .ensures, c .read4 .ensures)
-    (search (head-is, c .before .before .before .before .before .before .before .before .before .before .before .pre .1))
+returns c = rw (c .head-is-good .ensures, c .before .before .read2 .ensures, c .before .read4 .ensures)
+    (search (head-is, c .before .before .before .before .pre .1))
 
 pub head-is-sound-spec : {M : Type 1} → statement M
-head-is-sound-spec =
-    tie.close
-    (tie.spec cast-in-time cast-in-time-2 add-in-time read2-requires add-read4 read4-requires returns)
+head-is-sound-spec = tie.close (tie.spec read2-requires add-read4 read4-requires head-is-good-requires returns)

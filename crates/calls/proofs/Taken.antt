@@ -5,10 +5,11 @@ use Prim.Native.Nat.{ℕ, _+_, _≤_, _<_}
 use native.Mathlib.Omega.{arith}
 use lib.ListN.{length, drop}
 use lib.Seq.{sets}
-use Rattle.rules.specs.Rows.{round}
+use Rattle.rules.specs.Limits.{row-size, most-rows, ticket-limit, head-zeros-at}
+use Rattle.rules.specs.Rows.{Frame, framed, round}
 use Rattle.rules.specs.Table.{round-in, table-refusal}
 use Rattle.rules.specs.Conditions.{row-at}
-use Rattle.rules.specs.Calls.{taking, ticket, says, leaves, Says}
+use Rattle.rules.specs.Calls.{taking, acting, act, deed, ticket, says, leaves, Says}
 use Rattle.theory.specs.Outcomes.{says-accepted}
 use Rattle.sorts.specs.declared.Round.{Round}
 use Rattle.checks.proofs.Accepted.{take-accepted}
@@ -18,26 +19,26 @@ use Rattle.round.proofs.ByHead.{taking-number, taking-by}
 use Rattle.round.proofs.HeadLaws.{sound-head}
 use Rattle.round.proofs.TableLaws.{taken-table}
 
-module _ (t : List ℕ) (h : Round) (sound : table-refusal t ≡ 0) (head : Head-of t h) (d w : ℕ) where
-  pub used-room : h .used ≤ 1024
+module _ (t : List ℕ) (h : Round) (sound : table-refusal t ≡ 0) (head : Head-of t h) (f : Frame) where
+  pub used-room : h .used ≤ most-rows
   used-room = let s = sound-head t h sound head in omega (arith, s .used, s .few)
 
-  module _ (free : taking-number h d w ≡ 0) where
-    pub row-free : (row-at (h .used) + 24 ≤ length t) × (h .used < 1024) × (h .next .0 < 16777216) × (h .used < h .room)
+  module _ (free : taking-number h f ≡ 0) where
+    pub row-free : (row-at (h .used) + row-size ≤ length t) × (h .used < most-rows) × (h .next .0 < ticket-limit) × (h .used < h .room)
     row-free =
         let s = sound-head t h sound head in
-        let n = take-accepted (h .slot .0) (h .last .0) (h .next .0) (h .used) (h .room) d w free in
+        let n = take-accepted (h .slot .0) (h .last .0) (h .next .0) (h .used) (h .room) f free in
         let m = n .0 in
         (omega (arith, s .long, n .1), omega (arith, s .few, n .1), omega (arith, s .most), n .1)
 
     -- ALL WRITTEN: the numbers that the writers were given are those of the head, once a frame is taken, and of the frame
     pub taken-says : (s l n u : ℕ) (v z : List ℕ) (a j k e m : ℕ) →
         (s ≡ h .slot .0) × (l ≡ h .last .0) × (n ≡ h .next .0 + 1) × (u ≡ h .used + 1) → a ≡ row-at (h .used) →
-        (j ≡ h .next .0) × (k ≡ h .next .0) × (e ≡ d) × (m ≡ w) → v ≡ sets t a (row-numbers k e m 0) → z ≡ head-numbers s l n u ++ drop 10 v →
-        Says (taking d w) (ticket j) t z
-    unfolding says leaves round-in round
+        (j ≡ h .next .0) × (k ≡ h .next .0) × (e ≡ f .due) × (m ≡ f .weight) → v ≡ sets t a (row-numbers k (framed e m)) →
+        z ≡ head-numbers s l n u ++ drop head-zeros-at v → Says (acting (taking f)) (ticket j) t z
+    unfolding says leaves deed act round-in round
     taken-says s l n u v z a j k e m o i x y q =
-        let room = take-accepted (h .slot .0) (h .last .0) (h .next .0) (h .used) (h .room) d w free in
-        let b = taken-table t h d w v z sound head (room .1) (y ∙ rw (i, x .1, x .2, x .3)) (q ∙ rw (o .0, o .1, o .2, o .3)) in
-        let f = says-accepted (taking d w) t z (taking-by t h sound head d w ∙ free) b in
-        (ap ticket (x .0 ∙ head .next) ∙ f .0, f .1)
+        let room = take-accepted (h .slot .0) (h .last .0) (h .next .0) (h .used) (h .room) f free in
+        let b = taken-table t h f v z sound head (room .1) (y ∙ rw (i, x .1, x .2, x .3)) (q ∙ rw (o .0, o .1, o .2, o .3)) in
+        let g = says-accepted (acting (taking f)) t z (taking-by t h sound head f ∙ free) b in
+        (ap ticket (x .0 ∙ head .next) ∙ g .0, g .1)

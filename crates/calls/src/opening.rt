@@ -1,4 +1,5 @@
 // Opening a round: refusals 2 and 4.
+ghost use Rattle.rules.specs.Rows.{until};
 ghost use Rattle.rules.specs.Calls.{opening, Says};
 ghost use Rattle.replies.specs.Replies.{of-opened};
 use checks::head::length_is_good;
@@ -12,7 +13,7 @@ use sorts::Slot;
 
 // Nothing that the table held is read.
 pub fn open_round(last: Slot, table: &mut [u8]) -> Opened
-    ensures { λ r. ⌜ Says (opening (last .0)) (of-opened r) (now (table .entry)) (now (table .exit)) ⌝ }
+    ensures { λ r. ⌜ Says (opening (until (last .0))) (of-opened r) (now (table .entry)) (now (table .exit)) ⌝ }
 {
     if !length_is_good(table.len()) {
         return Opened::Refused(2);

@@ -1,7 +1,7 @@
 // Sending a slot: refusals 2, 3 and 5.
 ghost use mathlib.Core.Path.{_≡_};
 ghost use Rattle.rules.specs.Table.{table-refusal};
-ghost use Rattle.rules.specs.Calls.{sending, Says};
+ghost use Rattle.rules.specs.Calls.{sending, acting, Says};
 ghost use Rattle.round.specs.Head.{Head-of};
 ghost use Rattle.leap.specs.Send.{went-out, went-step};
 ghost use Rattle.replies.specs.Replies.{of-out, of-step, of-sent};
@@ -16,7 +16,7 @@ use sender::send_sound;
 use sorts::Round;
 
 pub fn send_slot(table: &mut [u8]) -> Sent
-    ensures { λ r. ⌜ Says sending (of-sent r) (now (table .entry)) (now (table .exit)) ⌝ }
+    ensures { λ r. ⌜ Says (acting sending) (of-sent r) (now (table .entry)) (now (table .exit)) ⌝ }
 {
     match judge(table) {
         Judged::Refused(n) => Sent::Refused(n),
@@ -27,7 +27,7 @@ pub fn send_slot(table: &mut [u8]) -> Sent
 // The same on a sound table.
 fn send_in(table: &mut [u8], round: Round) -> Sent
     requires { ⌜ (table-refusal (now table) ≡ 0) × Head-of (now table) round ⌝ }
-    ensures { λ r. ⌜ Says sending (of-sent r) (now (table .entry)) (now (table .exit)) ⌝ }
+    ensures { λ r. ⌜ Says (acting sending) (of-sent r) (now (table .entry)) (now (table .exit)) ⌝ }
 {
     let refusal = sending_refusal(round);
     if 0 < refusal {

@@ -1,7 +1,8 @@
 // Taking a frame: refusals 2, 3 and 5 to 9.
 ghost use mathlib.Core.Path.{_≡_};
 ghost use Rattle.rules.specs.Table.{table-refusal};
-ghost use Rattle.rules.specs.Calls.{taking, Says};
+ghost use Rattle.rules.specs.Rows.{framed};
+ghost use Rattle.rules.specs.Calls.{taking, acting, Says};
 ghost use Rattle.round.specs.Head.{Head-of};
 ghost use Rattle.replies.specs.Replies.{of-taken};
 use checks::refusals::taking_refusal;
@@ -16,7 +17,7 @@ use sorts::Slot;
 use sorts::Weight;
 
 pub fn take_frame(due: Slot, weight: Weight, table: &mut [u8]) -> Taken
-    ensures { λ r. ⌜ Says (taking (due .0) (weight .0)) (of-taken r) (now (table .entry)) (now (table .exit)) ⌝ }
+    ensures { λ r. ⌜ Says (acting (taking (framed (due .0) (weight .0)))) (of-taken r) (now (table .entry)) (now (table .exit)) ⌝ }
 {
     match judge(table) {
         Judged::Refused(n) => Taken::Refused(n),
@@ -27,7 +28,7 @@ pub fn take_frame(due: Slot, weight: Weight, table: &mut [u8]) -> Taken
 // The same on a sound table.
 fn take_into(table: &mut [u8], round: Round, due: Slot, weight: Weight) -> Taken
     requires { ⌜ (table-refusal (now table) ≡ 0) × Head-of (now table) round ⌝ }
-    ensures { λ r. ⌜ Says (taking (due .0) (weight .0)) (of-taken r) (now (table .entry)) (now (table .exit)) ⌝ }
+    ensures { λ r. ⌜ Says (acting (taking (framed (due .0) (weight .0)))) (of-taken r) (now (table .entry)) (now (table .exit)) ⌝ }
 {
     let refusal = taking_refusal(round, due, weight);
     if 0 < refusal {
@@ -35,7 +36,7 @@ fn take_into(table: &mut [u8], round: Round, due: Slot, weight: Weight) -> Taken
     }
     let next = round.next;
     let at = row_at(round.used);
-    write_row(table, at, next, due, weight, 0);
+    write_row(table, at, next, due, weight);
     let head = round.one_more();
     write_head(table, head);
     Taken::As(next)

@@ -11,7 +11,7 @@ use Rattle.rules.specs.Rows.{Row, row, blank}
 use Rattle.rules.specs.Plan.{plan, substitute, in-plan}
 use Rattle.rules.specs.Table.{field, round-in, table-refusal}
 use Rattle.rules.specs.Conditions.{row-at}
-use Rattle.rules.specs.Calls.{refused, ticket, blank-due, first, send-refusal}
+use Rattle.rules.specs.Calls.{refused, ticket, blank-due, first, first-of, over}
 use Rattle.rules.specs.Looking.{with-ticket, stand-in, substitute-answer}
 use Rattle.theory.specs.Full.{Fine, Rising}
 use Rattle.theory.specs.Change.{rising-above}
@@ -77,16 +77,16 @@ substitute-table k t n e h =
     let f = ne-eqb (table-refusal t) 0 (λ z. h (e ∙ z)) in rw (f, f) (ap refused e)
 
 module _ (k : ℕ) (t : List ℕ) (sound : table-refusal t ≡ 0) where
-  pub substitute-over : (n : ℕ) → send-refusal (round-in t) ≡ n → (n ≡ 0 → ⊥) → refused n ≡ substitute-answer k t
+  pub substitute-over : (n : ℕ) → first-of (over (round-in t .slot) (round-in t .last) ∷ []) ≡ n → (n ≡ 0 → ⊥) → refused n ≡ substitute-answer k t
   unfolding substitute-answer first
   substitute-over n e h = rw (sound, e, ne-eqb n 0 h)
 
-  pub substitute-nowhere : send-refusal (round-in t) ≡ 0 → ((i : ℕ) → i < length (round-in t .rows) → at (round-in t) i .ticket ≡ k → ⊥) →
+  pub substitute-nowhere : first-of (over (round-in t .slot) (round-in t .last) ∷ []) ≡ 0 → ((i : ℕ) → i < length (round-in t .rows) → at (round-in t) i .ticket ≡ k → ⊥) →
       refused 10 ≡ substitute-answer k t
   unfolding substitute-answer first stand-in
   substitute-nowhere e n = rw (sound, e, no-ticket k (round-in t .rows) (blank 0) n)
 
-  pub substitute-found : send-refusal (round-in t) ≡ 0 → Fine (round-in t) → (i : ℕ) → (i < length (round-in t .rows)) × (at (round-in t) i .ticket ≡ k) →
+  pub substitute-found : first-of (over (round-in t .slot) (round-in t .last) ∷ []) ≡ 0 → Fine (round-in t) → (i : ℕ) → (i < length (round-in t .rows)) × (at (round-in t) i .ticket ≡ k) →
       stand-in (round-in t) (some (at (round-in t) i)) ≡ substitute-answer k t
   unfolding substitute-answer first
   substitute-found e f i h =

@@ -3,7 +3,7 @@ ghost use mathlib.Core.Path.{_≡_};
 ghost use Prim.Native.Nat.{_≤_};
 ghost use Rattle.rules.specs.Plan.{mark};
 ghost use Rattle.rules.specs.Table.{round-in, table-refusal};
-ghost use Rattle.rules.specs.Calls.{marking, Says};
+ghost use Rattle.rules.specs.Calls.{marking, asking, Says};
 ghost use Rattle.round.specs.Head.{Head-of};
 ghost use Rattle.tally.specs.Rows.{Ready};
 ghost use Rattle.replies.specs.Replies.{of-marked};
@@ -20,7 +20,7 @@ use sorts::Weight;
 use tally::near::reach_of;
 
 pub fn mark_of(slot: Slot, table: &[u8]) -> Marked
-    ensures { λ r. ⌜ Says (marking (slot .0)) (of-marked r) (now (table .entry)) (now (table .exit)) ⌝ }
+    ensures { λ r. ⌜ Says (asking (marking (slot .0))) (of-marked r) (now (table .entry)) (now (table .exit)) ⌝ }
 {
     match judge(table) {
         Judged::Refused(n) => Marked::Refused(n),
@@ -31,7 +31,7 @@ pub fn mark_of(slot: Slot, table: &[u8]) -> Marked
 // The same on a sound table.
 fn mark_in(table: &[u8], round: Round, slot: Slot) -> Marked
     requires { ⌜ (table-refusal (now table) ≡ 0) × Head-of (now table) round ⌝ }
-    ensures { λ r. ⌜ Says (marking (slot .0)) (of-marked r) (now (table .entry)) (now (table .exit)) ⌝ }
+    ensures { λ r. ⌜ Says (asking (marking (slot .0))) (of-marked r) (now (table .entry)) (now (table .exit)) ⌝ }
 {
     let refusal = marking_refusal(round, slot);
     if 0 < refusal {

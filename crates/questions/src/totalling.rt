@@ -2,7 +2,7 @@
 ghost use mathlib.Core.Path.{_≡_};
 ghost use Rattle.rules.specs.Plan.{total};
 ghost use Rattle.rules.specs.Table.{round-in, table-refusal};
-ghost use Rattle.rules.specs.Calls.{totalling, Says};
+ghost use Rattle.rules.specs.Calls.{totalling, asking, Says};
 ghost use Rattle.round.specs.Head.{Head-of};
 ghost use Rattle.tally.specs.Rows.{Ready};
 ghost use Rattle.replies.specs.Replies.{of-totalled};
@@ -16,7 +16,7 @@ use sorts::Round;
 use tally::near::reach_of;
 
 pub fn plan_total(table: &[u8]) -> Totalled
-    ensures { λ r. ⌜ Says totalling (of-totalled r) (now (table .entry)) (now (table .exit)) ⌝ }
+    ensures { λ r. ⌜ Says (asking totalling) (of-totalled r) (now (table .entry)) (now (table .exit)) ⌝ }
 {
     match judge(table) {
         Judged::Refused(n) => Totalled::Refused(n),
@@ -27,7 +27,7 @@ pub fn plan_total(table: &[u8]) -> Totalled
 // The same on a sound table.
 fn total_in(table: &[u8], round: Round) -> Totalled
     requires { ⌜ (table-refusal (now table) ≡ 0) × Head-of (now table) round ⌝ }
-    ensures { λ r. ⌜ Says totalling (of-totalled r) (now (table .entry)) (now (table .exit)) ⌝ }
+    ensures { λ r. ⌜ Says (asking totalling) (of-totalled r) (now (table .entry)) (now (table .exit)) ⌝ }
 {
     let refusal = sending_refusal(round);
     if 0 < refusal {

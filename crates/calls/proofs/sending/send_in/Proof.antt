@@ -2,7 +2,7 @@
 use Rattle.checks.proofs.Accepted.{send-accepted}
 use Rattle.round.proofs.ByHead.{sending-number, sending-by}
 use Rattle.theory.specs.Outcomes.{says-refused}
-use Rattle.rules.specs.Calls.{sending, step}
+use Rattle.rules.specs.Calls.{sending, acting, step}
 use native.Mathlib.Omega.{arith}
 use mathlib.Core.Path.{_≡_, sym, ap, _∙_}
 use borrow.Author.Needs.{needs}
@@ -15,7 +15,7 @@ sending-refusal-requires c κs = search needs
 returns : tie.Need-returns
 returns c =
     let s = c .before .before .before in
-    says-refused sending (s .args .table .now) _
+    says-refused (acting sending) (s .args .table .now) _
     (omega (arith, sending-by (s .args .table .now) (s .args .round) (s .pre .0) (s .pre .1), c .before .sending-refusal .ensures)) (λ z. omega (arith, z))
 
 -- no refusal where the number is not above 0

@@ -1,6 +1,6 @@
 -- `calls::sending::send_slot` meets its contract.
-use Rattle.theory.specs.Outcomes.{says-refused, judges, by-table}
-use Rattle.rules.specs.Calls.{sending}
+use Rattle.theory.specs.Outcomes.{says-refused, act-judges, by-table}
+use Rattle.rules.specs.Calls.{sending, acting}
 use Rattle.round.specs.Judge.{Judge-says}
 use mathlib.Core.Path.{subst}
 use borrow.Author.Needs.{needs}
@@ -27,7 +27,7 @@ returns : tie.Need-returns
 returns c =
     let s = c .before .before .before .before .before .before in
     let h = subst (Judge-says (s .args .table .now)) (c .before .n .given .1) (c .before .before .before .judge .ensures) in
-    says-refused sending (s .args .table .now) _ (by-table sending (s .args .table .now) _ (judges 0 0 0 .1) (h .0) (h .1)) (h .1)
+    says-refused (acting sending) (s .args .table .now) _ (by-table (acting sending) (s .args .table .now) _ (act-judges sending) (h .0) (h .1)) (h .1)
 
 same-length-2 : tie.Need-same-length-2
 same-length-2 c = search needs

@@ -1,9 +1,10 @@
 -- `calls::taking::take_frame` meets its contract.
 use borrow.Author.Needs.{needs}
 use mathlib.Core.Path.{subst}
-use Rattle.rules.specs.Calls.{taking}
+use Rattle.rules.specs.Rows.{framed}
+use Rattle.rules.specs.Calls.{taking, acting}
 use Rattle.round.specs.Judge.{Judge-says}
-use Rattle.theory.specs.Outcomes.{says-refused, judges, by-table}
+use Rattle.theory.specs.Outcomes.{says-refused, act-judges, by-table}
 use Rattle.calls.proofs.taking.take_frame.Statement.{statement}
 use Rattle.calls.proofs.taking.take_frame.Tie as tie
 
@@ -27,8 +28,8 @@ returns : tie.Need-returns
 returns c =
     let s = c .before .before .before .before .before .before in
     let h = subst (Judge-says (s .args .table .now)) (c .before .n .given .1) (c .before .before .before .judge .ensures) in
-    says-refused (taking (s .args .due .0) (s .args .weight .0)) (s .args .table .now) _
-    (by-table (taking (s .args .due .0) (s .args .weight .0)) (s .args .table .now) _ (judges (s .args .due .0) (s .args .weight .0) 0 .0) (h .0) (h .1)) (h .1)
+    says-refused (acting (taking (framed (s .args .due .0) (s .args .weight .0)))) (s .args .table .now) _
+    (by-table (acting (taking (framed (s .args .due .0) (s .args .weight .0)))) (s .args .table .now) _ (act-judges (taking (framed (s .args .due .0) (s .args .weight .0)))) (h .0) (h .1)) (h .1)
 
 same-length-2 : tie.Need-same-length-2
 same-length-2 c = search needs

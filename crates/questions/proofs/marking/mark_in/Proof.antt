@@ -1,7 +1,7 @@
 -- `questions::marking::mark_in` meets its contract.
 use mathlib.Core.Path.{_≡_, _∙_}
 use Rattle.theory.specs.Outcomes.{says-refused, mark-said}
-use Rattle.rules.specs.Calls.{marking}
+use Rattle.rules.specs.Calls.{marking, asking}
 use Rattle.checks.proofs.Accepted.{mark-accepted}
 use Rattle.round.proofs.ByHead.{marking-number, marking-by}
 use native.Mathlib.Omega.{arith}
@@ -15,7 +15,7 @@ marking-refusal-requires c κs = search needs
 returns : tie.Need-returns
 returns c =
     let s = c .before .before .before in
-    says-refused (marking (s .args .slot .0)) (s .args .table .now) _
+    says-refused (asking (marking (s .args .slot .0))) (s .args .table .now) _
     (omega (
       arith,
       marking-by (s .args .table .now) (s .args .round) (s .pre .0) (s .pre .1) (s .args .slot .0),

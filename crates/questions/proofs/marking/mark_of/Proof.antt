@@ -1,6 +1,6 @@
 -- `questions::marking::mark_of` meets its contract.
-use Rattle.theory.specs.Outcomes.{says-refused, judges, by-table}
-use Rattle.rules.specs.Calls.{marking}
+use Rattle.theory.specs.Outcomes.{says-refused, question-judges, by-table}
+use Rattle.rules.specs.Calls.{marking, asking}
 use Rattle.round.specs.Judge.{Judge-says}
 use mathlib.Core.Path.{subst}
 use borrow.Author.Needs.{needs}
@@ -24,8 +24,8 @@ returns : tie.Need-returns
 returns c =
     let s = c .before .before .before .before .before in
     let h = subst (Judge-says (s .args .table .now)) (c .before .n .given .1) (c .before .before .before .judge .ensures) in
-    says-refused (marking (s .args .slot .0)) (s .args .table .now) _
-    (by-table (marking (s .args .slot .0)) (s .args .table .now) _ (judges 0 0 (s .args .slot .0) .2) (h .0) (h .1)) (h .1)
+    says-refused (asking (marking (s .args .slot .0))) (s .args .table .now) _
+    (by-table (asking (marking (s .args .slot .0))) (s .args .table .now) _ (question-judges (marking (s .args .slot .0))) (h .0) (h .1)) (h .1)
 
 returns-2 : tie.Need-returns-2
 returns-2 c = search needs

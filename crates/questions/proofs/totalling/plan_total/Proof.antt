@@ -1,6 +1,6 @@
 -- `questions::totalling::plan_total` meets its contract.
-use Rattle.theory.specs.Outcomes.{says-refused, judges, by-table}
-use Rattle.rules.specs.Calls.{totalling}
+use Rattle.theory.specs.Outcomes.{says-refused, question-judges, by-table}
+use Rattle.rules.specs.Calls.{totalling, asking}
 use Rattle.round.specs.Judge.{Judge-says}
 use mathlib.Core.Path.{subst}
 use borrow.Author.Needs.{needs}
@@ -24,7 +24,7 @@ returns : tie.Need-returns
 returns c =
     let s = c .before .before .before .before .before in
     let h = subst (Judge-says (s .args .table .now)) (c .before .n .given .1) (c .before .before .before .judge .ensures) in
-    says-refused totalling (s .args .table .now) _ (by-table totalling (s .args .table .now) _ (judges 0 0 0 .3) (h .0) (h .1)) (h .1)
+    says-refused (asking totalling) (s .args .table .now) _ (by-table (asking totalling) (s .args .table .now) _ (question-judges totalling) (h .0) (h .1)) (h .1)
 
 returns-2 : tie.Need-returns-2
 returns-2 c = search needs

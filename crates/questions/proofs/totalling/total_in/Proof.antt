@@ -2,7 +2,7 @@
 use mathlib.Core.Path.{_≡_, _∙_}
 use Rattle.round.proofs.ByHead.{sending-number, totalling-by}
 use Rattle.theory.specs.Outcomes.{says-refused, total-said}
-use Rattle.rules.specs.Calls.{totalling}
+use Rattle.rules.specs.Calls.{totalling, asking}
 use Rattle.checks.proofs.Accepted.{send-accepted}
 use native.Mathlib.Omega.{arith}
 use borrow.Author.Needs.{needs}
@@ -15,7 +15,7 @@ sending-refusal-requires c κs = search needs
 returns : tie.Need-returns
 returns c =
     let s = c .before .before .before in
-    says-refused totalling (s .args .table .now) _
+    says-refused (asking totalling) (s .args .table .now) _
     (omega (arith, totalling-by (s .args .table .now) (s .args .round) (s .pre .0) (s .pre .1), c .before .sending-refusal .ensures)) (λ z. omega (arith, z))
 
 -- no refusal where the number is not above 0

@@ -154,7 +154,8 @@ module _ {M : Type 1} (𝓤 : URA M) (H : Heap 𝓤) (A : Atoms 𝓤) (W : Given
         qed W Entered ∵ exec ! (𝓣 .C) (𝓣 .Λ) (Vars 𝓤 H l) code.Mir.t-1 (atRet (Vars 𝓤 H l) (Post 𝓤 H A mem run c)) $
         assigns ! (of-opd ! (load ! (from ! (fld ! refl (stop !))) (look-in ! 24 (sub ! 1 refl (whole !))))) (from ! (stop !))
         (init ! 16 refl (tt, record { fits = gn .0 })) $
-        move ! (33 ∷ []) $ fsplit ! $ drop ! $ fsplit ! $ use1 W (‵ (Tab c) ⊛ ‵ (Tab c)) (shr-slice-copy 𝓤 H A W (named 0) (c .κ) u8 .twice (c .t) (table-val c ∷ [])) $
+        move ! (33 ∷ []) $ fsplit ! $ drop ! $ fsplit ! $
+        use1 W (‵ (Tab c) ⊛ ‵ (Tab c)) (shr-slice-copy 𝓤 H A W (named 0) (c .κ) u8 .twice (c .t) (table-val c ∷ [])) $
         split ! $ move ! (35 ∷ []) $ split ! $ move ! (1 ∷ []) $ split ! $ move ! (2 ∷ 1 ∷ []) $ join ! $
         nothing ! $ owned ! usize (Is usize) (uint-makes 𝓤 H A W w64) (length (c .ys)) _ (refl, gn .0) $ fjoin ! $ move ! (3 ∷ 0 ∷ []) $ fjoin ! $
         owned ! Vw.the-row (Is Vw.the-row) (EL.makes Vw.the-type Vw′.the-plain 𝓤 H A) (c .v) _ seen $ fjoin ! $
@@ -180,7 +181,8 @@ module _ {M : Type 1} (𝓤 : URA M) (H : Heap 𝓤) (A : Atoms 𝓤) (W : Given
       alloc1 ! (λ l₀. alloc1 ! (λ l₁. alloc1 ! (λ l₂. alloc1 ! (λ l₃. alloc1 ! (λ l₄. alloc1 ! (λ l₅. alloc1 ! (λ l₆.
       alloc1 ! (λ l₇. alloc1 ! (λ l₈. alloc1 !
       (λ l₉. alloc1 ! (λ l₁₀. alloc1 ! (λ l₁₁. alloc1 ! (λ l₁₂. alloc1 ! (λ l₁₃. alloc1 ! (λ l₁₄. alloc1 ! (λ l₁₅. alloc0 ! $ params1 ! $
-      pass1 ! (init ! 28 refl typed) $ pass1 ! (init ! 26 refl (tt, (tt, (record { fits = gt .0 }, tt)))) $ pass1 ! (init ! 24 refl (tt, (tt, (record { fits = gn .0 }, tt)))) $ pass0 ! $
+      pass1 ! (init ! 28 refl typed) $ pass1 ! (init ! 26 refl (tt, (tt, (record { fits = gt .0 }, tt)))) $
+      pass1 ! (init ! 24 refl (tt, (tt, (record { fits = gn .0 }, tt)))) $ pass0 ! $
       by ! (decides (record {
         reply = l₀;
         view = l₁;

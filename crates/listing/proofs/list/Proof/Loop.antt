@@ -72,7 +72,8 @@ module _ {M : Type 1} (𝓤 : URA M) (H : Heap 𝓤) (A : Atoms 𝓤) (mem : Mem
   Post = walkOf 𝓤 H A f.ended stayed (f.clauses 𝓤 H A mem run) .post bound
 
 module _ {M : Type 1} (𝓤 : URA M) (H : Heap 𝓤) (A : Atoms 𝓤) (W : Given 𝓤 H A) (mem : Memory → SProp 𝓤) (run : Routine → Fun 𝓤) (c : Lent)
-    (seen : Seen c) (r : Listing) (says-r : Decided c r) (parts : Parts r) (gn : Room E.the-row (length (c .ys))) (𝓣 : Tables 𝓤 H) (known : Triple 𝓤 (𝓣 .C #pick) (Picks 𝓤 H A mem run)) (l : Locals) where
+    (seen : Seen c) (r : Listing) (says-r : Decided c r) (parts : Parts r) (gn : Room E.the-row (length (c .ys))) (𝓣 : Tables 𝓤 H)
+    (known : Triple 𝓤 (𝓣 .C #pick) (Picks 𝓤 H A mem run)) (l : Locals) where
   -- THE END: the list is closed, and the reply is the decided one
   abbrev Left-over : List (Item 𝓤)
   Left-over =
@@ -139,7 +140,8 @@ module _ {M : Type 1} (𝓤 : URA M) (H : Heap 𝓤) (A : Atoms 𝓤) (W : Given
       (array-tells u16 (uint-vals w16) (uint-tells w16) 1024 (indices r) vs is) refl $
       -- [_4; obs; the borrow; its token; _5; _7 to _14; _1; _2; _3; _0; _6; the table; its token; true; that each local dies; view]
       returns ! (look ! 16 refl) $ forget ! 0 refl $ forget ! 4 refl $ forget ! 5 refl $ forget ! 13 refl $ forget ! 14 refl $ forget ! 15 refl $
-      forget ! 16 refl $ forget ! 36 refl $ move ! (16 ∷ 21 ∷ []) $ free1 ! $ move ! (34 ∷ 35 ∷ []) $ free1 ! $ move ! (13 ∷ 20 ∷ []) $ free1 ! $ move ! (13 ∷ 19 ∷ []) $ free1 ! $
+      forget ! 16 refl $ forget ! 36 refl $ move ! (16 ∷ 21 ∷ []) $ free1 ! $ move ! (34 ∷ 35 ∷ []) $ free1 ! $
+      move ! (13 ∷ 20 ∷ []) $ free1 ! $ move ! (13 ∷ 19 ∷ []) $ free1 ! $
       move ! (13 ∷ 18 ∷ []) $ free1 ! $ move ! (0 ∷ 17 ∷ []) $ free1 ! $ move ! (3 ∷ 16 ∷ []) $ free1 ! $ move ! (11 ∷ 15 ∷ []) $ free1 ! $
       move ! (3 ∷ 14 ∷ []) $ free1 ! $ move ! (3 ∷ 13 ∷ []) $ free1 ! $ move ! (3 ∷ 12 ∷ []) $ free1 ! $ move ! (3 ∷ 11 ∷ []) $ free1 ! $
       move ! (3 ∷ 10 ∷ []) $ free1 ! $ move ! (3 ∷ 9 ∷ []) $ free1 ! $ move ! (3 ∷ 8 ∷ []) $ free1 ! $ move ! (3 ∷ 7 ∷ []) $ free1 ! $ free0 ! $

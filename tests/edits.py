@@ -98,7 +98,7 @@ CONTRACTS = {
     "order": "`order_of` (`Ordered`): the plan's rows in canonical order",
     "calls": "`open_round`, `take_frame`, `send_slot` (`Says`): reply and bytes",
     "questions": "`mark_of`, `plan_total` (`Says`); `substitute_of` (`Looks`)",
-    "listing": "`list` (`Lists`): reply and entries",
+    "listing": "`list` (`Lists`): reply and entries, by view",
     "station": "each exported call: the packed reply and the bytes (`Exports`, `Exports-look`)",
     "lines": "`read_command` (`read`), `payload` (`Part`), `write_line` (`Writes`), `line_end` (`Ends`), the reply writers (`Replies`)",
     "turns": "`take_turn_in_room` (`Turns`): a command's call on the table, and its reply's line",

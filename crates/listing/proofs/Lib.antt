@@ -2,3 +2,4 @@ pub mod Readings
 pub mod ListFilled
 pub mod Listings
 pub mod EntriesFit
+pub mod PlanShape

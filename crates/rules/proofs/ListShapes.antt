@@ -14,15 +14,15 @@ use Rattle.rules.specs.Conditions.{Bytes, Length-bad, Unsound, Past, whe
 use Rattle.rules.specs.Demands.{Refusals, Refused, List-refused-unchanged, Plan-listings}
 
 -- REFUSED, ANSWERED, LEFT
-abbrev plan-refusal : List ℕ → (room : ℕ) → ℕ
+abbrev pub plan-refusal : List ℕ → (room : ℕ) → ℕ
 plan-refusal t n =
     first (table-refusal t)
     (first (cond (ltb (round-in t .last) (round-in t .slot)) 5 0) (cond (ltb n (length (listed (round-in t)))) 12 0))
 
-abbrev plan-answer : List ℕ → (room : ℕ) → Reply
+abbrev pub plan-answer : List ℕ → (room : ℕ) → Reply
 plan-answer t n = cond (eqb (plan-refusal t n) 0) (amount (length (listed (round-in t)))) (refused (plan-refusal t n))
 
-abbrev plan-left : {E : Type 0} → (entry : Row → E) → List ℕ → List E → List E
+abbrev pub plan-left : {E : Type 0} → (entry : Row → E) → List ℕ → List E → List E
 plan-left entry t es =
     cond (eqb (plan-refusal t (length es)) 0) (map entry (listed (round-in t)) ++ drop (length (listed (round-in t))) es) es
 
@@ -39,7 +39,7 @@ unfolding list-refusal list-left shows
 left-shape entry t es = refl
 
 -- EACH NUMBER under its condition
-abbrev plan-given : (room : ℕ) → List ℕ → ℕ → Type 0
+abbrev pub plan-given : (room : ℕ) → List ℕ → ℕ → Type 0
 plan-given n t = when 2 (Length-bad t) (when 3 (Unsound t) (when 5 (Past t) (when 12 (n < length (listed (round-in t))) accepted)))
 
 pub given-shape : (n : ℕ) (t : List ℕ) → list-given the-plan n t ≡ plan-given n t

@@ -37,7 +37,8 @@ pub record Shown (A : Type 0) : Type 0 where
   pub items : List A
   pub late : List Test
 
--- A LISTING of it into a lent list: 2, 3, the early tests, 12, the late ones; the count, and the list afterwards, for any items and any form of entry
+-- A LISTING of it into a lent list: 2, 3, the early tests, 12, the late ones; the count, and the list afterwards.
+-- For any items, and any form of entry
 unfoldable pub list-refusal : {A : Type 0} → (shown : Round → Shown A) → List ℕ → (room : ℕ) → ℕ
 list-refusal shown t n =
     let s = shown (round-in t) in

@@ -38,8 +38,9 @@ read4-requires-2 c κs = search needs
 
 -- src/listing.rt:57:1
 returns : tie.Need-returns
-returns c = entry-read (c .before .before .before .before .before .args .view) _ _ _ _ _ _ (c .before .before .before .row-at .ensures) (c .before .before .read4 .ensures) (c .before .read2 .ensures)
-    (c .read42 .ensures)
+returns c =
+    entry-read (c .before .before .before .before .before .args .view) _ _ _ _ _ _ (c .before .before .before .row-at .ensures)
+    (c .before .before .read4 .ensures) (c .before .read2 .ensures) (c .read42 .ensures)
 
 pub entry-at-spec : {M : Type 1} → statement M
 entry-at-spec =

@@ -40,7 +40,6 @@ use denote.Enum.Laws as EL
 use denote.Triple.Statement.{Triple}
 use denote.Triple.Entry.{Args, Vals}
 use denote.Triple.Walked.{says, Stays, stay-none, stay-slice, stay-none-slice, walkOf, ends-at}
-use Rattle.listing.specs.declared.Entry.{Entry}
 use Rattle.listing.specs.declared.Listing.{Listing}
 use Rattle.listing.proofs.Entry as E
 use Rattle.listing.proofs.Listed as L
@@ -73,7 +72,8 @@ module _ {M : Type 1} (𝓤 : URA M) (H : Heap 𝓤) (A : Atoms 𝓤) (mem : Mem
   Post = walkOf 𝓤 H A f.ended stayed (f.clauses 𝓤 H A mem run) .post bound
 
 module _ {M : Type 1} (𝓤 : URA M) (H : Heap 𝓤) (A : Atoms 𝓤) (W : Given 𝓤 H A) (mem : Memory → SProp 𝓤) (run : Routine → Fun 𝓤) (c : Lent)
-    (seen : Seen c) (r : Listing) (says-r : Decided c r) (parts : Parts r) (gn : Room E.the-row (length (c .ys))) (𝓣 : Tables 𝓤 H) (known : Triple 𝓤 (𝓣 .C #pick) (Picks 𝓤 H A mem run)) (l : Locals) where
+    (seen : Seen c) (r : Listing) (says-r : Decided c r) (parts : Parts r) (gn : Room E.the-row (length (c .ys))) (𝓣 : Tables 𝓤 H)
+    (known : Triple 𝓤 (𝓣 .C #pick) (Picks 𝓤 H A mem run)) (l : Locals) where
   -- THE END: the list is closed, and the reply is the decided one
   abbrev Left-over : List (Item 𝓤)
   Left-over =
@@ -93,21 +93,34 @@ module _ {M : Type 1} (𝓤 : URA M) (H : Heap 𝓤) (A : Atoms 𝓤) (W : Given
       move ! (0 ∷ 3 ∷ []) $ fjoin ! $ move ! (2 ∷ 0 ∷ []) $ fjoin ! $
       owned ! Vw.the-row (Is Vw.the-row) (EL.makes Vw.the-type Vw′.the-plain 𝓤 H A) (c .v) _ seen $ fjoin ! $ frame ! $ done !
 
-  -- k turns are to come
-  abbrev Inv : ℕ → SProp 𝓤
-  Inv k = ex 𝓤 (λ (i : ℕ). guard 𝓤 (i + k ≡ r .count) (⋆ 𝓤 H A (At 𝓤 c r l i)))
-
-  abbrev Below : ℕ → SProp 𝓤
-  Below k = ex 𝓤 (λ (k′ : ℕ). guard 𝓤 (k′ < k) (Inv k′))
-
-  -- and what follows the loop
+  -- what follows the loop
   abbrev pub Left : Out → SProp 𝓤
   Left =
       afterBlock 𝓤 H (afterSeq 𝓤 H (Wp 𝓤 H (𝓣 .C) (𝓣 .Λ) (Vars 𝓤 H l) code.Mir.t-6 (atReturn 𝓤 H (Vars 𝓤 H l) (Post 𝓤 H A mem run c)))
       (atReturn 𝓤 H (Vars 𝓤 H l) (Post 𝓤 H A mem run c)))
 
+  -- a turn: what is owned before it, and what comes after
+  abbrev Before : ℕ → SProp 𝓤
+  Before i = ⋆ 𝓤 H A (At 𝓤 c r l i)
+
+  abbrev Turn : (next : SProp 𝓤) → SProp 𝓤
+  Turn X = Wp 𝓤 H (𝓣 .C) (𝓣 .Λ) (Vars 𝓤 H l) code.Mir.turn-1 (afterTurn 𝓤 H X Left)
+
+  -- k turns are to come, the first of them turn i
+  abbrev To-come : (k i : ℕ) → SProp 𝓤
+  To-come k i = guard 𝓤 (i + k ≡ r .count) (Before i)
+
+  abbrev Inv : ℕ → SProp 𝓤
+  Inv k = ex 𝓤 (To-come k)
+
+  abbrev Below : ℕ → SProp 𝓤
+  Below k = ex 𝓤 (λ (m : ℕ). guard 𝓤 (m < k) (Inv m))
+
+  comes : (k i : ℕ) → i + k ≡ r .count → ent 𝓤 (Before i) (Inv k)
+  comes k i e = via 𝓤 (To-come k i) (guardI 𝓤 (i + k ≡ r .count) (Before i) e) (exI 𝓤 (To-come k) i)
+
   -- the turn that leaves the loop, and the rest of the body
-  ends : (X : SProp 𝓤) → ent 𝓤 (⋆ 𝓤 H A (At 𝓤 c r l (r .count))) (Wp 𝓤 H (𝓣 .C) (𝓣 .Λ) (Vars 𝓤 H l) code.Mir.turn-1 (afterTurn 𝓤 H X Left))
+  ends : (X : SProp 𝓤) → ent 𝓤 (Before (r .count)) (Turn X)
   unfolding afterTurn partOf
   ends X =
       let typed = EL.lawful L.the-type L′.the-laws 𝓤 H A W tt .typed (r .reply) _ (parts .reply) .0 in
@@ -127,35 +140,27 @@ module _ {M : Type 1} (𝓤 : URA M) (H : Heap 𝓤) (A : Atoms 𝓤) (W : Given
       (array-tells u16 (uint-vals w16) (uint-tells w16) 1024 (indices r) vs is) refl $
       -- [_4; obs; the borrow; its token; _5; _7 to _14; _1; _2; _3; _0; _6; the table; its token; true; that each local dies; view]
       returns ! (look ! 16 refl) $ forget ! 0 refl $ forget ! 4 refl $ forget ! 5 refl $ forget ! 13 refl $ forget ! 14 refl $ forget ! 15 refl $
-      forget ! 16 refl $ forget ! 36 refl $ move ! (16 ∷ 21 ∷ []) $ free1 ! $ move ! (34 ∷ 35 ∷ []) $ free1 ! $ move ! (13 ∷ 20 ∷ []) $ free1 ! $ move ! (13 ∷ 19 ∷ []) $ free1 ! $
+      forget ! 16 refl $ forget ! 36 refl $ move ! (16 ∷ 21 ∷ []) $ free1 ! $ move ! (34 ∷ 35 ∷ []) $ free1 ! $
+      move ! (13 ∷ 20 ∷ []) $ free1 ! $ move ! (13 ∷ 19 ∷ []) $ free1 ! $
       move ! (13 ∷ 18 ∷ []) $ free1 ! $ move ! (0 ∷ 17 ∷ []) $ free1 ! $ move ! (3 ∷ 16 ∷ []) $ free1 ! $ move ! (11 ∷ 15 ∷ []) $ free1 ! $
       move ! (3 ∷ 14 ∷ []) $ free1 ! $ move ! (3 ∷ 13 ∷ []) $ free1 ! $ move ! (3 ∷ 12 ∷ []) $ free1 ! $ move ! (3 ∷ 11 ∷ []) $ free1 ! $
       move ! (3 ∷ 10 ∷ []) $ free1 ! $ move ! (3 ∷ 9 ∷ []) $ free1 ! $ move ! (3 ∷ 8 ∷ []) $ free1 ! $ move ! (3 ∷ 7 ∷ []) $ free1 ! $ free0 ! $
       owned ! L.the-row (Is L.the-row) (EL.makes L.the-type L′.the-plain 𝓤 H A) (r .reply) _ (parts .reply) $ by ! exits))
 
   -- entry i + 1 comes next, with k left
-  below : (k i : ℕ) → suc i + k ≡ r .count → ent 𝓤 (⋆ 𝓤 H A (At 𝓤 c r l (suc i))) (Below (suc k))
+  below : (k i : ℕ) → suc i + k ≡ r .count → ent 𝓤 (Before (suc i)) (Below (suc k))
   below k i e =
-      via 𝓤 (Inv k)
-      (via 𝓤 (guard 𝓤 (suc i + k ≡ r .count) (⋆ 𝓤 H A (At 𝓤 c r l (suc i)))) (guardI 𝓤 (suc i + k ≡ r .count) (⋆ 𝓤 H A (At 𝓤 c r l (suc i))) e)
-      (exI 𝓤 (λ (j : ℕ). guard 𝓤 (j + k ≡ r .count) (⋆ 𝓤 H A (At 𝓤 c r l j))) (suc i)))
-      (via 𝓤 (guard 𝓤 (k < suc k) (Inv k)) (guardI 𝓤 (k < suc k) (Inv k) (lt-suc-self k)) (exI 𝓤 (λ (u : ℕ). guard 𝓤 (u < suc k) (Inv u)) k))
+      via 𝓤 (Inv k) (comes k (suc i) e)
+      (via 𝓤 (guard 𝓤 (k < suc k) (Inv k)) (guardI 𝓤 (k < suc k) (Inv k) (lt-suc-self k)) (exI 𝓤 (λ (m : ℕ). guard 𝓤 (m < suc k) (Inv m)) k))
 
-  turn-at : (k i : ℕ) → i + k ≡ r .count → ent 𝓤 (⋆ 𝓤 H A (At 𝓤 c r l i))
-      (Wp 𝓤 H (𝓣 .C) (𝓣 .Λ) (Vars 𝓤 H l) code.Mir.turn-1 (afterTurn 𝓤 H (Below k) Left))
-  turn-at zero i e =
-      let z : r .count ≡ i = omega arith in
-      subst (λ (j : ℕ). ent 𝓤 (⋆ 𝓤 H A (At 𝓤 c r l j)) (Wp 𝓤 H (𝓣 .C) (𝓣 .Λ) (Vars 𝓤 H l) code.Mir.turn-1 (afterTurn 𝓤 H (Below zero) Left))) z
-      (ends (Below zero))
+  turn-at : (k i : ℕ) → i + k ≡ r .count → ent 𝓤 (Before i) (Turn (Below k))
+  turn-at zero i e = let z : r .count ≡ i = omega arith in subst (λ (j : ℕ). ent 𝓤 (Before j) (Turn (Below zero))) z (ends (Below zero))
   turn-at (suc k) i e = more 𝓤 H A W mem run c seen r says-r parts gn 𝓣 known l i (Below (suc k)) Left (omega arith) (below k i (omega arith))
 
-  turns : (k : ℕ) → ent 𝓤 (Inv k) (Wp 𝓤 H (𝓣 .C) (𝓣 .Λ) (Vars 𝓤 H l) code.Mir.turn-1 (afterTurn 𝓤 H (Below k) Left))
-  turns k = exE 𝓤 (λ (i : ℕ). guard 𝓤 (i + k ≡ r .count) (⋆ 𝓤 H A (At 𝓤 c r l i)))
-      (λ i. guardE 𝓤 (i + k ≡ r .count) (⋆ 𝓤 H A (At 𝓤 c r l i)) (λ e. turn-at k i e))
+  turns : (k : ℕ) → ent 𝓤 (Inv k) (Turn (Below k))
+  turns k = exE 𝓤 (To-come k) (λ i. guardE 𝓤 (i + k ≡ r .count) (Before i) (λ e. turn-at k i e))
 
-  pub loops : ent 𝓤 (⋆ 𝓤 H A (At 𝓤 c r l 0)) (Wp 𝓤 H (𝓣 .C) (𝓣 .Λ) (Vars 𝓤 H l) (loop code.Mir.turn-1) Left)
+  pub loops : ent 𝓤 (Before 0) (Wp 𝓤 H (𝓣 .C) (𝓣 .Λ) (Vars 𝓤 H l) (loop code.Mir.turn-1) Left)
   loops =
-      via 𝓤 (Inv (r .count))
-      (via 𝓤 (guard 𝓤 (0 + r .count ≡ r .count) (⋆ 𝓤 H A (At 𝓤 c r l 0))) (guardI 𝓤 (0 + r .count ≡ r .count) (⋆ 𝓤 H A (At 𝓤 c r l 0)) (omega arith))
-      (exI 𝓤 (λ (j : ℕ). guard 𝓤 (j + r .count ≡ r .count) (⋆ 𝓤 H A (At 𝓤 c r l j))) 0))
+      via 𝓤 (Inv (r .count)) (comes (r .count) 0 (omega arith))
       (loop-rule 𝓤 H (W .laws) 𝓣 _<_ (Nat·lt-wfRel .wf) (Vars 𝓤 H l) code.Mir.turn-1 Left Inv turns (r .count))

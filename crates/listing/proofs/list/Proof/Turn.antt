@@ -64,9 +64,11 @@ Frame 𝓤 c r l =
     ∷ ‵ (fobor (c .κ′) (c .q′) (Held E.the-row (length (c .ys)) (c .b) (c .o) (c .γ)))
     ∷ ‵ (fobs (c .γ) (codedHoleys E.the-row .code (heres E.the-row (c .ys))))
     ∷ ‵ (fauth (c .γ) (codedHoleys E.the-row .code (heres E.the-row (c .ys)))) ∷ ‵ (Tab c) ∷ Tok 𝓤 c ∷ ‵ ftrue
-    ∷ ‵ (fdies L′.mir (l .reply)) ∷ ‵ (fdies table-ty (l .table)) ∷ ‵ (fdies list-ty (l .entries)) ∷ ‵ (fdies P′.mir (l .listing)) ∷ ‵ (fdies rows-ty (l .rows))
+    ∷ ‵ (fdies L′.mir (l .reply)) ∷ ‵ (fdies table-ty (l .table)) ∷ ‵ (fdies list-ty (l .entries)) ∷ ‵ (fdies P′.mir (l .listing))
+    ∷ ‵ (fdies rows-ty (l .rows))
     ∷ ‵ (fdies (tyInt w64) (l .turn)) ∷ ‵ (fdies (tyInt w64) (l .room)) ∷ ‵ (fdies tyBool (l .more)) ∷ ‵ (fdies E′.mir (l .entry))
-    ∷ ‵ (fdies (tyInt w64) (l .row-far)) ∷ ‵ (fdies tyPtr (l .rows-ptr)) ∷ ‵ (fdies tyPtr (l .row-ptr)) ∷ ‵ (fdies (tyInt w16) (l .row)) ∷ ‵ (fdies (tyInt w64) (l .entry-far))
+    ∷ ‵ (fdies (tyInt w64) (l .row-far)) ∷ ‵ (fdies tyPtr (l .rows-ptr)) ∷ ‵ (fdies tyPtr (l .row-ptr)) ∷ ‵ (fdies (tyInt w16) (l .row))
+    ∷ ‵ (fdies (tyInt w64) (l .entry-far))
     ∷ ‵ (fdies tyPtr (l .entry-ptr)) ∷ ‵ (fat fullShare Vw′.mir (l .view) 0 (view-val c)) ∷ ‵ (fdies Vw′.mir (l .view)) ∷ []
 
 -- WHAT IS OWNED before turn i
@@ -78,7 +80,8 @@ At 𝓤 c r l i =
     ∷ ‵ (froom (tyInt w64) (l .entry-far) 0) ∷ ‵ (froom tyPtr (l .entry-ptr) 0) ∷ Frame 𝓤 c r l
 
 module _ {M : Type 1} (𝓤 : URA M) (H : Heap 𝓤) (A : Atoms 𝓤) (W : Given 𝓤 H A) (mem : Memory → SProp 𝓤) (run : Routine → Fun 𝓤) (c : Lent)
-    (seen : Seen c) (r : Listing) (says-r : Decided c r) (parts : Parts r) (gn : Room E.the-row (length (c .ys))) (𝓣 : Tables 𝓤 H) (known : Triple 𝓤 (𝓣 .C #pick) (Picks 𝓤 H A mem run)) (l : Locals) where
+    (seen : Seen c) (r : Listing) (says-r : Decided c r) (parts : Parts r) (gn : Room E.the-row (length (c .ys))) (𝓣 : Tables 𝓤 H)
+    (known : Triple 𝓤 (𝓣 .C #pick) (Picks 𝓤 H A mem run)) (l : Locals) where
   -- A TURN writes one entry
   pub more : (i : ℕ) (X : SProp 𝓤) (Q : Out → SProp 𝓤) → i < r .count → ent 𝓤 (⋆ 𝓤 H A (At 𝓤 c r l (suc i))) X →
       ent 𝓤 (⋆ 𝓤 H A (At 𝓤 c r l i)) (Wp 𝓤 H (𝓣 .C) (𝓣 .Λ) (Vars 𝓤 H l) code.Mir.turn-1 (afterTurn 𝓤 H X Q))
@@ -112,7 +115,8 @@ module _ {M : Type 1} (𝓤 : URA M) (H : Heap 𝓤) (A : Atoms 𝓤) (W : Given
       -- the table's reference is copied, and the callee is handed one copy, with the token
       move ! (19 ∷ []) $ use1 W (‵ (Tab c) ⊛ ‵ (Tab c)) (shr-slice-copy 𝓤 H A W (named 0) (c .κ) u8 .twice (c .t) (table-val c ∷ [])) $ split ! $
       nothing ! $ owned ! u16 (Is u16) (uint-makes 𝓤 H A W w16) j _ (refl, is .1) $ fjoin ! $ move ! (1 ∷ 0 ∷ []) $ fjoin ! $
-      owned ! Vw.the-row (Is Vw.the-row) (EL.makes Vw.the-type Vw′.the-plain 𝓤 H A) (c .v) _ seen $ fjoin ! $ move ! (21 ∷ 0 ∷ []) $ use2 W (raw (Picks 𝓤 H A mem run .pre (to-pick 𝓤 H A W mem run c j))) (pick-asked 𝓤 H A W mem run c j h) $
+      owned ! Vw.the-row (Is Vw.the-row) (EL.makes Vw.the-type Vw′.the-plain 𝓤 H A) (c .v) _ seen $ fjoin ! $ move ! (21 ∷ 0 ∷ []) $
+      use2 W (raw (Picks 𝓤 H A mem run .pre (to-pick 𝓤 H A W mem run c j))) (pick-asked 𝓤 H A W mem run c j h) $
       calls-at ! (fmOf 𝓤 H (W .laws) 𝓣) (Picks 𝓤 H A mem run) known (to-pick 𝓤 H A W mem run c j)
       (and-then ! (load ! (from ! (stop !)) (look ! 37 refl)) (and-then ! (load ! (from ! (stop !)) (look ! 13 refl))
       (and-then ! (load ! (from ! (stop !)) (look ! 10 refl)) (no-more !)))) (λ u.

@@ -99,8 +99,8 @@ spelled = record {
   lifetimes = 1;
   outlives = [];
   params = 4;
-  locals = local out-ty valueLocal ∷ local Vw′.mir valueLocal ∷ local table-ty valueLocal ∷ local list-ty valueLocal ∷ local (tyInt w64) valueLocal ∷ local list-ty memorySlot
-      ∷ local L′.mir valueLocal ∷ local whole-ty valueLocal ∷ local lent-ty valueLocal ∷ local list-ty valueLocal ∷ [];
+  locals = local out-ty valueLocal ∷ local Vw′.mir valueLocal ∷ local table-ty valueLocal ∷ local list-ty valueLocal ∷ local (tyInt w64) valueLocal
+      ∷ local list-ty memorySlot ∷ local L′.mir valueLocal ∷ local whole-ty valueLocal ∷ local lent-ty valueLocal ∷ local list-ty valueLocal ∷ [];
   body = code.Mir.t-1;
 }
 
@@ -170,7 +170,9 @@ module _ {M : Type 1} (𝓤 : URA M) (H : Heap 𝓤) (A : Atoms 𝓤) (W : Given
     to-list = (((κ, (ν ∷ [], tt)), (q, (fullShare, tt)), tt, args, arg-vals), tt)
 
     asked : ent 𝓤 (onEntry 𝓤 H A listf.signature (κ, (ν ∷ [], tt)) (q, (fullShare, tt)) args arg-vals) (Listings 𝓤 H A at-mem run .pre to-list)
-    asked = qed W (Toks ∷ ‵ (owns (Vw.the-row ∷ ShrSlice (named 0) κ u8 ∷ MutSlice (named 1) (ν ∷ []) E.the-row ∷ []) args arg-vals) ∷ []) ∵ join ! $ frame ! $ done !
+    asked =
+        qed W (Toks ∷ ‵ (owns (Vw.the-row ∷ ShrSlice (named 0) κ u8 ∷ MutSlice (named 1) (ν ∷ []) E.the-row ∷ []) args arg-vals) ∷ []) ∵
+        join ! $ frame ! $ done !
 
   -- what the outcome is made from
   module _ (r : Listed) (us : List Entry) where
@@ -287,7 +289,8 @@ module _ {M : Type 1} (𝓤 : URA M) (H : Heap 𝓤) (A : Atoms 𝓤) (W : Given
         land ! (from ! (stop !)) (init ! 24 refl (array-lawful 𝓤 H A W u8 (uint-lawful 𝓤 H A W w8) 12296 .typed bs _ isb .0)) $
         returns ! (look ! 24 refl) $ forget ! 24 refl $ forget ! 22 refl $ forget ! 20 refl $ forget ! 18 refl $ forget ! 16 refl $ forget ! 13 refl $ forget ! 11 refl $
         forget ! 9 refl $ forget ! 7 refl $ forget ! 1 refl $
-        move ! (24 ∷ 25 ∷ []) $ free1 ! $ move ! (22 ∷ 23 ∷ []) $ free1 ! $ move ! (20 ∷ 21 ∷ []) $ free1 ! $ move ! (18 ∷ 19 ∷ []) $ free1 ! $ move ! (16 ∷ 17 ∷ []) $ free1 ! $
+        move ! (24 ∷ 25 ∷ []) $ free1 ! $ move ! (22 ∷ 23 ∷ []) $ free1 ! $
+        move ! (20 ∷ 21 ∷ []) $ free1 ! $ move ! (18 ∷ 19 ∷ []) $ free1 ! $ move ! (16 ∷ 17 ∷ []) $ free1 ! $
         move ! (1 ∷ 15 ∷ []) $ free1 ! $
         move ! (12 ∷ 13 ∷ []) $ free1 ! $ move ! (10 ∷ 11 ∷ []) $ free1 ! $ move ! (8 ∷ 9 ∷ []) $ free1 ! $ move ! (6 ∷ 7 ∷ []) $ free1 ! $ free0 ! $
         keep ! (2 ∷ 3 ∷ 4 ∷ 5 ∷ []) $ by ! (exits seen are bs z isb e))))))))))))))))))))))))))

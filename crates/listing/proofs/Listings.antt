@@ -7,7 +7,7 @@ use borrow.Author.Tests.{lt-ltb, le-ltb, ne-eqb}
 use lib.ListN.{length, getD}
 use Rattle.rules.specs.Rows.{round}
 use Rattle.rules.specs.Table.{round-in, table-refusal}
-use Rattle.rules.specs.Calls.{first, send-refusal}
+use Rattle.rules.specs.Calls.{first, first-of}
 use Rattle.rules.specs.Looking.{View, the-plan, shows, list-refusal, list-answer, list-left}
 use Rattle.sorts.specs.declared.Round.{Round}
 use Rattle.round.specs.Head.{Head-of}
@@ -24,15 +24,15 @@ use Rattle.listing.specs.Listing.{filled, Listing-says, Nothing-listed, 
 use Rattle.listing.proofs.ListFilled.{filled-all}
 
 -- BY VIEW: past the last slot nothing is shown; else nothing is refused beside 12; and the rows
-pub early-over : (v : View) (t : List ℕ) → round-in t .last < round-in t .slot → shows v (round-in t) .early ≡ 5
-unfolding shows send-refusal
+pub early-over : (v : View) (t : List ℕ) → round-in t .last < round-in t .slot → first-of (shows v (round-in t) .early) ≡ 5
+unfolding shows
 early-over the-plan t h = rw (lt-ltb (round-in t .last) (round-in t .slot) h)
 
-pub early-none : (v : View) (t : List ℕ) → round-in t .slot ≤ round-in t .last → shows v (round-in t) .early ≡ 0
-unfolding shows send-refusal
+pub early-none : (v : View) (t : List ℕ) → round-in t .slot ≤ round-in t .last → first-of (shows v (round-in t) .early) ≡ 0
+unfolding shows
 early-none the-plan t h = rw (le-ltb (round-in t .last) (round-in t .slot) h)
 
-pub late-none : (v : View) (t : List ℕ) → shows v (round-in t) .late ≡ 0
+pub late-none : (v : View) (t : List ℕ) → first-of (shows v (round-in t) .late) ≡ 0
 unfolding shows
 late-none the-plan t = refl
 

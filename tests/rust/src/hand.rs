@@ -3,7 +3,6 @@
 
 use crate::call::Call;
 use crate::counts::{Slot, Ticket, Weight};
-use crate::mutation::Mutation;
 use crate::round::{Round, Row};
 use crate::table::{encode, row_at};
 
@@ -126,7 +125,7 @@ pub fn table(rows: usize, last: u32, used: &[HandRow]) -> Vec<u8> {
         rows: used.iter().map(row).collect(),
     };
     let mut table = vec![0; row_at(rows)];
-    encode(&round, &mut table, Mutation::None);
+    encode(&round, &mut table);
     table
 }
 

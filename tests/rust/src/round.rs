@@ -1,6 +1,7 @@
 //! A round as it stands between two calls.
 
 use crate::counts::{Slot, Ticket, Weight};
+use crate::order::Item;
 
 /// A waiting row: a frame, or a kept blank.
 #[derive(Clone, Copy, PartialEq, Eq, Debug)]
@@ -44,5 +45,16 @@ impl Round {
     /// The place of the row with this ticket.
     pub fn place(&self, ticket: Ticket) -> Option<usize> {
         self.rows.iter().position(|row| row.ticket == ticket)
+    }
+
+    /// An item's row; a blank has none.
+    pub fn row_of(&mut self, item: Item) -> Option<&mut Row> {
+        let place = self.place(item.ticket?)?;
+        Some(&mut self.rows[place])
+    }
+
+    /// An item's row leaves, and the others close up.
+    pub fn leaves(&mut self, item: Item) {
+        self.rows.retain(|row| Some(row.ticket) != item.ticket);
     }
 }

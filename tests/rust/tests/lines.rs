@@ -1,12 +1,12 @@
 //! Reading and writing text lines, each undoing the other.
 
-use second::calls::Second;
 use second::command::Command;
 use second::compare::draw::Draw;
 use second::counts::{Slot, Weight};
 use second::refusal::Refusal;
+use second::rules::Rules;
 
-const SECOND: Second = Second::PLAIN;
+const SECOND: &Rules = Rules::PAPERS;
 
 fn take(due: u32, weight: u32) -> Command {
     Command::Take {

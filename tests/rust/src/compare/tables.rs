@@ -2,7 +2,6 @@
 
 use crate::compare::draw::Draw;
 use crate::counts::{Slot, Ticket, Weight};
-use crate::mutation::Mutation;
 use crate::round::{Round, Row};
 use crate::table::{encode, row_at};
 
@@ -165,7 +164,7 @@ fn ladder(draw: &mut Draw, slot: Slot, last: Slot, tickets: Vec<Ticket>) -> Vec<
 /// The table of a round, with so many rows.
 pub fn table(round: &Round, rows: u32) -> Vec<u8> {
     let mut table = vec![0; row_at(rows as usize)];
-    encode(round, &mut table, Mutation::None);
+    encode(round, &mut table);
     table
 }
 

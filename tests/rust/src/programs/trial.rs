@@ -1,11 +1,11 @@
 //! What the program trial reads and prints (tests/trial.md), over the second
 //! implementation.
 
-use crate::calls::Second;
 use crate::command::Command;
 use crate::counts::{Slot, Ticket, Weight};
 use crate::listing::Entry;
 use crate::refusal::Refusal;
+use crate::rules::Rules;
 
 /// The most bytes after a request's head.
 pub const MOST_SIZE: usize = 24_640;
@@ -84,7 +84,7 @@ impl Request {
     }
 
     /// The outcome's bytes.
-    pub fn outcome(&self, second: Second) -> Vec<u8> {
+    pub fn outcome(&self, second: &Rules) -> Vec<u8> {
         match self {
             Request::List { table, room } => listed(second, table, *room),
             Request::Write {
@@ -129,7 +129,7 @@ fn command_of(number: u32, slot: u32, weight: u32) -> Option<Command> {
     }
 }
 
-fn listed(second: Second, table: &[u8], room: usize) -> Vec<u8> {
+fn listed(second: &Rules, table: &[u8], room: usize) -> Vec<u8> {
     let mut entries = vec![ENTRY; room];
     let answer = second.list(table, &mut entries);
     let mut bytes = Vec::new();
@@ -140,7 +140,7 @@ fn listed(second: Second, table: &[u8], room: usize) -> Vec<u8> {
     bytes
 }
 
-fn wrote(second: Second, command: Command, payload: &[u8], room: usize) -> Vec<u8> {
+fn wrote(second: &Rules, command: Command, payload: &[u8], room: usize) -> Vec<u8> {
     let mut buffer = vec![BYTE; room];
     let answer = second.write(command, payload, &mut buffer);
     let mut bytes = Vec::new();
@@ -149,7 +149,7 @@ fn wrote(second: Second, command: Command, payload: &[u8], room: usize) -> Vec<u
     bytes
 }
 
-fn read(second: Second, line: &[u8]) -> Vec<u8> {
+fn read(second: &Rules, line: &[u8]) -> Vec<u8> {
     let (refusal, [command, slot, weight]) = match second.read(line) {
         Ok(command) => (0, numbers_of(command)),
         Err(refusal) => (u32::from(refusal.number()), [0; 3]),

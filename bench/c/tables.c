@@ -92,13 +92,13 @@ void draw_table(struct table *table, enum shape shape, uint32_t rows, uint32_t k
         shuffle(drawn_rows, count, &state);
     }
     const uint32_t used = count > rows - kept_free ? rows - kept_free : count;
-    table->length = SIZE(rows);
+    table->length = TABLE_SIZE(rows);
     memset(table->bytes, 0, sizeof table->bytes);
     put(table->bytes, head_last, slots - 1);
     put(table->bytes, head_next, used + 1);
     put(table->bytes, head_used, used);
     for (uint32_t place = 0; place < used; place++) {
-        uint8_t *row = table->bytes + SIZE(place);
+        uint8_t *row = table->bytes + TABLE_SIZE(place);
         put(row, row_ticket, place + 1);
         put(row, row_due, drawn_rows[place].due);
         put(row, row_weight, drawn_rows[place].weight);
@@ -108,7 +108,7 @@ void draw_table(struct table *table, enum shape shape, uint32_t rows, uint32_t k
 uint32_t heaviest_ticket(const struct table *table)
 {
     uint32_t heaviest = 0, ticket = 0;
-    for (size_t at = SIZE(0); at < table->length; at += ROW_SIZE) {
+    for (size_t at = TABLE_SIZE(0); at < table->length; at += ROW_SIZE) {
         const uint8_t *row = table->bytes + at;
         if (get(row, row_weight) > heaviest) {
             heaviest = get(row, row_weight);

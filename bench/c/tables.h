@@ -13,7 +13,7 @@ extern const char *const shape_names[SHAPES];
 
 struct table {
     size_t length;
-    uint8_t bytes[SIZE(MOST_ROWS)];
+    uint8_t bytes[TABLE_SIZE(MOST_ROWS)];
 };
 
 /* A sound table of so many rows at slot 0 of so many slots, the `kept_free` last of them not in use. */

@@ -18,7 +18,7 @@ static void show(void)
 {
     printf("round %u %u\n", (unsigned)get(table, head_slot), (unsigned)get(table, head_last));
     for (unsigned place = 0; place < get(table, head_used); place++) {
-        const uint8_t *row = table + SIZE(place);
+        const uint8_t *row = table + TABLE_SIZE(place);
         unsigned ticket = (unsigned)get(row, row_ticket);
         uint64_t substitute = lirvedd_substitute(ticket, table, sizeof table);
 

@@ -249,7 +249,7 @@ static int same_rows(const struct turn *t)
 {
     int same = get(table, head_used) == (uint32_t)t->rows;
     for (int i = 0; i < t->rows; i++) {
-        const uint8_t *row = table + SIZE(i);
+        const uint8_t *row = table + TABLE_SIZE(i);
         same = same && get(row, row_ticket) == t->row[i].ticket && get(row, row_due) == t->row[i].due;
         same = same && get(row, row_weight) == t->row[i].weight && get(row, row_kind) == t->row[i].kind;
     }

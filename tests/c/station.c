@@ -22,7 +22,7 @@ static void note(int holds, const char *fact, int line)
 }
 
 /* A table with room to spare behind it, so that a length may be a little too long. */
-enum { MOST = SIZE(1024), ROOM = MOST + 64 };
+enum { MOST = TABLE_SIZE(1024), ROOM = MOST + 64 };
 static uint8_t table[ROOM], before[ROOM];
 
 static void head(uint32_t slot, uint32_t last, uint32_t next, uint32_t used)
@@ -36,7 +36,7 @@ static void head(uint32_t slot, uint32_t last, uint32_t next, uint32_t used)
 
 static void row(size_t index, uint32_t ticket, uint32_t due, uint32_t weight, uint32_t kind)
 {
-    uint8_t *at = table + SIZE(index);
+    uint8_t *at = table + TABLE_SIZE(index);
     put(at, row_ticket, ticket);
     put(at, row_due, due);
     put(at, row_weight, weight);
@@ -82,8 +82,8 @@ static void opening(void)
 
     memset(table, 0xA5, sizeof table);
     memset(before, 0xA5, sizeof before);
-    memset(before, 0, SIZE(3));
-    CHECK(lirvedd_open(4095, table, SIZE(3)) == 0);
+    memset(before, 0, TABLE_SIZE(3));
+    CHECK(lirvedd_open(4095, table, TABLE_SIZE(3)) == 0);
     CHECK(changed_to(0, last_4095, HEAD_SIZE));
 
     memset(table, 0xFF, sizeof table);
@@ -92,24 +92,24 @@ static void opening(void)
     CHECK(lirvedd_open(258, table, MOST) == 0);
     CHECK(changed_to(0, last_258, HEAD_SIZE));
 
-    CHECK(lirvedd_open(0, table, SIZE(1)) == 0);
+    CHECK(lirvedd_open(0, table, TABLE_SIZE(1)) == 0);
     CHECK(get(table, head_last) == 0);
 }
 
 static void opening_refused(void)
 {
-    static const size_t bad[] = {0,           1,           HEAD_SIZE - 1, HEAD_SIZE, HEAD_SIZE + 1, SIZE(1) - 1,
-                                 SIZE(1) + 1, SIZE(2) - 1, SIZE(2) + 1,   MOST - 1,  MOST + 1,      SIZE(1025)};
+    static const size_t bad[] = {0,           1,           HEAD_SIZE - 1, HEAD_SIZE, HEAD_SIZE + 1, TABLE_SIZE(1) - 1,
+                                 TABLE_SIZE(1) + 1, TABLE_SIZE(2) - 1, TABLE_SIZE(2) + 1,   MOST - 1,  MOST + 1,      TABLE_SIZE(1025)};
 
     memset(table, 0xA5, sizeof table);
     for (size_t i = 0; i < sizeof bad / sizeof bad[0]; i++) {
         CHECK(open_refused(2, 7, bad[i]));
         CHECK(open_refused(2, 4096, bad[i])); /* 2 comes before 4 */
     }
-    CHECK(open_refused(4, 4096, SIZE(1)));
+    CHECK(open_refused(4, 4096, TABLE_SIZE(1)));
     CHECK(open_refused(4, 4097, MOST));
-    CHECK(open_refused(4, 65536, SIZE(1)));
-    CHECK(open_refused(4, UINT32_MAX, SIZE(1)));
+    CHECK(open_refused(4, 65536, TABLE_SIZE(1)));
+    CHECK(open_refused(4, UINT32_MAX, TABLE_SIZE(1)));
     CHECK(lirvedd_open(1, NULL, 0) == 2);
     CHECK(lirvedd_open(4096, NULL, 0) == 2);
 }
@@ -120,21 +120,21 @@ static void taking(void)
     static const uint8_t first[ROW_SIZE] = {1, 0, 0, 0, 0x34, 0x02, 0xEF, 0xCD, 0xAB, 0x00, 0};
     static const uint8_t second[ROW_SIZE] = {2, 0, 0, 0, 0xFF, 0x0F, 0x00, 0x00, 0x00, 0x01, 0};
     static const uint8_t third[ROW_SIZE] = {3, 0, 0, 0, 0, 0, 1, 0, 0, 0, 0};
-    const size_t length = SIZE(3);
+    const size_t length = TABLE_SIZE(3);
 
     CHECK(lirvedd_open(4095, table, length) == 0);
     memcpy(before, table, sizeof table);
     CHECK(lirvedd_take(0x0234, 0x00ABCDEF, table, length) == 1 << 8);
     counted_up(2, 1);
-    CHECK(changed_to(SIZE(0), first, sizeof first));
+    CHECK(changed_to(TABLE_SIZE(0), first, sizeof first));
 
     CHECK(lirvedd_take(4095, 16777216, table, length) == 2 << 8); /* the last slot, the most weight */
     counted_up(3, 2);
-    CHECK(changed_to(SIZE(1), second, sizeof second));
+    CHECK(changed_to(TABLE_SIZE(1), second, sizeof second));
 
     CHECK(lirvedd_take(0, 1, table, length) == 3 << 8); /* the current slot, the least weight */
     counted_up(4, 3);
-    CHECK(changed_to(SIZE(2), third, sizeof third));
+    CHECK(changed_to(TABLE_SIZE(2), third, sizeof third));
 
     CHECK(take_refused(9, 0, 1, length));
 }
@@ -145,7 +145,7 @@ static size_t many_rows(void)
     head(258, 3804, 0x00123456, 300);
     for (uint32_t i = 0; i < 300; i++)
         row(i, 1000 * (i + 1), 258 + 11 * i, 16777216 - i, i % 2);
-    return SIZE(302);
+    return TABLE_SIZE(302);
 }
 
 static void taking_among_many(void)
@@ -156,7 +156,7 @@ static void taking_among_many(void)
     memcpy(before, table, sizeof table);
     CHECK(lirvedd_take(3804, 0x00020304, table, length) == (uint64_t)0x00123456 << 8);
     counted_up(0x00123457, 301);
-    CHECK(changed_to(SIZE(300), now, sizeof now));
+    CHECK(changed_to(TABLE_SIZE(300), now, sizeof now));
     CHECK(lirvedd_take(258, 1, table, length) == (uint64_t)0x00123457 << 8);
     CHECK(take_refused(9, 258, 1, length));
 }
@@ -164,11 +164,11 @@ static void taking_among_many(void)
 /* The two tables written out in docs/TABLE.md. */
 static void worked_example(void)
 {
-    static const uint8_t given[SIZE(2)] = {
+    static const uint8_t given[TABLE_SIZE(2)] = {
         0x02, 0x01, 0xBC, 0x0A, 0x56, 0x34, 0x12, 0x00, 0x01, 0x00, 0x00, 0x00, 0x00, 0x00, 0x00, 0x00,
         0x45, 0x23, 0x01, 0x00, 0x05, 0x04, 0xDE, 0xBC, 0x0A, 0x00, 0x01,
     };
-    static const uint8_t left[SIZE(2)] = {
+    static const uint8_t left[TABLE_SIZE(2)] = {
         0x02, 0x01, 0xBC, 0x0A, 0x57, 0x34, 0x12, 0x00, 0x02, 0x00, 0x00, 0x00, 0x00, 0x00, 0x00, 0x00,
         0x45, 0x23, 0x01, 0x00, 0x05, 0x04, 0xDE, 0xBC, 0x0A, 0x00, 0x01, 0x00, 0x00, 0x00, 0x00, 0x00,
         0x00, 0x00, 0x00, 0x00, 0x00, 0x00, 0x00, 0x00, 0x56, 0x34, 0x12, 0x00, 0xBC, 0x0A, 0x00, 0x00,
@@ -193,7 +193,7 @@ static void taking_until_full(void)
 }
 
 /* A sound table of 3 rows, 2 of them used, in slot 3 of 0 to 9. */
-static const size_t small = SIZE(3);
+static const size_t small = TABLE_SIZE(3);
 
 static void sound(void)
 {
@@ -204,8 +204,8 @@ static void sound(void)
 
 static void taking_refused_2(void)
 {
-    static const size_t bad[] = {0,           1,           HEAD_SIZE - 1, HEAD_SIZE, SIZE(1) - 1, SIZE(1) + 1,
-                                 SIZE(3) - 1, SIZE(3) + 1, MOST - 1,      MOST + 1,  SIZE(1025)};
+    static const size_t bad[] = {0,           1,           HEAD_SIZE - 1, HEAD_SIZE, TABLE_SIZE(1) - 1, TABLE_SIZE(1) + 1,
+                                 TABLE_SIZE(3) - 1, TABLE_SIZE(3) + 1, MOST - 1,      MOST + 1,  TABLE_SIZE(1025)};
 
     sound();
     table[HEAD_SIZE - 1] = 1; /* not sound either: 2 comes before 3 */
@@ -228,7 +228,7 @@ static int unsound(const char *what, size_t at)
 /* Each byte called zero, set alone: of the head, of the used rows and of the unused one. */
 static void zeros_refused_3(void)
 {
-    static const size_t rows[] = {SIZE(0), SIZE(1)};
+    static const size_t rows[] = {TABLE_SIZE(0), TABLE_SIZE(1)};
 
     sound();
     for (size_t at = head_zeros.at; at < HEAD_SIZE; at++) {
@@ -240,7 +240,7 @@ static void zeros_refused_3(void)
             table[rows[i] + at] = 128;
             CHECK(unsound("a zero of a row", rows[i] + at));
         }
-    for (size_t at = SIZE(2); at < SIZE(3); at++) {
+    for (size_t at = TABLE_SIZE(2); at < TABLE_SIZE(3); at++) {
         table[at] = 1;
         CHECK(unsound("a zero of the unused row", at));
     }
@@ -254,17 +254,17 @@ static void taking_refused_3(void)
         const struct field *field;
         uint32_t value;
     } damage[] = {
-        {SIZE(0), &row_kind, 2},     {SIZE(1), &row_kind, 255},
+        {TABLE_SIZE(0), &row_kind, 2},     {TABLE_SIZE(1), &row_kind, 255},
         {0, &head_used, 4},          {0, &head_used, 3},          {0, &head_used, 258}, /* too many, or one that is all zeros */
         {0, &head_used, 1},                                                             /* an unused row that is not zero */
         {0, &head_last, 4096},       {0, &head_last, 65535},
         {0, &head_slot, 11},         {0, &head_slot, 65535},
         {0, &head_next, 0},          {0, &head_next, 16777217},   {0, &head_next, UINT32_MAX},
-        {SIZE(0), &row_ticket, 0},   {SIZE(0), &row_ticket, 5},   {SIZE(0), &row_ticket, 6}, /* they do not rise from 1 */
-        {0, &head_next, 5},          {SIZE(1), &row_ticket, 16777216},                       /* not below the next */
-        {SIZE(0), &row_due, 2},      {0, &head_slot, 4},                                     /* due before the current slot */
-        {SIZE(1), &row_due, 10},     {0, &head_last, 8},                                     /* due after the last */
-        {SIZE(0), &row_weight, 0},   {SIZE(1), &row_weight, 16777217},
+        {TABLE_SIZE(0), &row_ticket, 0},   {TABLE_SIZE(0), &row_ticket, 5},   {TABLE_SIZE(0), &row_ticket, 6}, /* they do not rise from 1 */
+        {0, &head_next, 5},          {TABLE_SIZE(1), &row_ticket, 16777216},                       /* not below the next */
+        {TABLE_SIZE(0), &row_due, 2},      {0, &head_slot, 4},                                     /* due before the current slot */
+        {TABLE_SIZE(1), &row_due, 10},     {0, &head_last, 8},                                     /* due after the last */
+        {TABLE_SIZE(0), &row_weight, 0},   {TABLE_SIZE(1), &row_weight, 16777217},
     };
 
     sound();

@@ -8,7 +8,7 @@
 #define HEAD_SIZE 16
 #define ROW_SIZE 24
 /* The bytes of a table of so many rows, and so the first byte of the row after them. */
-#define SIZE(rows) (HEAD_SIZE + ROW_SIZE * (size_t)(rows))
+#define TABLE_SIZE(rows) (HEAD_SIZE + ROW_SIZE * (size_t)(rows))
 
 /* Where a number stands in a head or a row, low byte first: its first byte, and how many it has. */
 struct field {

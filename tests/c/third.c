@@ -90,7 +90,7 @@ static void look(struct seen *s)
     s->last = get(table, head_last);
     s->used = get(table, head_used);
     for (uint32_t i = 0; i < s->used; i++) {
-        const uint8_t *row = table + SIZE(i);
+        const uint8_t *row = table + TABLE_SIZE(i);
         s->rows[i] = (struct row){get(row, row_ticket), get(row, row_due), get(row, row_weight)};
     }
     s->total = s->slot <= s->last ? lirvedd_amount(lirvedd_total(table, length)) : 0;

@@ -99,9 +99,7 @@ pub fn digit(byte: u8) -> Option<u32> {
 
 /// 0 to 24 bytes, of two digits each.
 const PAYLOAD: &[Clause] = &[
-    ("digits", |digits| {
-        digits.iter().all(|byte| digit(*byte).is_some())
-    }),
+    ("digits", |digits| digits.iter().all(|byte| digit(*byte).is_some())),
     ("whole bytes", |digits| digits.len() % 2 == 0),
     ("at most 24", |digits| digits.len() <= PAYLOAD_DIGITS),
 ];

@@ -50,11 +50,7 @@ mod tests {
             for y in 0..200u32 {
                 let other = x > 0 && x * y + y * y < x * x;
                 assert_eq!(greater(score(x, 0), score(0, y)), other, "{x} {y}");
-                assert_eq!(
-                    greater(score(0, y), score(x, 0)),
-                    !other && y > 0,
-                    "{x} {y}"
-                );
+                assert_eq!(greater(score(0, y), score(x, 0)), !other && y > 0, "{x} {y}");
             }
         }
     }
@@ -75,11 +71,7 @@ mod tests {
     fn fibonacci_takes_turns() {
         let (mut small, mut large, mut above) = (1u32, 2u32, true);
         while large <= 16_777_216 {
-            assert_eq!(
-                greater(score(large, 0), score(0, small)),
-                above,
-                "{large} {small}"
-            );
+            assert_eq!(greater(score(large, 0), score(0, small)), above, "{large} {small}");
             (small, large, above) = (large, large + small, !above);
         }
     }

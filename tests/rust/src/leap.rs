@@ -34,7 +34,10 @@ pub fn leap(plan: &Plan, p: Item, r: Item) -> Leap {
             due: r.due,
             weight: mark,
         },
-        kept: is_kept.then(|| kept_blank(p, r.due, mark)).flatten(),
+        kept: match is_kept {
+            true => kept_blank(p, r.due, mark),
+            false => None,
+        },
     }
 }
 
@@ -57,12 +60,7 @@ pub fn shifted(plan: &Plan, p: Item, r: Item) -> Vec<Change> {
 
 /// A kept blank with p's ticket, where p has one.
 pub fn kept_blank(p: Item, due: Slot, weight: Weight) -> Option<Row> {
-    p.ticket.map(|ticket| Row {
-        ticket,
-        due,
-        weight,
-        kept: true,
-    })
+    p.ticket.map(|ticket| Row::kept_blank(ticket, due, weight))
 }
 
 impl Leap {

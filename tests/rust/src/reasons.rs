@@ -60,9 +60,7 @@ pub const LISTING: &[Reason<usize>] = &[
     (Refusal::Length, bad_length),
     (Refusal::Unsound, unsound),
     (Refusal::Over, over),
-    (Refusal::Short, |asked| {
-        asked.argument < asked.listed().len()
-    }),
+    (Refusal::Short, |asked| asked.argument < asked.listed().len()),
 ];
 
 /// 2: the table's length is not 16 + 24 × n for n from 1 to 1,024.
@@ -124,9 +122,7 @@ pub type WritingOrder = Cow<'static, [WritingReason]>;
 /// 1, then 12: the buffer is shorter than the line.
 pub const WRITING: &[WritingReason] = &[
     (Refusal::Line, |line, _| line.is_none()),
-    (Refusal::Short, |line, room| {
-        line.is_some_and(|line| room < line.len())
-    }),
+    (Refusal::Short, |line, room| line.is_some_and(|line| room < line.len())),
 ];
 
 /// What a taking is given.

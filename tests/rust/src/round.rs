@@ -22,6 +22,32 @@ pub struct Round {
     pub rows: Vec<Row>,
 }
 
+impl Row {
+    pub fn frame(ticket: Ticket, due: Slot, weight: Weight) -> Row {
+        Row {
+            ticket,
+            due,
+            weight,
+            kept: false,
+        }
+    }
+
+    pub fn kept_blank(ticket: Ticket, due: Slot, weight: Weight) -> Row {
+        Row {
+            kept: true,
+            ..Row::frame(ticket, due, weight)
+        }
+    }
+
+    /// One of the two.
+    pub fn of_kind(kept: bool, ticket: Ticket, due: Slot, weight: Weight) -> Row {
+        match kept {
+            true => Row::kept_blank(ticket, due, weight),
+            false => Row::frame(ticket, due, weight),
+        }
+    }
+}
+
 impl Round {
     /// The most rows a table has.
     pub const ROWS: usize = 1_024;

@@ -11,32 +11,16 @@ use crate::table::{
 pub const CLAUSES: &[Clause] = &[
     ("zero bytes", |table| head_zeros(table) && row_zeros(table)),
     ("kinds", |table| each(table, KIND, |kind| kind <= 1)),
-    ("rows in use", |table| {
-        USED.get(table) as usize <= rows(table)
-    }),
+    ("rows in use", |table| USED.get(table) as usize <= rows(table)),
     ("last slot", |table| LAST.get(table) <= Round::LAST.0),
-    ("current slot", |table| {
-        SLOT.get(table) <= LAST.get(table) + 1
-    }),
-    ("next ticket", |table| {
-        (1..=Round::TICKET.0).contains(&NEXT.get(table))
-    }),
-    ("tickets rise from 1 up", |table| {
-        pairs(table).all(|(before, ticket)| ticket > before)
-    }),
-    ("tickets below the next", |table| {
-        each(table, TICKET, |ticket| ticket < NEXT.get(table))
-    }),
+    ("current slot", |table| SLOT.get(table) <= LAST.get(table) + 1),
+    ("next ticket", |table| (1..=Round::TICKET.0).contains(&NEXT.get(table))),
+    ("tickets rise from 1 up", |table| pairs(table).all(|(before, ticket)| ticket > before)),
+    ("tickets below the next", |table| each(table, TICKET, |ticket| ticket < NEXT.get(table))),
     ("due slots", |table| {
-        each(table, DUE, |due| {
-            (SLOT.get(table)..=LAST.get(table)).contains(&due)
-        })
+        each(table, DUE, |due| (SLOT.get(table)..=LAST.get(table)).contains(&due))
     }),
-    ("weights", |table| {
-        each(table, WEIGHT, |weight| {
-            (1..=Round::WEIGHT.0).contains(&weight)
-        })
-    }),
+    ("weights", |table| each(table, WEIGHT, |weight| (1..=Round::WEIGHT.0).contains(&weight))),
     ("unused rows", |table| is_zero(unused(table))),
 ];
 

@@ -13,13 +13,7 @@ pub fn take(rules: &Rules, due: Slot, weight: Weight, table: &mut [u8]) -> Resul
     let frame = Frame { due, weight };
     let round = Asked::new(rules, table, frame).accepted(&rules.reasons.take)?;
     let (ticket, used) = (round.next, round.rows.len());
-    let row = Row {
-        ticket,
-        due,
-        weight,
-        kept: false,
-    };
-    put_row(&row, row_mut(table, used));
+    put_row(&Row::frame(ticket, due, weight), row_mut(table, used));
     NEXT.put(table, ticket.0 + 1);
     USED.put(table, used as u32 + 1);
     Ok(ticket)

@@ -13,9 +13,7 @@ pub fn write(
     buffer: &mut [u8],
 ) -> Result<usize, Refusal> {
     let line = line(&rules.writing, command, payload);
-    first(&rules.reasons.write, |applies| {
-        applies(line.as_deref(), buffer.len())
-    })?;
+    first(&rules.reasons.write, |applies| applies(line.as_deref(), buffer.len()))?;
     let line = line.ok_or(Refusal::Line)?;
     buffer[..line.len()].copy_from_slice(&line);
     Ok(line.len())

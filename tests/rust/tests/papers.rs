@@ -13,11 +13,7 @@ use second::table::{decode, row_at};
 fn after(text: &str) -> Vec<u8> {
     let mut table = vec![0xEE; row_at(6)];
     for call in calls(text) {
-        assert_eq!(
-            Rules::PAPERS.answer(call, &mut table) & 0xFF,
-            0,
-            "{text}: {call:?}"
-        );
+        assert_eq!(Rules::PAPERS.answer(call, &mut table) & 0xFF, 0, "{text}: {call:?}");
     }
     table
 }
@@ -94,10 +90,7 @@ fn p6_and_p7_newcomers() {
     let alone = after("0; 0:5");
     let equal = after("0; 0:5 0:5");
     let heavier = after("0; 0:5 0:6");
-    assert_eq!(
-        (plan(&alone), plan(&equal), plan(&heavier)),
-        (vec![1], vec![1], vec![2])
-    );
+    assert_eq!((plan(&alone), plan(&equal), plan(&heavier)), (vec![1], vec![1], vec![2]));
     assert_eq!(waits(&equal), "0:5 (t1) 0:5 (t2)");
     assert_eq!((total(&alone), total(&equal), total(&heavier)), (5, 5, 6));
 }
@@ -126,8 +119,5 @@ fn limits() {
     let take = |weight| Call::Take { due: 0, weight };
     assert_eq!(Rules::PAPERS.answer(take(16_777_217), &mut table), 6);
     assert_eq!(Rules::PAPERS.answer(take(16_777_216), &mut table), 1 << 8);
-    assert_eq!(
-        Rules::PAPERS.open(Slot(4_096), &mut table),
-        Err(Refusal::LastTooLate)
-    );
+    assert_eq!(Rules::PAPERS.open(Slot(4_096), &mut table), Err(Refusal::LastTooLate));
 }

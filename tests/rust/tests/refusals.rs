@@ -69,10 +69,7 @@ fn ten_and_eleven() {
     }
     refused(Call::Substitute { ticket: 4 }, &lent, 11);
     let mut same = lent.clone();
-    assert_eq!(
-        Rules::PAPERS.answer(Call::Substitute { ticket: 2 }, &mut same),
-        2 << 8
-    );
+    assert_eq!(Rules::PAPERS.answer(Call::Substitute { ticket: 2 }, &mut same), 2 << 8);
 }
 
 #[test]
@@ -84,10 +81,7 @@ fn twelve_in_listing() {
         weight: Weight(9),
     };
     let mut entries = [none; 3];
-    assert_eq!(
-        Rules::PAPERS.list(&lent, &mut entries[..1]),
-        Err(Refusal::Short)
-    );
+    assert_eq!(Rules::PAPERS.list(&lent, &mut entries[..1]), Err(Refusal::Short));
     assert_eq!(entries, [none; 3]);
     assert_eq!(Rules::PAPERS.list(&lent, &mut entries), Ok(2));
     let entry = |ticket, due| Entry {

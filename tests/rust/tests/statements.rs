@@ -54,11 +54,7 @@ fn plan_and_substitutes_of_the_first() {
     assert_eq!(listed, [5, 7, 4, 8, 3]);
     for (ticket, substitute) in [(3, 1), (4, 6), (5, 5), (7, 6), (8, 6)] {
         let found = Rules::PAPERS.substitute(Ticket(ticket), &table);
-        assert_eq!(
-            found,
-            Ok(Substitute::Ticket(Ticket(substitute))),
-            "ticket {ticket}"
-        );
+        assert_eq!(found, Ok(Substitute::Ticket(Ticket(substitute))), "ticket {ticket}");
     }
     let rows = "4:2 (t1) 1:1 (t2) 4:20 (t3) 3:9 (t4) 2:2 (t6) 1:2 (t7) 3:4 (t8)";
     one(text, ordinary(5), rows);
@@ -80,28 +76,12 @@ fn a_sending_between_takings() {
 
 #[test]
 fn shifts_and_raises() {
-    one(
-        "4; 0:3 4:3 2:2 3:5 1:9 4:5",
-        leap(5),
-        "4:3 (t2) 2:3 (t3) 1:5 (t4) 4:5 (t6)",
-    );
-    one(
-        "4; 3:2 2:2 0:4 1:20 3:1 0:5 0:1",
-        leap(4),
-        "2:2 (t1) 1:5 (t2) 3:2 (t5)",
-    );
-    one(
-        "3; 1:20 2:5 3:3 0:9 3:20 2:1",
-        leap(1),
-        "2:5 (t2) 3:5 (t3) 1:20 (t5) 2:1 (t6)",
-    );
+    one("4; 0:3 4:3 2:2 3:5 1:9 4:5", leap(5), "4:3 (t2) 2:3 (t3) 1:5 (t4) 4:5 (t6)");
+    one("4; 3:2 2:2 0:4 1:20 3:1 0:5 0:1", leap(4), "2:2 (t1) 1:5 (t2) 3:2 (t5)");
+    one("3; 1:20 2:5 3:3 0:9 3:20 2:1", leap(1), "2:5 (t2) 3:5 (t3) 1:20 (t5) 2:1 (t6)");
     let heavy = "2:20 (t2) 1:4 (t3) 1:4 (t4) 4:2 (t5) 4:4 (t6) 4:20 (t7)";
     one("4; 0:3 4:20 1:4 1:4 4:2 4:3 4:20 2:20", leap(8), heavy);
-    one(
-        "3; 0:8 1:40 2:5 3:4 3:3",
-        leap(2),
-        "1:8 (t3) 2:5 (t4) 3:4 (t5)",
-    );
+    one("3; 0:8 1:40 2:5 3:4 3:3", leap(2), "1:8 (t3) 2:5 (t4) 3:4 (t5)");
 }
 
 #[test]
@@ -111,11 +91,7 @@ fn equals_and_idle_slots() {
         let found = Rules::PAPERS.substitute(Ticket(ticket), &table);
         assert_eq!(found, Ok(Substitute::Ticket(Ticket(3))), "ticket {ticket}");
     }
-    one(
-        "3; 3:9 3:9 3:9 2:9",
-        ordinary(4),
-        "3:9 (t1) 3:9 (t2) 3:9 (t3)",
-    );
+    one("3; 3:9 3:9 3:9 2:9", ordinary(4), "3:9 (t1) 3:9 (t2) 3:9 (t3)");
     assert_eq!(play("3; 1:11 3:20 1:2 S").1[0].0, leap(2));
     assert_eq!(play("3; 3:9 3:5 S").1[0].0, leap(1));
 }

@@ -83,21 +83,14 @@ impl<'a> Bench<'a> {
             return None;
         }
         let at = (0..table.len()).find(|at| lent[*at] != table[*at])?;
-        Some(format!(
-            "byte {at} is {:02X}, not {:02X}",
-            lent[at], table[at]
-        ))
+        Some(format!("byte {at} is {:02X}, not {:02X}", lent[at], table[at]))
     }
 }
 
 impl fmt::Display for Difference {
     fn fmt(&self, out: &mut fmt::Formatter<'_>) -> fmt::Result {
         writeln!(out, "{:?}: {}", self.call, self.what)?;
-        writeln!(
-            out,
-            "library {:#X}, second {:#X}",
-            self.library, self.second
-        )?;
+        writeln!(out, "library {:#X}, second {:#X}", self.library, self.second)?;
         write!(out, "table before, {} bytes:", self.before.len())?;
         for (at, byte) in self.before.iter().take(row_at(20)).enumerate() {
             let starts = at == 0 || at >= HEAD && (at - HEAD) % ROW == 0;

@@ -146,10 +146,7 @@ pub fn damaged(draw: &mut Draw, case: u64) -> Target {
 /// Every call is asked of a damaged table.
 pub fn run(bench: &mut Bench, draw: &mut Draw, case: u64) -> Agreed<()> {
     let target = damaged(draw, case);
-    let due = draw.between(
-        target.round.slot.0.min(target.round.last.0),
-        target.round.last.0,
-    );
+    let due = draw.between(target.round.slot.0.min(target.round.last.0), target.round.last.0);
     let weight = draw.between(1, Round::WEIGHT.0);
     let ticket = target.round.rows.first().map_or(1, |row| row.ticket.0);
     bench.check_aside(Call::Take { due, weight }, &target.table)?;

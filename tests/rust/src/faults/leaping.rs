@@ -19,19 +19,15 @@ pub const FAULTS: &[Entry] = &[
             })
         };
     }),
-    (
-        "HSetToMark",
-        "each h gets the mark even when it weighs more",
-        |rules| {
-            rules.planning.leap = |plan, p, r| {
-                changed(leap(plan, p, r), |leap| {
-                    leap.shifted
-                        .iter_mut()
-                        .for_each(|h| h.weight = plan.mark(h.due));
-                })
-            };
-        },
-    ),
+    ("HSetToMark", "each h gets the mark even when it weighs more", |rules| {
+        rules.planning.leap = |plan, p, r| {
+            changed(leap(plan, p, r), |leap| {
+                leap.shifted
+                    .iter_mut()
+                    .for_each(|h| h.weight = plan.mark(h.due));
+            })
+        };
+    }),
     ("HNotShifted", "no h is shifted", |rules| {
         rules.planning.leap = |plan, p, r| changed(leap(plan, p, r), |leap| leap.shifted.clear());
     }),
@@ -39,101 +35,66 @@ pub const FAULTS: &[Entry] = &[
         rules.planning.leap =
             |plan, p, r| changed(leap(plan, p, r), |leap| leap.shifted.truncate(1));
     }),
-    (
-        "HLightest",
-        "h is the lightest member, not the heaviest",
-        |rules| {
-            rules.planning.leap = |plan, p, r| {
-                let mut turned = plan.rules.clone();
-                turned.planning.heaviest_first = |a, b| heaviest_first(b, a);
-                let turned = Plan {
-                    rules: &turned,
-                    ..plan.clone()
-                };
-                changed(leap(plan, p, r), |leap| {
-                    leap.shifted = shifted(&turned, p, r)
-                })
+    ("HLightest", "h is the lightest member, not the heaviest", |rules| {
+        rules.planning.leap = |plan, p, r| {
+            let mut turned = plan.rules.clone();
+            turned.planning.heaviest_first = |a, b| heaviest_first(b, a);
+            let turned = Plan {
+                rules: &turned,
+                ..plan.clone()
             };
-        },
-    ),
-    (
-        "MarksAfterShift",
-        "marks are taken anew after each shift",
-        |rules| {
-            rules.planning.leap =
-                |plan, p, r| changed(leap(plan, p, r), |leap| mark_anew(plan, leap));
-        },
-    ),
-    (
-        "LeapChangesNothing",
-        "in a leap p leaves and nothing else changes",
-        |rules| {
-            rules.planning.leap = |plan, p, r| {
-                changed(leap(plan, p, r), |leap| {
-                    leap.shifted.clear();
-                    leap.raised.weight = r.weight;
-                    leap.kept = None;
-                })
-            };
-        },
-    ),
+            changed(leap(plan, p, r), |leap| leap.shifted = shifted(&turned, p, r))
+        };
+    }),
+    ("MarksAfterShift", "marks are taken anew after each shift", |rules| {
+        rules.planning.leap = |plan, p, r| changed(leap(plan, p, r), |leap| mark_anew(plan, leap));
+    }),
+    ("LeapChangesNothing", "in a leap p leaves and nothing else changes", |rules| {
+        rules.planning.leap = |plan, p, r| {
+            changed(leap(plan, p, r), |leap| {
+                leap.shifted.clear();
+                leap.raised.weight = r.weight;
+                leap.kept = None;
+            })
+        };
+    }),
     ("BlankDropped", "a raised blank is not kept", |rules| {
         rules.planning.leap = |plan, p, r| changed(leap(plan, p, r), |leap| leap.kept = None);
     }),
-    (
-        "BlankKeptAtZero",
-        "a blank is kept even at mark 0",
-        |rules| {
-            rules.planning.leap = |plan, p, r| {
-                changed(leap(plan, p, r), |leap| {
-                    if r.ticket.is_none() {
-                        leap.kept = kept_blank(p, r.due, plan.mark(r.due));
-                    }
-                })
-            };
-        },
-    ),
-    (
-        "KeptBlankDueAsSent",
-        "a kept blank keeps p's due slot",
-        |rules| {
-            rules.planning.leap = |plan, p, r| {
-                changed(leap(plan, p, r), |leap| {
-                    leap.kept.iter_mut().for_each(|kept| kept.due = p.due);
-                })
-            };
-        },
-    ),
-    (
-        "KeptBlankAsFrame",
-        "a kept blank is stored as a frame",
-        |rules| {
-            rules.planning.leap = |plan, p, r| {
-                changed(leap(plan, p, r), |leap| {
-                    leap.kept.iter_mut().for_each(|kept| kept.kept = false);
-                })
-            };
-        },
-    ),
-    (
-        "KeptBlankSentAsFrame",
-        "a kept blank goes out as a frame",
-        |rules| {
-            rules.calls.send = |rules, table| {
-                Ok(match send(rules, table)? {
-                    Step::Ordinary(out) => Step::Ordinary(as_frame(out)),
-                    Step::Leap(out) => Step::Leap(as_frame(out)),
-                })
-            };
-        },
-    ),
-    (
-        "LateRowsStay",
-        "rows due before the new slot stay",
-        |rules| {
-            rules.planning.is_late = |_, _| false;
-        },
-    ),
+    ("BlankKeptAtZero", "a blank is kept even at mark 0", |rules| {
+        rules.planning.leap = |plan, p, r| {
+            changed(leap(plan, p, r), |leap| {
+                if r.ticket.is_none() {
+                    leap.kept = kept_blank(p, r.due, plan.mark(r.due));
+                }
+            })
+        };
+    }),
+    ("KeptBlankDueAsSent", "a kept blank keeps p's due slot", |rules| {
+        rules.planning.leap = |plan, p, r| {
+            changed(leap(plan, p, r), |leap| {
+                leap.kept.iter_mut().for_each(|kept| kept.due = p.due);
+            })
+        };
+    }),
+    ("KeptBlankAsFrame", "a kept blank is stored as a frame", |rules| {
+        rules.planning.leap = |plan, p, r| {
+            changed(leap(plan, p, r), |leap| {
+                leap.kept.iter_mut().for_each(|kept| kept.kept = false);
+            })
+        };
+    }),
+    ("KeptBlankSentAsFrame", "a kept blank goes out as a frame", |rules| {
+        rules.calls.send = |rules, table| {
+            Ok(match send(rules, table)? {
+                Step::Ordinary(out) => Step::Ordinary(as_frame(out)),
+                Step::Leap(out) => Step::Leap(as_frame(out)),
+            })
+        };
+    }),
+    ("LateRowsStay", "rows due before the new slot stay", |rules| {
+        rules.planning.is_late = |_, _| false;
+    }),
 ];
 
 fn changed(mut leap: Leap, change: impl FnOnce(&mut Leap)) -> Leap {

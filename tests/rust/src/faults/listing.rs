@@ -13,45 +13,23 @@ use crate::table::{decode, USED};
 use std::cmp::Reverse;
 
 pub const FAULTS: &[Fault] = &[
-    (
-        "ListedByTicket",
-        "rows are listed in ticket order",
-        |rules| {
-            rules.planning.listed = |plan| sorted(plan, |entry| entry.ticket);
-        },
-    ),
-    (
-        "ListedHeaviestFirst",
-        "rows are listed from heaviest to lightest",
-        |rules| {
-            rules.planning.listed = |plan| {
-                sorted(plan, |entry| {
-                    (Reverse(entry.weight), entry.due, entry.ticket)
-                })
-            };
-        },
-    ),
-    (
-        "EqualsListedLateFirst",
-        "among equals the larger ticket is listed first",
-        |rules| {
-            rules.planning.listed = |plan| {
-                sorted(plan, |entry| {
-                    (entry.due, Reverse(entry.weight), Reverse(entry.ticket))
-                })
-            };
-        },
-    ),
-    (
-        "AllRowsListed",
-        "rows outside the plan are listed too",
-        |rules| {
-            rules.planning.listed = |plan| {
-                let all = plan.members.iter().chain(&plan.outside);
-                all.filter_map(Entry::of).collect()
-            };
-        },
-    ),
+    ("ListedByTicket", "rows are listed in ticket order", |rules| {
+        rules.planning.listed = |plan| sorted(plan, |entry| entry.ticket);
+    }),
+    ("ListedHeaviestFirst", "rows are listed from heaviest to lightest", |rules| {
+        rules.planning.listed =
+            |plan| sorted(plan, |entry| (Reverse(entry.weight), entry.due, entry.ticket));
+    }),
+    ("EqualsListedLateFirst", "among equals the larger ticket is listed first", |rules| {
+        rules.planning.listed =
+            |plan| sorted(plan, |entry| (entry.due, Reverse(entry.weight), Reverse(entry.ticket)));
+    }),
+    ("AllRowsListed", "rows outside the plan are listed too", |rules| {
+        rules.planning.listed = |plan| {
+            let all = plan.members.iter().chain(&plan.outside);
+            all.filter_map(Entry::of).collect()
+        };
+    }),
     ("BlanksListed", "blanks without rows are listed", |rules| {
         rules.planning.listed = |plan| plan.members.iter().map(of_any).collect();
     }),
@@ -67,63 +45,43 @@ pub const FAULTS: &[Fault] = &[
             Ok(frames.len())
         };
     }),
-    (
-        "CountOfAllRows",
-        "the count is that of the waiting rows",
-        |rules| {
-            rules.calls.list = |rules, table, entries| {
-                list(rules, table, entries)?;
-                Ok(USED.get(table) as usize)
-            };
-        },
-    ),
-    (
-        "ListTouchesNext",
-        "the entry past the count is cleared",
-        |rules| {
-            rules.calls.list = |rules, table, entries| {
-                let count = list(rules, table, entries)?;
-                entries[count..]
-                    .iter_mut()
-                    .take(1)
-                    .for_each(|entry| *entry = Entry::ZERO);
-                Ok(count)
-            };
-        },
-    ),
-    (
-        "ListFillsOnTwelve",
-        "entries are filled before 12 is given",
-        |rules| {
-            rules.calls.list = |rules, table, entries| {
-                let answer = list(rules, table, entries);
-                if answer == Err(Refusal::Short) {
-                    let mut all = [Entry::ZERO; Round::ROWS];
-                    list(rules, table, &mut all)?;
-                    entries.copy_from_slice(&all[..entries.len()]);
-                }
-                answer
-            };
-        },
-    ),
-    (
-        "ExactListRefused",
-        "a list of just enough entries gets 12",
-        |rules| {
-            reason(&mut rules.reasons.list, Refusal::Short, |asked| {
-                let count = asked.listed().len();
-                asked.argument < count || asked.argument == count && count > 0
-            });
-        },
-    ),
-    (
-        "TwelveBeforeFive",
-        "a list of no entry gets 12, not 5",
-        |rules| {
-            let short: Reason<usize> = (Refusal::Short, |asked| asked.argument == 0);
-            one_more(&mut rules.reasons.list, short, Refusal::Over);
-        },
-    ),
+    ("CountOfAllRows", "the count is that of the waiting rows", |rules| {
+        rules.calls.list = |rules, table, entries| {
+            list(rules, table, entries)?;
+            Ok(USED.get(table) as usize)
+        };
+    }),
+    ("ListTouchesNext", "the entry past the count is cleared", |rules| {
+        rules.calls.list = |rules, table, entries| {
+            let count = list(rules, table, entries)?;
+            entries[count..]
+                .iter_mut()
+                .take(1)
+                .for_each(|entry| *entry = Entry::ZERO);
+            Ok(count)
+        };
+    }),
+    ("ListFillsOnTwelve", "entries are filled before 12 is given", |rules| {
+        rules.calls.list = |rules, table, entries| {
+            let answer = list(rules, table, entries);
+            if answer == Err(Refusal::Short) {
+                let mut all = [Entry::ZERO; Round::ROWS];
+                list(rules, table, &mut all)?;
+                entries.copy_from_slice(&all[..entries.len()]);
+            }
+            answer
+        };
+    }),
+    ("ExactListRefused", "a list of just enough entries gets 12", |rules| {
+        reason(&mut rules.reasons.list, Refusal::Short, |asked| {
+            let count = asked.listed().len();
+            asked.argument < count || asked.argument == count && count > 0
+        });
+    }),
+    ("TwelveBeforeFive", "a list of no entry gets 12, not 5", |rules| {
+        let short: Reason<usize> = (Refusal::Short, |asked| asked.argument == 0);
+        one_more(&mut rules.reasons.list, short, Refusal::Over);
+    }),
 ];
 
 fn sorted<Key: Ord>(plan: &Plan, key: impl Fn(&Entry) -> Key) -> Vec<Entry> {

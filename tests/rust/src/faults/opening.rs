@@ -29,14 +29,10 @@ pub const FAULTS: &[Entry] = &[
             asked.argument >= Round::LAST
         });
     }),
-    (
-        "OpeningJudgesOld",
-        "opening refuses an unsound old table",
-        |rules| {
-            let old = (Refusal::Unsound, unsound as fn(&Asked<Slot>) -> bool);
-            rules.reasons.open.to_mut().push(old);
-        },
-    ),
+    ("OpeningJudgesOld", "opening refuses an unsound old table", |rules| {
+        let old = (Refusal::Unsound, unsound as fn(&Asked<Slot>) -> bool);
+        rules.reasons.open.to_mut().push(old);
+    }),
     ("OpeningKeepsRows", "opening leaves the old rows", |rules| {
         rules.calls.open = |rules, last, table| {
             let rows = table.get(HEAD..).map(<[u8]>::to_vec);
@@ -45,55 +41,37 @@ pub const FAULTS: &[Entry] = &[
             Ok(())
         };
     }),
-    (
-        "OpeningKeepsTicket",
-        "tickets go on counting after an opening",
-        |rules| {
-            rules.calls.open = |rules, last, table| {
-                let old = table.to_vec();
-                open(rules, last, table)?;
-                if hold(&rules.sound, &old) {
-                    NEXT.put(table, NEXT.get(&old));
-                }
-                Ok(())
-            };
-        },
-    ),
+    ("OpeningKeepsTicket", "tickets go on counting after an opening", |rules| {
+        rules.calls.open = |rules, last, table| {
+            let old = table.to_vec();
+            open(rules, last, table)?;
+            if hold(&rules.sound, &old) {
+                NEXT.put(table, NEXT.get(&old));
+            }
+            Ok(())
+        };
+    }),
 ];
 
 pub const HIDDEN: &[Entry] = &[
-    (
-        "AnyLengthAllowed",
-        "a length that is not whole rows is allowed",
-        |rules| {
-            reason(&mut rules.reasons.open, Refusal::Length, |asked| {
-                !(row_at(1)..row_at(Round::ROWS + 1)).contains(&asked.table.len())
-            });
-        },
-    ),
-    ("NoRowAllowed", "a table of no row is allowed", |rules| {
+    ("AnyLengthAllowed", "a length that is not whole rows is allowed", |rules| {
         reason(&mut rules.reasons.open, Refusal::Length, |asked| {
-            !has_rows(asked, 0, Round::ROWS)
+            !(row_at(1)..row_at(Round::ROWS + 1)).contains(&asked.table.len())
         });
+    }),
+    ("NoRowAllowed", "a table of no row is allowed", |rules| {
+        reason(&mut rules.reasons.open, Refusal::Length, |asked| !has_rows(asked, 0, Round::ROWS));
     }),
     ("OneRowTooMany", "1,025 rows are allowed", |rules| {
         reason(&mut rules.reasons.open, Refusal::Length, |asked| {
             !has_rows(asked, 1, Round::ROWS + 1)
         });
     }),
-    (
-        "LastCutShort",
-        "the last slot is cut to two bytes before it is judged",
-        |rules| {
-            rules.calls.open = |rules, last, table| open(rules, Slot(last.0 & 0xFFFF), table);
-        },
-    ),
+    ("LastCutShort", "the last slot is cut to two bytes before it is judged", |rules| {
+        rules.calls.open = |rules, last, table| open(rules, Slot(last.0 & 0xFFFF), table);
+    }),
     ("FourBeforeTwo", "4 comes before 2", |rules| {
-        before(
-            &mut rules.reasons.open,
-            Refusal::LastTooLate,
-            Refusal::Length,
-        );
+        before(&mut rules.reasons.open, Refusal::LastTooLate, Refusal::Length);
     }),
     ("HighByteFirst", "numbers go high byte first", |rules| {
         let calls = &mut rules.calls;
@@ -105,9 +83,7 @@ pub const HIDDEN: &[Entry] = &[
             |rules, slot, table| turned(&mut table.to_vec(), |table| mark(rules, slot, table));
         calls.total = |rules, table| turned(&mut table.to_vec(), |table| total(rules, table));
         calls.substitute = |rules, ticket, table| {
-            turned(&mut table.to_vec(), |table| {
-                substitute(rules, ticket, table)
-            })
+            turned(&mut table.to_vec(), |table| substitute(rules, ticket, table))
         };
     }),
 ];

@@ -27,26 +27,18 @@ pub const FAULTS: &[Entry] = &[
             _ => printed(rules, input),
         };
     }),
-    (
-        "UnendedNotReplied",
-        "an unended last line gets no reply",
-        |rules| {
-            rules.calls.reply = |rules, table, line| match line.ends_with(&[END]) {
-                true => reply(rules, table, line),
-                false => passed_over(),
-            };
-        },
-    ),
-    (
-        "EmptyLineSkipped",
-        "an empty line is passed over",
-        |rules| {
-            rules.calls.reply = |rules, table, line| match line {
-                [END] => passed_over(),
-                _ => reply(rules, table, line),
-            };
-        },
-    ),
+    ("UnendedNotReplied", "an unended last line gets no reply", |rules| {
+        rules.calls.reply = |rules, table, line| match line.ends_with(&[END]) {
+            true => reply(rules, table, line),
+            false => passed_over(),
+        };
+    }),
+    ("EmptyLineSkipped", "an empty line is passed over", |rules| {
+        rules.calls.reply = |rules, table, line| match line {
+            [END] => passed_over(),
+            _ => reply(rules, table, line),
+        };
+    }),
     ("OpenAtFirst", "a round is open at first", |rules| {
         rules.calls.fresh = |rules| {
             let mut table = fresh(rules);
@@ -57,71 +49,48 @@ pub const FAULTS: &[Entry] = &[
     ("OneRowLess", "the table has 1,023 rows", |rules| {
         rules.calls.fresh = |_| vec![0; row_at(Round::ROWS - 1)];
     }),
-    (
-        "RefusedOpeningCloses",
-        "a refused opening closes the round",
-        |rules| {
-            rules.calls.open = |rules, last, table| {
-                let opened = crate::opening::open(rules, last, table);
-                if opened.is_err() {
-                    table.fill(0);
+    ("RefusedOpeningCloses", "a refused opening closes the round", |rules| {
+        rules.calls.open = |rules, last, table| {
+            let opened = crate::opening::open(rules, last, table);
+            if opened.is_err() {
+                table.fill(0);
+            }
+            opened
+        };
+    }),
+    ("StepsExchanged", "ordinary and leap are exchanged in a reply", |rules| {
+        rules.calls.reply =
+            |rules, table, line| edited(rules, table, line, |text| exchange(text, 4, ["00", "01"]));
+    }),
+    ("OutsExchanged", "frame and kept blank are exchanged in a reply", |rules| {
+        rules.calls.reply =
+            |rules, table, line| edited(rules, table, line, |text| exchange(text, 2, ["01", "02"]));
+    }),
+    ("TicketInDecimal", "tickets are replied in decimal", |rules| {
+        rules.calls.reply = |rules, table, line| {
+            edited(rules, table, line, |text| {
+                if let Some(at) = ticket_at(text) {
+                    let ticket = u32::from_str_radix(&text[at..at + 8], 16);
+                    let ticket = ticket.expect("eight digits");
+                    text.replace_range(at..at + 8, &format!("{ticket:08}"));
                 }
-                opened
-            };
-        },
-    ),
-    (
-        "StepsExchanged",
-        "ordinary and leap are exchanged in a reply",
-        |rules| {
-            rules.calls.reply = |rules, table, line| {
-                edited(rules, table, line, |text| exchange(text, 4, ["00", "01"]))
-            };
-        },
-    ),
-    (
-        "OutsExchanged",
-        "frame and kept blank are exchanged in a reply",
-        |rules| {
-            rules.calls.reply = |rules, table, line| {
-                edited(rules, table, line, |text| exchange(text, 2, ["01", "02"]))
-            };
-        },
-    ),
-    (
-        "TicketInDecimal",
-        "tickets are replied in decimal",
-        |rules| {
-            rules.calls.reply = |rules, table, line| {
-                edited(rules, table, line, |text| {
-                    if let Some(at) = ticket_at(text) {
-                        let ticket = u32::from_str_radix(&text[at..at + 8], 16);
-                        let ticket = ticket.expect("eight digits");
-                        text.replace_range(at..at + 8, &format!("{ticket:08}"));
-                    }
-                })
-            };
-        },
-    ),
+            })
+        };
+    }),
     ("LowerCaseReplied", "replies are in lower case", |rules| {
         rules.calls.reply =
             |rules, table, line| edited(rules, table, line, |text| text.make_ascii_lowercase());
     }),
-    (
-        "SilenceHasTicket",
-        "silence is replied with the next ticket",
-        |rules| {
-            rules.calls.reply = |rules, table, line| {
-                let mut answer = reply(rules, table, line);
-                if let (true, Some(at)) = (answer.text.starts_with("0200"), ticket_at(&answer.text))
-                {
-                    let next = format!("{:08X}", NEXT.get(table));
-                    answer.text.replace_range(at..at + 8, &next);
-                }
-                answer
-            };
-        },
-    ),
+    ("SilenceHasTicket", "silence is replied with the next ticket", |rules| {
+        rules.calls.reply = |rules, table, line| {
+            let mut answer = reply(rules, table, line);
+            if let (true, Some(at)) = (answer.text.starts_with("0200"), ticket_at(&answer.text)) {
+                let next = format!("{:08X}", NEXT.get(table));
+                answer.text.replace_range(at..at + 8, &next);
+            }
+            answer
+        };
+    }),
 ];
 
 fn passed_over() -> Reply {

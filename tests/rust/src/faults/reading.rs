@@ -11,47 +11,31 @@ pub const FAULTS: &[Entry] = &[
     ("LowerCaseRead", "lower-case digits are read", |rules| {
         rules.reading.digit = |byte| digit(byte.to_ascii_uppercase());
     }),
-    (
-        "BytesAfterNineRead",
-        "the bytes between 9 and A are read as digits",
-        |rules| {
-            rules.reading.digit = |byte| match byte {
-                b':'..=b'@' => Some(u32::from(byte - b':')),
-                _ => digit(byte),
-            };
-        },
-    ),
+    ("BytesAfterNineRead", "the bytes between 9 and A are read as digits", |rules| {
+        rules.reading.digit = |byte| match byte {
+            b':'..=b'@' => Some(u32::from(byte - b':')),
+            _ => digit(byte),
+        };
+    }),
     ("GRead", "G is read as a digit", |rules| {
         rules.reading.digit = |byte| match byte {
             b'G' => Some(0),
             _ => digit(byte),
         };
     }),
-    (
-        "OddPayloadRead",
-        "an odd number of payload digits is read",
-        |rules| {
-            waive(&mut rules.reading.payload, "whole bytes");
-        },
-    ),
-    (
-        "LongPayloadRead",
-        "a payload of 25 bytes is read",
-        |rules| {
-            clause(&mut rules.reading.payload, "at most 24", |digits| {
-                digits.len() <= PAYLOAD_DIGITS + 2
-            });
-        },
-    ),
-    (
-        "LongestPayloadRefused",
-        "a payload of 24 bytes gets 1",
-        |rules| {
-            clause(&mut rules.reading.payload, "at most 24", |digits| {
-                digits.len() <= PAYLOAD_DIGITS - 2
-            });
-        },
-    ),
+    ("OddPayloadRead", "an odd number of payload digits is read", |rules| {
+        waive(&mut rules.reading.payload, "whole bytes");
+    }),
+    ("LongPayloadRead", "a payload of 25 bytes is read", |rules| {
+        clause(&mut rules.reading.payload, "at most 24", |digits| {
+            digits.len() <= PAYLOAD_DIGITS + 2
+        });
+    }),
+    ("LongestPayloadRefused", "a payload of 24 bytes gets 1", |rules| {
+        clause(&mut rules.reading.payload, "at most 24", |digits| {
+            digits.len() <= PAYLOAD_DIGITS - 2
+        });
+    }),
     ("AnyPayloadRead", "payload bytes may be anything", |rules| {
         waive(&mut rules.reading.payload, "digits");
     }),
@@ -70,18 +54,14 @@ pub const FAULTS: &[Entry] = &[
             _ => read(rules, line),
         };
     }),
-    (
-        "UnknownNumberRead",
-        "any other line number is read as send",
-        |rules| {
-            rules.calls.read = |rules, line| match (read(rules, line), line) {
-                (Err(Refusal::Line), [a, b, END]) if digit(*a).and(digit(*b)).is_some() => {
-                    Ok(Command::Send)
-                }
-                (answer, _) => answer,
-            };
-        },
-    ),
+    ("UnknownNumberRead", "any other line number is read as send", |rules| {
+        rules.calls.read = |rules, line| match (read(rules, line), line) {
+            (Err(Refusal::Line), [a, b, END]) if digit(*a).and(digit(*b)).is_some() => {
+                Ok(Command::Send)
+            }
+            (answer, _) => answer,
+        };
+    }),
     ("UnendedRead", "a line without its 0A is read", |rules| {
         rules.calls.read = |rules, line| match line.ends_with(&[END]) {
             true => read(rules, line),
@@ -90,9 +70,7 @@ pub const FAULTS: &[Entry] = &[
     }),
     ("CarriageReturnRead", "0D before 0A is dropped", |rules| {
         rules.calls.read = |rules, line| {
-            read_cut(rules, line, |digits| {
-                digits.strip_suffix(b"\r").unwrap_or(digits)
-            })
+            read_cut(rules, line, |digits| digits.strip_suffix(b"\r").unwrap_or(digits))
         };
     }),
     ("SpaceRead", "spaces at the end are dropped", |rules| {
@@ -105,21 +83,17 @@ pub const FAULTS: &[Entry] = &[
             })
         };
     }),
-    (
-        "WeightCutShort",
-        "a weight is cut to three bytes",
-        |rules| {
-            rules.calls.read = |rules, line| {
-                Ok(match read(rules, line)? {
-                    Command::Take { due, weight } => Command::Take {
-                        due,
-                        weight: Weight(weight.0 & 0xFF_FFFF),
-                    },
-                    other => other,
-                })
-            };
-        },
-    ),
+    ("WeightCutShort", "a weight is cut to three bytes", |rules| {
+        rules.calls.read = |rules, line| {
+            Ok(match read(rules, line)? {
+                Command::Take { due, weight } => Command::Take {
+                    due,
+                    weight: Weight(weight.0 & 0xFF_FFFF),
+                },
+                other => other,
+            })
+        };
+    }),
 ];
 
 fn give_payload(lines: &mut Lines, line: &str) {

@@ -10,15 +10,11 @@ use crate::table::{row_at, NEXT, ROW, USED};
 use crate::taking::take;
 
 pub const FAULTS: &[Entry] = &[
-    (
-        "RefusalNineOneShort",
-        "9 with one row still free",
-        |rules| {
-            reason(&mut rules.reasons.take, Refusal::Full, |asked| {
-                row_at(asked.round().rows.len() + 1) >= asked.table.len()
-            });
-        },
-    ),
+    ("RefusalNineOneShort", "9 with one row still free", |rules| {
+        reason(&mut rules.reasons.take, Refusal::Full, |asked| {
+            row_at(asked.round().rows.len() + 1) >= asked.table.len()
+        });
+    }),
     ("LastSlotOver", "5 in the last slot", |rules| {
         reason(&mut rules.reasons.take, Refusal::Over, |asked| {
             asked.round().slot >= asked.round().last
@@ -30,16 +26,12 @@ pub const FAULTS: &[Entry] = &[
     ("FiveAfterSix", "6 comes before 5", |rules| {
         before(&mut rules.reasons.take, Refusal::Weight, Refusal::Over);
     }),
-    (
-        "GreatestWeightRefused",
-        "weight 16,777,216 gets 6",
-        |rules| {
-            reason(&mut rules.reasons.take, Refusal::Weight, |asked| {
-                let weight = asked.argument.weight;
-                weight == Weight(0) || weight >= Round::WEIGHT
-            });
-        },
-    ),
+    ("GreatestWeightRefused", "weight 16,777,216 gets 6", |rules| {
+        reason(&mut rules.reasons.take, Refusal::Weight, |asked| {
+            let weight = asked.argument.weight;
+            weight == Weight(0) || weight >= Round::WEIGHT
+        });
+    }),
     ("WeightAboveTaken", "weight 16,777,217 is taken", |rules| {
         reason(&mut rules.reasons.take, Refusal::Weight, |asked| {
             let weight = asked.argument.weight;
@@ -51,59 +43,39 @@ pub const FAULTS: &[Entry] = &[
             asked.argument.weight > Round::WEIGHT
         });
     }),
-    (
-        "LastDueRefused",
-        "a due slot equal to the last gets 7",
-        |rules| {
-            reason(&mut rules.reasons.take, Refusal::Slot, |asked| {
-                let due = asked.argument.due;
-                outside(asked, due) || due == asked.round().last
-            });
-        },
-    ),
-    (
-        "CurrentDueRefused",
-        "a due slot equal to the current gets 7",
-        |rules| {
-            reason(&mut rules.reasons.take, Refusal::Slot, |asked| {
-                let due = asked.argument.due;
-                outside(asked, due) || due == asked.round().slot
-            });
-        },
-    ),
-    (
-        "TakeStoresNothing",
-        "taking gives a ticket and stores nothing",
-        |rules| {
-            rules.calls.take =
-                |rules, due, weight, table| take(rules, due, weight, &mut table.to_vec());
-        },
-    ),
-    (
-        "TakenInLastRow",
-        "taking fills the last unused row",
-        |rules| {
-            rules.calls.take = |rules, due, weight, table| {
-                let ticket = take(rules, due, weight, table)?;
-                let taken = USED.get(table) as usize - 1;
-                table[row_at(taken)..].rotate_left(ROW);
-                Ok(ticket)
-            };
-        },
-    ),
-    (
-        "RefusedTakeWrites",
-        "a taking refused by 7 raises the next ticket",
-        |rules| {
-            rules.calls.take = |rules, due, weight, table| {
-                let taken = take(rules, due, weight, table);
-                if taken == Err(Refusal::Slot) {
-                    NEXT.put(table, NEXT.get(table) + 1);
-                }
-                taken
-            };
-        },
-    ),
+    ("LastDueRefused", "a due slot equal to the last gets 7", |rules| {
+        reason(&mut rules.reasons.take, Refusal::Slot, |asked| {
+            let due = asked.argument.due;
+            outside(asked, due) || due == asked.round().last
+        });
+    }),
+    ("CurrentDueRefused", "a due slot equal to the current gets 7", |rules| {
+        reason(&mut rules.reasons.take, Refusal::Slot, |asked| {
+            let due = asked.argument.due;
+            outside(asked, due) || due == asked.round().slot
+        });
+    }),
+    ("TakeStoresNothing", "taking gives a ticket and stores nothing", |rules| {
+        rules.calls.take =
+            |rules, due, weight, table| take(rules, due, weight, &mut table.to_vec());
+    }),
+    ("TakenInLastRow", "taking fills the last unused row", |rules| {
+        rules.calls.take = |rules, due, weight, table| {
+            let ticket = take(rules, due, weight, table)?;
+            let taken = USED.get(table) as usize - 1;
+            table[row_at(taken)..].rotate_left(ROW);
+            Ok(ticket)
+        };
+    }),
+    ("RefusedTakeWrites", "a taking refused by 7 raises the next ticket", |rules| {
+        rules.calls.take = |rules, due, weight, table| {
+            let taken = take(rules, due, weight, table);
+            if taken == Err(Refusal::Slot) {
+                NEXT.put(table, NEXT.get(table) + 1);
+            }
+            taken
+        };
+    }),
 ];
 
 pub const HIDDEN: &[Entry] = &[
@@ -120,12 +92,8 @@ pub const HIDDEN: &[Entry] = &[
             asked.round().next > Round::TICKET
         });
     }),
-    (
-        "DueCutShort",
-        "the due slot is cut to two bytes before it is judged",
-        |rules| {
-            rules.calls.take =
-                |rules, due, weight, table| take(rules, Slot(due.0 & 0xFFFF), weight, table);
-        },
-    ),
+    ("DueCutShort", "the due slot is cut to two bytes before it is judged", |rules| {
+        rules.calls.take =
+            |rules, due, weight, table| take(rules, Slot(due.0 & 0xFFFF), weight, table);
+    }),
 ];

@@ -99,9 +99,7 @@ pub fn closed(program: &Path) -> Result<usize, String> {
         let quiet = status.code().is_some() || *signal && status.signal() == Some(PIPE_SIGNAL);
         if !quiet || !output.stderr.is_empty() {
             let said = String::from_utf8_lossy(&output.stderr);
-            return Err(format!(
-                "with its output closed it ended with {status}: {said}"
-            ));
+            return Err(format!("with its output closed it ended with {status}: {said}"));
         }
     }
     Ok(CLOSED.len())

@@ -21,18 +21,15 @@ fn main() -> ExitCode {
     };
     told(match &options.job {
         Job::Compare(second) => compare(&options, second),
-        Job::Mutations => caught("compare", &Fault::shown(CallName::ALL), |fault| {
-            caught_at(&options, fault)
-        }),
+        Job::Mutations => {
+            caught("compare", &Fault::shown(CallName::ALL), |fault| caught_at(&options, fault))
+        }
     })
 }
 
 fn compare(options: &Options, second: &Rules) -> Ended {
     let (library, settings) = (options.library.as_ref(), options.settings);
-    println!(
-        "compare: with {}, seed {}, factor {}",
-        options.name, settings.seed, settings.factor
-    );
+    println!("compare: with {}, seed {}, factor {}", options.name, settings.seed, settings.factor);
     let ended = run(library, second, settings, |kind, agreed| {
         println!("  {}: {agreed} cases", kind.name);
     });

@@ -86,6 +86,6 @@ fn with_slot_cut(command: Command) -> Command {
             due: cut(due),
             weight,
         },
-        Command::Send => Command::Send,
+        other => other,
     }
 }

@@ -1,7 +1,7 @@
 //! What the program trial reads and prints (tests/trial.md), over the second
 //! implementation.
 
-use crate::command::Command;
+use crate::command::{Command, FORMS};
 use crate::counts::{Slot, Ticket, Weight};
 use crate::listing::Entry;
 use crate::refusal::Refusal;
@@ -109,24 +109,17 @@ fn reply(answer: Result<usize, Refusal>) -> [u32; 2] {
     }
 }
 
+/// The place of its form, which is the line's number, and its numbers.
 fn numbers_of(command: Command) -> [u32; 3] {
-    match command {
-        Command::Open { last } => [0, last.0, 0],
-        Command::Take { due, weight } => [1, due.0, weight.0],
-        Command::Send => [2, 0, 0],
-    }
+    let (line, numbers) = command.numbers();
+    let place = FORMS.iter().position(|form| form.line == line);
+    let number = |place: usize| numbers.get(place).copied().unwrap_or(0);
+    [place.expect("its form") as u32, number(0), number(1)]
 }
 
 fn command_of(number: u32, slot: u32, weight: u32) -> Option<Command> {
-    match number {
-        0 => Some(Command::Open { last: Slot(slot) }),
-        1 => Some(Command::Take {
-            due: Slot(slot),
-            weight: Weight(weight),
-        }),
-        2 => Some(Command::Send),
-        _ => None,
-    }
+    let form = FORMS.get(number as usize)?;
+    Some((form.command)(&[slot, weight]))
 }
 
 fn listed(second: &Rules, table: &[u8], room: usize) -> Vec<u8> {

@@ -23,13 +23,13 @@ PATH = r"(?:crates|tests|docs|include|examples|bench)/[\w./-]*\w"
 NAMED = re.compile(rf"((?:(?:`[^`]+`|\"[^\"]+\")(?:, )?)+) in ({PATH})((?:[^;`|]*?,? and in {PATH})*)")
 NAMED_LOOSELY = re.compile(rf"((?:`[^`]+`(?:, and |, | and )?)+)(?:,? in |, | \()({PATH})()")
 
-# How a line begins that defines NAME.
+# How a line begins that defines NAME; in Rust also an entry of a table, by its name.
 RUST = r'^\s*(?:pub(?:\(\w+\))? )?(?:(?:const|unsafe|extern "C") )*(?:fn|struct|enum|trait|type|mod|const|static) NAME\b'
 C = r"^#define NAME\b|^(?:\w+[ *]+)+NAME\([^;{]*\)\s*\{|^(?:typedef )?(?:struct|enum|union) NAME \{|^(?:static |const )[\w *]*\bNAME\b[^;({]*[=;]"
 FORMS = {
     ".antt": r"^\s*(?:(?:abbrev|unfoldable|pub) )*(?:NAME :|(?:record|data) NAME(?![\w′-]))",
     ".rt": RUST,
-    ".rs": RUST,
+    ".rs": RUST + r'|^\s*\(\s*"NAME", ?',
     ".c": C,
     ".h": C + r"|^(?:\w+[ *]+)+NAME\([^;{]*\);",
     ".py": r"^\s*(?:def|class) NAME\b|^NAME = ",
@@ -192,9 +192,11 @@ SAMPLES = [
     (True, ".rt", "pub struct Round {\n    pub slot: Slot,\n    pub it: usize,\n}\n"),
     (False, ".rt", "use calls::it;\n// fn it\nfn other(it: u32) -> Round {\n    it(1);\n    Round {\n        it: 1,\n    }\n}\n"),
     (False, ".rt", "fn other() {\n    match a {\n        it(n) => 1,\n    }\n}\n"),
-    (True, ".rs", "mutations! {\n    // Opening.\n    it Open \"said\";\n}\n"),
+    (True, ".rs", "calls! {\n    /// Opens.\n    it(last: Slot) -> Reply = open;\n}\n"),
+    (True, ".rs", "pub const FAULTS: &[Entry] = &[\n    (\"it\", \"said\", |rules| {\n"),
+    (True, ".rs", "    (\n        \"it\",\n        \"said\",\n"),
     (True, ".rs", "    pub(crate) trait it {\n"),
-    (False, ".rs", "#[test]\nfn other() {\n    let it = it();\n    const OTHER: u32 = it;\n}\n"),
+    (False, ".rs", "#[test]\nfn other() {\n    let it = it(\"it\", 1);\n    const OTHER: u32 = it;\n}\n"),
     (True, ".c", "static int it(const struct seen *s,\n              unsigned set)\n{\n"),
     (True, ".c", "enum { FIRST = 8, it = 9 };\n"),
     (False, ".c", "int it(int a);\nint main(void)\n{\n    it(1);\n    return it(2);\n}\n/* it */\nenum { OTHER /* it, */ };\n"),

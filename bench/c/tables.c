@@ -67,13 +67,6 @@ static void shuffle(struct row *rows, uint32_t count, uint64_t *state)
     }
 }
 
-static void put(uint8_t *bytes, size_t size, uint32_t number)
-{
-    for (size_t at = 0; at < size; at++) {
-        bytes[at] = (uint8_t)(number >> (8 * at));
-    }
-}
-
 /* How many of so many rows are in use. */
 static uint32_t in_use(enum shape shape, uint32_t rows)
 {
@@ -99,28 +92,27 @@ void draw_table(struct table *table, enum shape shape, uint32_t rows, uint32_t k
         shuffle(drawn_rows, count, &state);
     }
     const uint32_t used = count > rows - kept_free ? rows - kept_free : count;
-    table->length = HEAD_SIZE + ROW_SIZE * (size_t)rows;
+    table->length = TABLE_SIZE(rows);
     memset(table->bytes, 0, sizeof table->bytes);
-    put(table->bytes + 2, 2, slots - 1);
-    put(table->bytes + 4, 4, used + 1);
-    put(table->bytes + 8, 2, used);
+    put(table->bytes, head_last, slots - 1);
+    put(table->bytes, head_next, used + 1);
+    put(table->bytes, head_used, used);
     for (uint32_t place = 0; place < used; place++) {
-        uint8_t *row = table->bytes + HEAD_SIZE + ROW_SIZE * place;
-        put(row, 4, place + 1);
-        put(row + 4, 2, drawn_rows[place].due);
-        put(row + 6, 4, drawn_rows[place].weight);
+        uint8_t *row = table->bytes + TABLE_SIZE(place);
+        put(row, row_ticket, place + 1);
+        put(row, row_due, drawn_rows[place].due);
+        put(row, row_weight, drawn_rows[place].weight);
     }
 }
 
 uint32_t heaviest_ticket(const struct table *table)
 {
     uint32_t heaviest = 0, ticket = 0;
-    for (size_t at = HEAD_SIZE; at < table->length; at += ROW_SIZE) {
-        uint32_t weight;
-        memcpy(&weight, table->bytes + at + 6, sizeof weight);
-        if (weight > heaviest) {
-            heaviest = weight;
-            memcpy(&ticket, table->bytes + at, sizeof ticket);
+    for (size_t at = TABLE_SIZE(0); at < table->length; at += ROW_SIZE) {
+        const uint8_t *row = table->bytes + at;
+        if (get(row, row_weight) > heaviest) {
+            heaviest = get(row, row_weight);
+            ticket = get(row, row_ticket);
         }
     }
     return ticket;

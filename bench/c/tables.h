@@ -2,13 +2,9 @@
 #ifndef TABLES_H
 #define TABLES_H
 
-#include <stddef.h>
-#include <stdint.h>
+#include "../../tests/c/table.h"
 
-#define HEAD_SIZE 16
-#define ROW_SIZE 24
 #define MOST_ROWS 1024
-#define MOST_SIZE (HEAD_SIZE + ROW_SIZE * MOST_ROWS)
 
 /* How many rows are in use, and how due slots and weights are drawn; README.md says it in words. */
 enum shape { INPLAN, HALFOUT, ASC2X, FEWDUE, EQUAL, SPREAD, CHAIN, SPARSE, UNUSED, SHAPES };
@@ -17,7 +13,7 @@ extern const char *const shape_names[SHAPES];
 
 struct table {
     size_t length;
-    uint8_t bytes[MOST_SIZE];
+    uint8_t bytes[TABLE_SIZE(MOST_ROWS)];
 };
 
 /* A sound table of so many rows at slot 0 of so many slots, the `kept_free` last of them not in use. */

@@ -9,6 +9,7 @@ ROOT = BENCH.parent
 TARGET = ROOT / "target" / "bench"
 LIBRARY = ROOT / "target" / "staticlib" / "libstation.a"
 CALLS = ("open", "take", "send", "mark", "total", "substitute")
+MEASURE = ("calls", "cells", "measure", "stack", "tables")
 
 
 class Failed(Exception):
@@ -50,7 +51,7 @@ def program(name, archive):
     """The measuring program linked with an archive. Everything is bound at its start, so that no call pays for that."""
     TARGET.mkdir(parents=True, exist_ok=True)
     made = TARGET / f"measure_{name}"
-    sources = sorted((BENCH / "c").glob("*.c"))
+    sources = [BENCH / "c" / f"{source}.c" for source in MEASURE]
     strict = ["-std=gnu11", "-O2", "-Wall", "-Wextra", "-Werror", f"-I{ROOT / 'include'}"]
     said("gcc", *strict, *sources, archive, "-Wl,-z,now", "-lgcc_s", "-o", made)
     return made

@@ -32,7 +32,7 @@ def busy(count):
 def replay(archive):
     made = TARGET / "replay"
     strict = ["-std=c11", "-O2", "-Wall", "-Wextra", "-Werror"]
-    said("gcc", *strict, f"-I{ROOT / 'include'}", BENCH / "lines" / "replay.c", archive, "-Wl,-z,now", "-lgcc_s", "-o", made)
+    said("gcc", *strict, f"-I{ROOT / 'include'}", BENCH / "c" / "replay.c", archive, "-Wl,-z,now", "-lgcc_s", "-o", made)
     return made
 
 

@@ -5,6 +5,7 @@
  *   mark SLOT MARK                             of each slot ahead
  *   sent TICKET                                between the two
  */
+#include "../../tests/c/table.h"
 #include "lirvedd.h"
 
 #include <stdio.h>
@@ -13,26 +14,18 @@ enum { ROWS = 8, LAST = 7 };
 
 static uint8_t table[LIRVEDD_TABLE_SIZE(ROWS)];
 
-static unsigned number(size_t at, unsigned bytes)
-{
-    unsigned value = 0;
-
-    for (unsigned i = 0; i < bytes; i++)
-        value |= (unsigned)table[at + i] << (8 * i);
-    return value;
-}
-
 static void show(void)
 {
-    printf("round %u %u\n", number(0, 2), number(2, 2));
-    for (unsigned row = 0; row < number(8, 2); row++) {
-        size_t at = LIRVEDD_TABLE_SIZE(row);
-        uint64_t substitute = lirvedd_substitute(number(at, 4), table, sizeof table);
+    printf("round %u %u\n", (unsigned)get(table, head_slot), (unsigned)get(table, head_last));
+    for (unsigned place = 0; place < get(table, head_used); place++) {
+        const uint8_t *row = table + TABLE_SIZE(place);
+        unsigned ticket = (unsigned)get(row, row_ticket);
+        uint64_t substitute = lirvedd_substitute(ticket, table, sizeof table);
 
-        printf("row %u %u %u %d %u\n", number(at, 4), number(at + 4, 2), number(at + 6, 4),
+        printf("row %u %u %u %d %u\n", ticket, (unsigned)get(row, row_due), (unsigned)get(row, row_weight),
                lirvedd_refusal(substitute) != LIRVEDD_NOT_IN_PLAN, (unsigned)lirvedd_ticket(substitute));
     }
-    for (uint32_t slot = number(0, 2); slot <= LAST; slot++)
+    for (uint32_t slot = get(table, head_slot); slot <= LAST; slot++)
         printf("mark %u %u\n", (unsigned)slot, (unsigned)lirvedd_amount(lirvedd_mark(slot, table, sizeof table)));
 }
 

@@ -42,23 +42,31 @@ static struct {
     const char *text;
 } payloads[ROWS];
 
-/* A number of the table, low byte first (docs/TABLE.md). */
-static uint32_t number(size_t at, unsigned bytes)
+/* The fields of the table that are looked at here (docs/TABLE.md): the first byte of the head or row, and how many. */
+struct field {
+    size_t at;
+    unsigned bytes;
+};
+
+static const struct field used = {8, 2}, row_ticket = {0, 4}, row_kind = {10, 1};
+
+/* A number of the table, low byte first. */
+static uint32_t number(size_t from, struct field field)
 {
     uint32_t value = 0;
 
-    for (unsigned i = 0; i < bytes; i++)
-        value |= (uint32_t)table[at + i] << (8 * i);
+    for (unsigned i = 0; i < field.bytes; i++)
+        value |= (uint32_t)table[from + field.at + i] << (8 * i);
     return value;
 }
 
 /* Whether the frame of a ticket still waits: a row has it, and not as a kept blank. */
 static int waits(uint32_t ticket)
 {
-    for (uint32_t row = 0; row < number(8, 2); row++) {
+    for (uint32_t row = 0; row < number(0, used); row++) {
         size_t at = LIRVEDD_TABLE_SIZE(row);
 
-        if (number(at, 4) == ticket && table[at + 10] == 0)
+        if (number(at, row_ticket) == ticket && number(at, row_kind) == 0)
             return 1;
     }
     return 0;

@@ -2,6 +2,7 @@
  * the marks of the slots ahead and the substitutes of all tickets are compared with what is written here; nothing here is computed by the library.
  */
 #include "lirvedd.h"
+#include "table.h"
 
 #include <stdio.h>
 #include <string.h>
@@ -244,28 +245,20 @@ static void note(int holds, const char *what)
     }
 }
 
-static uint32_t number(size_t at, unsigned bytes)
-{
-    uint32_t value = 0;
-    for (unsigned i = bytes; i > 0; i--)
-        value = value << 8 | table[at + i - 1];
-    return value;
-}
-
 static int same_rows(const struct turn *t)
 {
-    int same = number(8, 2) == (uint32_t)t->rows;
+    int same = get(table, head_used) == (uint32_t)t->rows;
     for (int i = 0; i < t->rows; i++) {
-        size_t at = LIRVEDD_TABLE_SIZE(i);
-        same = same && number(at, 4) == t->row[i].ticket && number(at + 4, 2) == t->row[i].due;
-        same = same && number(at + 6, 4) == t->row[i].weight && table[at + 10] == t->row[i].kind;
+        const uint8_t *row = table + TABLE_SIZE(i);
+        same = same && get(row, row_ticket) == t->row[i].ticket && get(row, row_due) == t->row[i].due;
+        same = same && get(row, row_weight) == t->row[i].weight && get(row, row_kind) == t->row[i].kind;
     }
     return same;
 }
 
 static int same_marks(const struct turn *t)
 {
-    uint32_t slot = number(0, 2);
+    uint32_t slot = get(table, head_slot);
     int same = 1;
     for (int i = 0; i < t->marks; i++)
         same = same && lirvedd_mark(slot + (uint32_t)i, table, sizeof table) == AMOUNT(t->mark[i]);

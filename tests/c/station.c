@@ -2,6 +2,7 @@
  * this file shares no code with the library. It prints one line for each check that fails, then 'N passed, M failed'.
  */
 #include "lirvedd.h"
+#include "table.h"
 
 #include <stdio.h>
 #include <string.h>
@@ -21,32 +22,25 @@ static void note(int holds, const char *fact, int line)
 }
 
 /* A table with room to spare behind it, so that a length may be a little too long. */
-enum { ROOM = 24592 + 64 };
+enum { MOST = TABLE_SIZE(1024), ROOM = MOST + 64 };
 static uint8_t table[ROOM], before[ROOM];
-
-/* Low byte first, written without the library. */
-static void put(size_t at, unsigned bytes, uint32_t value)
-{
-    for (unsigned i = 0; i < bytes; i++)
-        table[at + i] = (uint8_t)(value >> (8 * i));
-}
 
 static void head(uint32_t slot, uint32_t last, uint32_t next, uint32_t used)
 {
     memset(table, 0, sizeof table);
-    put(0, 2, slot);
-    put(2, 2, last);
-    put(4, 4, next);
-    put(8, 2, used);
+    put(table, head_slot, slot);
+    put(table, head_last, last);
+    put(table, head_next, next);
+    put(table, head_used, used);
 }
 
 static void row(size_t index, uint32_t ticket, uint32_t due, uint32_t weight, uint32_t kind)
 {
-    size_t at = 16 + 24 * index;
-    put(at, 4, ticket);
-    put(at + 4, 2, due);
-    put(at + 6, 4, weight);
-    put(at + 10, 1, kind);
+    uint8_t *at = table + TABLE_SIZE(index);
+    put(at, row_ticket, ticket);
+    put(at, row_due, due);
+    put(at, row_weight, weight);
+    put(at, row_kind, kind);
 }
 
 static int unchanged(void)
@@ -74,40 +68,48 @@ static int changed_to(size_t at, const uint8_t *bytes, size_t count)
     return unchanged();
 }
 
+/* `before` with this next ticket and these rows in use. */
+static void counted_up(uint32_t next, uint32_t used)
+{
+    put(before, head_next, next);
+    put(before, head_used, used);
+}
+
 static void opening(void)
 {
-    static const uint8_t last_4095[16] = {0, 0, 0xFF, 0x0F, 1, 0, 0, 0, 0, 0, 0, 0, 0, 0, 0, 0};
-    static const uint8_t last_258[16] = {0, 0, 0x02, 0x01, 1, 0, 0, 0, 0, 0, 0, 0, 0, 0, 0, 0};
+    static const uint8_t last_4095[HEAD_SIZE] = {0, 0, 0xFF, 0x0F, 1, 0, 0, 0, 0, 0, 0, 0, 0, 0, 0, 0};
+    static const uint8_t last_258[HEAD_SIZE] = {0, 0, 0x02, 0x01, 1, 0, 0, 0, 0, 0, 0, 0, 0, 0, 0, 0};
 
     memset(table, 0xA5, sizeof table);
     memset(before, 0xA5, sizeof before);
-    memset(before, 0, 16 + 24 * 3);
-    CHECK(lirvedd_open(4095, table, 16 + 24 * 3) == 0);
-    CHECK(changed_to(0, last_4095, 16));
+    memset(before, 0, TABLE_SIZE(3));
+    CHECK(lirvedd_open(4095, table, TABLE_SIZE(3)) == 0);
+    CHECK(changed_to(0, last_4095, HEAD_SIZE));
 
     memset(table, 0xFF, sizeof table);
     memset(before, 0xFF, sizeof before);
-    memset(before, 0, 24592);
-    CHECK(lirvedd_open(258, table, 24592) == 0);
-    CHECK(changed_to(0, last_258, 16));
+    memset(before, 0, MOST);
+    CHECK(lirvedd_open(258, table, MOST) == 0);
+    CHECK(changed_to(0, last_258, HEAD_SIZE));
 
-    CHECK(lirvedd_open(0, table, 40) == 0);
-    CHECK(table[2] == 0 && table[3] == 0);
+    CHECK(lirvedd_open(0, table, TABLE_SIZE(1)) == 0);
+    CHECK(get(table, head_last) == 0);
 }
 
 static void opening_refused(void)
 {
-    static const size_t bad[] = {0, 1, 15, 16, 17, 39, 41, 63, 65, 24591, 24593, 24616};
+    static const size_t bad[] = {0,           1,           HEAD_SIZE - 1, HEAD_SIZE, HEAD_SIZE + 1, TABLE_SIZE(1) - 1,
+                                 TABLE_SIZE(1) + 1, TABLE_SIZE(2) - 1, TABLE_SIZE(2) + 1,   MOST - 1,  MOST + 1,      TABLE_SIZE(1025)};
 
     memset(table, 0xA5, sizeof table);
     for (size_t i = 0; i < sizeof bad / sizeof bad[0]; i++) {
         CHECK(open_refused(2, 7, bad[i]));
         CHECK(open_refused(2, 4096, bad[i])); /* 2 comes before 4 */
     }
-    CHECK(open_refused(4, 4096, 40));
-    CHECK(open_refused(4, 4097, 24592));
-    CHECK(open_refused(4, 65536, 40));
-    CHECK(open_refused(4, UINT32_MAX, 40));
+    CHECK(open_refused(4, 4096, TABLE_SIZE(1)));
+    CHECK(open_refused(4, 4097, MOST));
+    CHECK(open_refused(4, 65536, TABLE_SIZE(1)));
+    CHECK(open_refused(4, UINT32_MAX, TABLE_SIZE(1)));
     CHECK(lirvedd_open(1, NULL, 0) == 2);
     CHECK(lirvedd_open(4096, NULL, 0) == 2);
 }
@@ -115,25 +117,24 @@ static void opening_refused(void)
 /* Tickets 1, 2, 3 in a table just opened, with the row's bytes written out. */
 static void taking(void)
 {
-    static const uint8_t first[24] = {1, 0, 0, 0, 0x34, 0x02, 0xEF, 0xCD, 0xAB, 0x00, 0};
-    static const uint8_t second[24] = {2, 0, 0, 0, 0xFF, 0x0F, 0x00, 0x00, 0x00, 0x01, 0};
-    static const uint8_t third[24] = {3, 0, 0, 0, 0, 0, 1, 0, 0, 0, 0};
-    static const uint8_t next_2[6] = {2, 0, 0, 0, 1, 0}, next_3[6] = {3, 0, 0, 0, 2, 0}, next_4[6] = {4, 0, 0, 0, 3, 0};
-    const size_t length = 16 + 24 * 3;
+    static const uint8_t first[ROW_SIZE] = {1, 0, 0, 0, 0x34, 0x02, 0xEF, 0xCD, 0xAB, 0x00, 0};
+    static const uint8_t second[ROW_SIZE] = {2, 0, 0, 0, 0xFF, 0x0F, 0x00, 0x00, 0x00, 0x01, 0};
+    static const uint8_t third[ROW_SIZE] = {3, 0, 0, 0, 0, 0, 1, 0, 0, 0, 0};
+    const size_t length = TABLE_SIZE(3);
 
     CHECK(lirvedd_open(4095, table, length) == 0);
     memcpy(before, table, sizeof table);
     CHECK(lirvedd_take(0x0234, 0x00ABCDEF, table, length) == 1 << 8);
-    memcpy(before + 4, next_2, sizeof next_2);
-    CHECK(changed_to(16, first, sizeof first));
+    counted_up(2, 1);
+    CHECK(changed_to(TABLE_SIZE(0), first, sizeof first));
 
     CHECK(lirvedd_take(4095, 16777216, table, length) == 2 << 8); /* the last slot, the most weight */
-    memcpy(before + 4, next_3, sizeof next_3);
-    CHECK(changed_to(40, second, sizeof second));
+    counted_up(3, 2);
+    CHECK(changed_to(TABLE_SIZE(1), second, sizeof second));
 
     CHECK(lirvedd_take(0, 1, table, length) == 3 << 8); /* the current slot, the least weight */
-    memcpy(before + 4, next_4, sizeof next_4);
-    CHECK(changed_to(64, third, sizeof third));
+    counted_up(4, 3);
+    CHECK(changed_to(TABLE_SIZE(2), third, sizeof third));
 
     CHECK(take_refused(9, 0, 1, length));
 }
@@ -144,19 +145,18 @@ static size_t many_rows(void)
     head(258, 3804, 0x00123456, 300);
     for (uint32_t i = 0; i < 300; i++)
         row(i, 1000 * (i + 1), 258 + 11 * i, 16777216 - i, i % 2);
-    return 16 + 24 * 302;
+    return TABLE_SIZE(302);
 }
 
 static void taking_among_many(void)
 {
-    static const uint8_t now[24] = {0x56, 0x34, 0x12, 0x00, 0xDC, 0x0E, 0x04, 0x03, 0x02, 0x00, 0};
-    static const uint8_t next[6] = {0x57, 0x34, 0x12, 0x00, 0x2D, 0x01};
+    static const uint8_t now[ROW_SIZE] = {0x56, 0x34, 0x12, 0x00, 0xDC, 0x0E, 0x04, 0x03, 0x02, 0x00, 0};
     const size_t length = many_rows();
 
     memcpy(before, table, sizeof table);
     CHECK(lirvedd_take(3804, 0x00020304, table, length) == (uint64_t)0x00123456 << 8);
-    memcpy(before + 4, next, sizeof next);
-    CHECK(changed_to(16 + 24 * 300, now, sizeof now));
+    counted_up(0x00123457, 301);
+    CHECK(changed_to(TABLE_SIZE(300), now, sizeof now));
     CHECK(lirvedd_take(258, 1, table, length) == (uint64_t)0x00123457 << 8);
     CHECK(take_refused(9, 258, 1, length));
 }
@@ -164,11 +164,11 @@ static void taking_among_many(void)
 /* The two tables written out in docs/TABLE.md. */
 static void worked_example(void)
 {
-    static const uint8_t given[64] = {
+    static const uint8_t given[TABLE_SIZE(2)] = {
         0x02, 0x01, 0xBC, 0x0A, 0x56, 0x34, 0x12, 0x00, 0x01, 0x00, 0x00, 0x00, 0x00, 0x00, 0x00, 0x00,
         0x45, 0x23, 0x01, 0x00, 0x05, 0x04, 0xDE, 0xBC, 0x0A, 0x00, 0x01,
     };
-    static const uint8_t left[64] = {
+    static const uint8_t left[TABLE_SIZE(2)] = {
         0x02, 0x01, 0xBC, 0x0A, 0x57, 0x34, 0x12, 0x00, 0x02, 0x00, 0x00, 0x00, 0x00, 0x00, 0x00, 0x00,
         0x45, 0x23, 0x01, 0x00, 0x05, 0x04, 0xDE, 0xBC, 0x0A, 0x00, 0x01, 0x00, 0x00, 0x00, 0x00, 0x00,
         0x00, 0x00, 0x00, 0x00, 0x00, 0x00, 0x00, 0x00, 0x56, 0x34, 0x12, 0x00, 0xBC, 0x0A, 0x00, 0x00,
@@ -183,17 +183,17 @@ static void worked_example(void)
 
 static void taking_until_full(void)
 {
-    int good = lirvedd_open(9, table, 24592) == 0;
+    int good = lirvedd_open(9, table, MOST) == 0;
 
     for (uint32_t i = 1; i <= 1024; i++)
-        good = good && lirvedd_take(i % 10, i, table, 24592) == (uint64_t)i << 8;
+        good = good && lirvedd_take(i % 10, i, table, MOST) == (uint64_t)i << 8;
     CHECK(good);
-    CHECK(table[4] == 0x01 && table[5] == 0x04 && table[8] == 0x00 && table[9] == 0x04);
-    CHECK(take_refused(9, 9, 1, 24592));
+    CHECK(get(table, head_next) == 1025 && get(table, head_used) == 1024);
+    CHECK(take_refused(9, 9, 1, MOST));
 }
 
 /* A sound table of 3 rows, 2 of them used, in slot 3 of 0 to 9. */
-static const size_t small = 16 + 24 * 3;
+static const size_t small = TABLE_SIZE(3);
 
 static void sound(void)
 {
@@ -204,46 +204,73 @@ static void sound(void)
 
 static void taking_refused_2(void)
 {
-    static const size_t bad[] = {0, 1, 15, 16, 39, 41, 87, 89, 24591, 24593, 24616};
+    static const size_t bad[] = {0,           1,           HEAD_SIZE - 1, HEAD_SIZE, TABLE_SIZE(1) - 1, TABLE_SIZE(1) + 1,
+                                 TABLE_SIZE(3) - 1, TABLE_SIZE(3) + 1, MOST - 1,      MOST + 1,  TABLE_SIZE(1025)};
 
     sound();
-    table[15] = 1; /* not sound either: 2 comes before 3 */
+    table[HEAD_SIZE - 1] = 1; /* not sound either: 2 comes before 3 */
     for (size_t i = 0; i < sizeof bad / sizeof bad[0]; i++)
         CHECK(take_refused(2, 4, 1, bad[i]));
     CHECK(lirvedd_take(0, 0, NULL, 0) == 2);
 }
 
-/* Each clause of soundness broken alone, by one number at one place. */
+/* The table is refused as not sound, and then as it was. */
+static int unsound(const char *what, size_t at)
+{
+    int refused_as_not_sound = take_refused(3, 4, 1, small);
+
+    if (!refused_as_not_sound)
+        printf("damage: %s, at byte %zu\n", what, at);
+    sound();
+    return refused_as_not_sound;
+}
+
+/* Each byte called zero, set alone: of the head, of the used rows and of the unused one. */
+static void zeros_refused_3(void)
+{
+    static const size_t rows[] = {TABLE_SIZE(0), TABLE_SIZE(1)};
+
+    sound();
+    for (size_t at = head_zeros.at; at < HEAD_SIZE; at++) {
+        table[at] = 1;
+        CHECK(unsound("a zero of the head", at));
+    }
+    for (size_t i = 0; i < sizeof rows / sizeof rows[0]; i++)
+        for (size_t at = row_zeros.at; at < ROW_SIZE; at++) {
+            table[rows[i] + at] = 128;
+            CHECK(unsound("a zero of a row", rows[i] + at));
+        }
+    for (size_t at = TABLE_SIZE(2); at < TABLE_SIZE(3); at++) {
+        table[at] = 1;
+        CHECK(unsound("a zero of the unused row", at));
+    }
+}
+
+/* Each further clause of soundness broken alone, by one number. */
 static void taking_refused_3(void)
 {
     static const struct {
-        size_t at;
-        unsigned bytes;
+        size_t from;
+        const struct field *field;
         uint32_t value;
     } damage[] = {
-        {10, 1, 1},        {12, 1, 128},     {15, 1, 1},         /* zeros of the head */
-        {16 + 11, 1, 1},   {40 + 23, 1, 1},                      /* zeros of a row */
-        {16 + 10, 1, 2},   {40 + 10, 1, 255},                    /* the kind */
-        {8, 2, 4},         {8, 2, 3},        {8, 2, 258},        /* rows in use: too many, or one that is all zeros */
-        {8, 2, 1},                                               /* an unused row that is not zero */
-        {2, 2, 4096},      {2, 2, 65535},                        /* the last slot */
-        {0, 2, 11},        {0, 2, 65535},                        /* the current slot */
-        {4, 4, 0},         {4, 4, 16777217}, {4, 4, UINT32_MAX}, /* the next ticket */
-        {16, 4, 0},        {16, 4, 5},       {16, 4, 6},         /* tickets that do not rise from 1 */
-        {4, 4, 5},         {40, 4, 16777216},                    /* a ticket that is not below the next */
-        {16 + 4, 2, 2},    {0, 2, 4},                            /* due before the current slot */
-        {40 + 4, 2, 10},   {2, 2, 8},                            /* due after the last */
-        {16 + 6, 4, 0},    {40 + 6, 4, 16777217},                /* the weight */
-        {64, 1, 1},        {64 + 12, 1, 1},  {64 + 23, 1, 1},    /* zeros of the unused row */
+        {TABLE_SIZE(0), &row_kind, 2},     {TABLE_SIZE(1), &row_kind, 255},
+        {0, &head_used, 4},          {0, &head_used, 3},          {0, &head_used, 258}, /* too many, or one that is all zeros */
+        {0, &head_used, 1},                                                             /* an unused row that is not zero */
+        {0, &head_last, 4096},       {0, &head_last, 65535},
+        {0, &head_slot, 11},         {0, &head_slot, 65535},
+        {0, &head_next, 0},          {0, &head_next, 16777217},   {0, &head_next, UINT32_MAX},
+        {TABLE_SIZE(0), &row_ticket, 0},   {TABLE_SIZE(0), &row_ticket, 5},   {TABLE_SIZE(0), &row_ticket, 6}, /* they do not rise from 1 */
+        {0, &head_next, 5},          {TABLE_SIZE(1), &row_ticket, 16777216},                       /* not below the next */
+        {TABLE_SIZE(0), &row_due, 2},      {0, &head_slot, 4},                                     /* due before the current slot */
+        {TABLE_SIZE(1), &row_due, 10},     {0, &head_last, 8},                                     /* due after the last */
+        {TABLE_SIZE(0), &row_weight, 0},   {TABLE_SIZE(1), &row_weight, 16777217},
     };
 
+    sound();
     for (size_t i = 0; i < sizeof damage / sizeof damage[0]; i++) {
-        sound();
-        put(damage[i].at, damage[i].bytes, damage[i].value);
-        int refused_as_not_sound = take_refused(3, 4, 1, small);
-        if (!refused_as_not_sound)
-            printf("damage %zu, at byte %zu\n", i, damage[i].at);
-        CHECK(refused_as_not_sound);
+        put(table + damage[i].from, *damage[i].field, damage[i].value);
+        CHECK(unsound("a number", damage[i].from + damage[i].field->at));
     }
     head(11, 9, 1, 0); /* past the last slot by two: not sound, so 3 and not 5 */
     CHECK(take_refused(3, 4, 1, small));
@@ -282,23 +309,23 @@ static void taking_refused_6_and_7(void)
 static void taking_refused_8_and_9(void)
 {
     sound();
-    put(4, 4, 16777216);
+    put(table, head_next, 16777216);
     CHECK(take_refused(7, 10, 1, small)); /* 7 comes before 8 */
     CHECK(take_refused(6, 4, 0, small));
     CHECK(take_refused(8, 4, 1, small));
-    put(8, 2, 3);
+    put(table, head_used, 3);
     row(2, 16777215, 9, 1, 0);
     CHECK(take_refused(8, 4, 1, small)); /* 8 comes before 9 */
-    put(4, 4, 16777215);
+    put(table, head_next, 16777215);
     CHECK(take_refused(3, 4, 1, small));
     row(2, 16777214, 9, 1, 0);
     CHECK(take_refused(9, 4, 1, small));
     CHECK(take_refused(7, 10, 1, small)); /* 7 comes before 9 */
 
     sound();
-    put(4, 4, 16777215); /* the last ticket of all */
+    put(table, head_next, 16777215); /* the last ticket of all */
     CHECK(lirvedd_take(9, 1, table, small) == (uint64_t)16777215 << 8);
-    CHECK(table[4] == 0 && table[5] == 0 && table[6] == 0 && table[7] == 1);
+    CHECK(get(table, head_next) == 16777216);
     CHECK(take_refused(8, 9, 1, small));
 }
 
@@ -308,7 +335,7 @@ static void unpacking(void)
     CHECK(lirvedd_refusal(9) == LIRVEDD_TABLE_FULL && lirvedd_ticket(9) == 0);
     CHECK(lirvedd_refusal((uint64_t)16777215 << 8) == 0 && lirvedd_ticket((uint64_t)16777215 << 8) == 16777215);
     CHECK(lirvedd_ticket((uint64_t)0x00123456 << 8) == 0x00123456);
-    CHECK(LIRVEDD_TABLE_SIZE(3) == small && LIRVEDD_TABLE_SIZE(LIRVEDD_MOST_ROWS) == 24592);
+    CHECK(LIRVEDD_TABLE_SIZE(3) == small && LIRVEDD_TABLE_SIZE(LIRVEDD_MOST_ROWS) == MOST);
 }
 
 int main(void)
@@ -320,6 +347,7 @@ int main(void)
     worked_example();
     taking_until_full();
     taking_refused_2();
+    zeros_refused_3();
     taking_refused_3();
     taking_refused_5();
     taking_refused_6_and_7();

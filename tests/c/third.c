@@ -3,6 +3,7 @@
  * how a plan is computed stands here. LIRVEDD_ROUNDS sets how many rounds are played; a failure names its round's seed.
  */
 #include "lirvedd.h"
+#include "table.h"
 
 #include <stdio.h>
 #include <stdlib.h>
@@ -40,14 +41,6 @@ static uint32_t draw(uint32_t n)
     state ^= state >> 7;
     state ^= state << 17;
     return (uint32_t)((state >> 20) % n);
-}
-
-static uint32_t field(size_t at, unsigned bytes)
-{
-    uint32_t value = 0;
-    for (unsigned i = 0; i < bytes; i++)
-        value |= (uint32_t)table[at + i] << (8 * i);
-    return value;
 }
 
 /* A set of rows, one bit each, could go out in time if no more of them are due by a slot than there are slots up to it. */
@@ -93,12 +86,12 @@ static unsigned planned(const struct seen *s)
 
 static void look(struct seen *s)
 {
-    s->slot = field(0, 2);
-    s->last = field(2, 2);
-    s->used = field(8, 2);
+    s->slot = get(table, head_slot);
+    s->last = get(table, head_last);
+    s->used = get(table, head_used);
     for (uint32_t i = 0; i < s->used; i++) {
-        size_t at = LIRVEDD_TABLE_SIZE(i);
-        s->rows[i] = (struct row){field(at, 4), field(at + 4, 2), field(at + 6, 4)};
+        const uint8_t *row = table + TABLE_SIZE(i);
+        s->rows[i] = (struct row){get(row, row_ticket), get(row, row_due), get(row, row_weight)};
     }
     s->total = s->slot <= s->last ? lirvedd_amount(lirvedd_total(table, length)) : 0;
     for (uint32_t slot = s->slot; slot <= s->last; slot++)
@@ -149,7 +142,7 @@ static void play(void)
     for (size_t i = 0; i < sizeof table; i++)
         table[i] = (uint8_t)draw(256);
     note(lirvedd_open(last, table, length) == LIRVEDD_ACCEPTED, "the opening is accepted, whatever the table held");
-    for (unsigned call = 0; call < CALLS && field(0, 2) <= last; call++) {
+    for (unsigned call = 0; call < CALLS && get(table, head_slot) <= last; call++) {
         struct seen old;
 
         look(&old);

@@ -1,7 +1,9 @@
 //! Opening and taking. Every call returns its packed reply.
 
 use crate::sound::{judge, LENGTH};
-use crate::table::{is_length, rows, rows_mut, set, MOST_LAST, MOST_WEIGHT, TICKET_LIMIT};
+use crate::table::{
+    is_length, rows, rows_mut, set, LAST, MOST_LAST, MOST_WEIGHT, NEXT, TICKET, TICKET_LIMIT, USED,
+};
 
 pub use crate::questions::{mark, total};
 pub use crate::send::send;
@@ -21,8 +23,8 @@ pub fn open(last: u32, table: &mut [u8]) -> u64 {
         return LAST_TOO_LATE;
     }
     table.fill(0);
-    table[2..4].copy_from_slice(&(last as u16).to_le_bytes());
-    table[4] = 1;
+    LAST.put(table, last);
+    NEXT.put(table, 1);
     0
 }
 
@@ -44,9 +46,9 @@ pub fn take(due: u32, weight: u32, table: &mut [u8]) -> u64 {
         return TABLE_FULL;
     }
     let row = &mut rows_mut(table)[head.used];
-    row[0..4].copy_from_slice(&head.next.to_le_bytes());
+    TICKET.put(row, head.next);
     set(row, due, weight);
-    table[4..8].copy_from_slice(&(head.next + 1).to_le_bytes());
-    table[8..10].copy_from_slice(&(head.used as u16 + 1).to_le_bytes());
+    NEXT.put(table, head.next + 1);
+    USED.put(table, head.used as u32 + 1);
     u64::from(head.next) << 8
 }

@@ -1,6 +1,6 @@
 //! Rows leave and the others close up, in ticket order.
 
-use crate::table::{due, Head, Row};
+use crate::table::{due, Head, Row, ROW};
 
 /// Removes the rows due in the current slot, and the one at `gone` if it leaves too; returns the rows in use.
 pub fn close_up(rows: &mut [Row], head: Head, due_now: usize, gone: Option<usize>) -> usize {
@@ -25,7 +25,7 @@ pub fn close_up(rows: &mut [Row], head: Head, due_now: usize, gone: Option<usize
         left -= 1;
     }
     used.copy_within(from.., to);
-    used[kept..].fill([0; 24]);
+    used[kept..].fill([0; ROW]);
     kept
 }
 

@@ -38,7 +38,7 @@ pub fn step<const N: usize>(rows: &mut [Row], slot: u32, counts: &Counts<N>, bus
     if !late {
         let row = &mut rows[heaviest.index];
         set(row, slot + own.start as u32, found.mark);
-        row[KIND] = 1;
+        KIND.put(row, 1);
         step.leaves = false;
     }
     step

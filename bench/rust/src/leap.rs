@@ -17,7 +17,7 @@ pub fn leap<const N: usize>(
         let mark = marks(segments, own);
         let row = &mut rows[usize::from(plan.index[place_in(pick.key)])];
         set(row, slot + u32::from(segments.end[own + 1]) + 1, mark);
-        row[KIND] = 1;
+        KIND.put(row, 1);
         return true;
     }
     let due = ahead_in(pick.substitute);

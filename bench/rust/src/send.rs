@@ -8,8 +8,8 @@ use crate::plan::{place_in, Plan};
 use crate::segments::{score, Segments};
 use crate::sound::judge;
 use crate::table::{
-    due, rows_mut, ticket, weight, Head, Row, KIND, MIDDLE, MIDDLE_ROWS, MOST_ROWS, SMALL,
-    SMALL_ROWS,
+    due, rows_mut, ticket, weight, Head, Row, KIND, MIDDLE, MIDDLE_ROWS, MOST_ROWS, SLOT, SMALL,
+    SMALL_ROWS, USED,
 };
 
 /// The heaviest row met so far; among equals the first.
@@ -48,7 +48,7 @@ impl Step {
     #[inline(always)]
     pub fn of(rows: &[Row], index: usize, leap: bool) -> Step {
         let row = &rows[index];
-        let out = 1 + u64::from(row[KIND]) + if leap { 4 } else { 0 };
+        let out = 1 + u64::from(KIND.get(row)) + if leap { 4 } else { 0 };
         Step {
             reply: out << 32 | u64::from(ticket(row)) << 8,
             index,
@@ -92,8 +92,8 @@ fn send_in<const N: usize>(table: &mut [u8]) -> u64 {
 }
 
 fn next_slot(table: &mut [u8], head: Head, used: usize) {
-    table[0..2].copy_from_slice(&(head.slot as u16 + 1).to_le_bytes());
-    table[8..10].copy_from_slice(&(used as u16).to_le_bytes());
+    SLOT.put(table, head.slot + 1);
+    USED.put(table, used as u32);
 }
 
 /// With rows left out.

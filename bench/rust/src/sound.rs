@@ -1,8 +1,13 @@
 //! Refusals 2, 3 and 5: the table's length, its soundness, and a round that is over.
 
 use crate::table::{
-    is_length, rows, weight, word, Head, Row, MOST_LAST, MOST_WEIGHT, TICKET_LIMIT,
+    is_length, rows, weight, word, Head, Row, DUE, KIND, LAST, MOST_LAST, MOST_WEIGHT, NEXT, SLOT,
+    TICKET, TICKET_LIMIT, USED, WORD,
 };
+
+/// The bits above the due slot in a row's first word, and those below it once these are shifted out.
+const ABOVE_DUE: usize = 8 * (WORD - DUE.end());
+const DUE_AT_TOP: usize = 8 * (WORD - DUE.size);
 
 pub const LENGTH: u64 = 2;
 pub const NOT_SOUND: u64 = 3;
@@ -33,11 +38,11 @@ pub fn judge(table: &[u8], each: impl FnMut(usize, u32)) -> Result<Head, u64> {
 #[inline(always)]
 fn head(table: &[u8], rows: usize) -> Option<Head> {
     let first = word(table, 0);
-    let used = word(table, 8);
+    let used = word(table, USED.at);
     let head = Head {
-        slot: first as u32 & 0xFFFF,
-        last: first as u32 >> 16,
-        next: (first >> 32) as u32,
+        slot: SLOT.of_word(first),
+        last: LAST.of_word(first),
+        next: NEXT.of_word(first),
         used: used as usize,
     };
     let next = head.next.wrapping_sub(1) < TICKET_LIMIT;
@@ -48,26 +53,27 @@ fn head(table: &[u8], rows: usize) -> Option<Head> {
 /// No branch but the loop's: what every row must have is counted, and bits that no row may have are gathered.
 #[inline(always)]
 fn used_are_sound(used: &[Row], head: Head, mut each: impl FnMut(usize, u32)) -> bool {
-    let slot = u64::from(head.slot) << 48;
-    let slots_left = u64::from(head.last + 1 - head.slot) << 48;
+    let slot = u64::from(head.slot) << DUE_AT_TOP;
+    let slots_left = u64::from(head.last + 1 - head.slot) << DUE_AT_TOP;
     let (mut rising, mut timely) = (0, 0);
     let (mut weights, mut seconds, mut thirds) = (0, 0, 0);
     let mut previous = 0;
     for row in used {
         let first = word(row, 0);
-        rising += usize::from(previous < first as u32);
-        previous = first as u32;
+        let ticket = TICKET.of_word(first);
+        rising += usize::from(previous < ticket);
+        previous = ticket;
         // The due slot in the top two bytes, above the ticket.
-        let ahead = (first << 16).wrapping_sub(slot);
+        let ahead = (first << ABOVE_DUE).wrapping_sub(slot);
         timely += usize::from(ahead < slots_left);
         let weight = weight(row);
         weights |= weight.wrapping_sub(1);
-        seconds |= word(row, 8);
-        thirds |= word(row, 16);
-        each((ahead >> 48) as usize, weight);
+        seconds |= word(row, WORD);
+        thirds |= word(row, 2 * WORD);
+        each((ahead >> DUE_AT_TOP) as usize, weight);
     }
-    // The second word is the weight's upper half, the kind and five zero bytes.
-    let zeros = seconds >> 17 | thirds | u64::from(weights / MOST_WEIGHT);
+    // The second word is the weight's upper half, the kind, of which one bit may be set, and five zero bytes.
+    let zeros = seconds >> (8 * (KIND.at - WORD) + 1) | thirds | u64::from(weights / MOST_WEIGHT);
     zeros == 0 && rising == used.len() && timely == used.len() && previous < head.next
 }
 
@@ -76,5 +82,5 @@ fn used_are_sound(used: &[Row], head: Head, mut each: impl FnMut(usize, u32)) ->
 fn are_zero(unused: &[Row]) -> bool {
     unused
         .iter()
-        .all(|row| word(row, 0) == 0 && word(row, 8) == 0 && word(row, 16) == 0)
+        .all(|row| word(row, 0) == 0 && word(row, WORD) == 0 && word(row, 2 * WORD) == 0)
 }

@@ -12,6 +12,55 @@ pub const MOST_LAST: u32 = 4_095;
 pub const MOST_WEIGHT: u32 = 1 << 24;
 pub const TICKET_LIMIT: u32 = 1 << 24;
 
+/// The head's fields.
+pub const SLOT: Field = Field { at: 0, size: 2 };
+pub const LAST: Field = Field { at: 2, size: 2 };
+pub const NEXT: Field = Field { at: 4, size: 4 };
+pub const USED: Field = Field { at: 8, size: 2 };
+
+/// A row's fields.
+pub const TICKET: Field = Field { at: 0, size: 4 };
+pub const DUE: Field = Field { at: 4, size: 2 };
+pub const WEIGHT: Field = Field { at: 6, size: 4 };
+pub const KIND: Field = Field { at: 10, size: 1 };
+
+/// The bytes of a word.
+pub const WORD: usize = 8;
+
+/// Where a number stands: its first byte, and how many it has.
+#[derive(Clone, Copy)]
+pub struct Field {
+    pub at: usize,
+    pub size: usize,
+}
+
+impl Field {
+    #[inline(always)]
+    pub fn get(self, bytes: &[u8]) -> u32 {
+        let mut four = [0; 4];
+        four[..self.size].copy_from_slice(&bytes[self.at..self.end()]);
+        u32::from_le_bytes(four)
+    }
+
+    #[inline(always)]
+    pub fn put(self, bytes: &mut [u8], number: u32) {
+        bytes[self.at..self.end()].copy_from_slice(&number.to_le_bytes()[..self.size]);
+    }
+
+    /// Out of the word that it stands in.
+    #[inline(always)]
+    pub fn of_word(self, word: u64) -> u32 {
+        let above = 8 * (WORD - self.size);
+        let end = 8 * (WORD - self.end() % WORD) % 64;
+        (word << end >> above) as u32
+    }
+
+    /// The first byte after it.
+    pub const fn end(self) -> usize {
+        self.at + self.size
+    }
+}
+
 pub type Row = [u8; ROW];
 
 /// The head's numbers.
@@ -32,8 +81,8 @@ pub fn is_length(length: usize) -> bool {
 /// Eight bytes of the table.
 #[inline(always)]
 pub fn word(bytes: &[u8], at: usize) -> u64 {
-    let mut eight = [0; 8];
-    eight.copy_from_slice(&bytes[at..at + 8]);
+    let mut eight = [0; WORD];
+    eight.copy_from_slice(&bytes[at..at + WORD]);
     u64::from_le_bytes(eight)
 }
 
@@ -50,26 +99,23 @@ pub fn rows_mut(table: &mut [u8]) -> &mut [Row] {
 
 #[inline(always)]
 pub fn ticket(row: &Row) -> u32 {
-    word(row, 0) as u32
+    TICKET.of_word(word(row, 0))
 }
 
+/// By its two bytes: with `get` a substitute takes up to 2 % more instructions.
 #[inline(always)]
 pub fn due(row: &Row) -> u32 {
-    u32::from(u16::from_le_bytes([row[4], row[5]]))
+    u32::from(u16::from_le_bytes([row[DUE.at], row[DUE.at + 1]]))
 }
 
 #[inline(always)]
 pub fn weight(row: &Row) -> u32 {
-    let mut four = [0; 4];
-    four.copy_from_slice(&row[6..10]);
-    u32::from_le_bytes(four)
+    WEIGHT.get(row)
 }
 
 /// Gives a row a due slot and a weight.
 #[inline(always)]
 pub fn set(row: &mut Row, due: u32, weight: u32) {
-    row[4..6].copy_from_slice(&(due as u16).to_le_bytes());
-    row[6..10].copy_from_slice(&weight.to_le_bytes());
+    DUE.put(row, due);
+    WEIGHT.put(row, weight);
 }
-
-pub const KIND: usize = 10;

@@ -1,9 +1,9 @@
 //! The tuned planner against the second implementation: each reply and each byte, over its drawn tables and lists.
 
 use second::call::Call;
-use second::calls::Second;
 use second::compare::kinds::{run, Settings};
 use second::compare::library::Library;
+use second::rules::Rules;
 use second::settings;
 use tuned::calls;
 
@@ -30,7 +30,7 @@ fn agrees_with_the_second_implementation() {
         drawn_only: false,
     };
     let mut calls = 0;
-    let ended = run(&Tuned, Second::PLAIN, settings, |kind, agreed| {
+    let ended = run(&Tuned, Rules::PAPERS, settings, |kind, agreed| {
         println!("{}: {agreed} calls", kind.name);
         calls += agreed;
     });

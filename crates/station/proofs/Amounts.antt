@@ -7,20 +7,19 @@ use lib.Dec.{leb}
 use lib.ListN.{length}
 use Rattle.rules.specs.Rows.{Row, Round, All}
 use Rattle.rules.specs.Plan.{plan, total, least-weight, mark-in, mark, flags, planned}
-use Rattle.rules.specs.Table.{round-in, table-refusal}
-use Rattle.rules.specs.Calls.{totalling, send-refusal, first, round-refusal, table-first, refusal, says, answer}
+use Rattle.rules.specs.Table.{round-in}
+use Rattle.rules.specs.Calls.{totalling, asking, question, deed, refusal, says, answer}
 use Rattle.theory.specs.Tests.{either, eqb?}
 use Rattle.theory.specs.Sum.{sum, sum-chosen, total-sum}
 use Rattle.theory.specs.Bounds.{Row-fine}
 use Rattle.theory.specs.Full.{Fine}
 use Rattle.theory.specs.Same.{planned-weighs}
-use Rattle.theory.specs.Sane.{sound}
 use Rattle.packing.specs.Packing.{Small-amount}
-use Rattle.station.proofs.Fitting.{first-none}
+use Rattle.station.proofs.Fitting.{accepted-question}
 
 pub weights-most : (r : Round) (xs : List Row) → All (Row-fine r) xs → sum (λ x. x .weight) xs ≤ 16777216 * length xs
 weights-most r [] a = omega arith
-weights-most r (x ∷ xs) a = omega (arith, a .0 .3, weights-most r xs (a .1))
+weights-most r (x ∷ xs) a = omega (arith, a .0 .most, weights-most r xs (a .1))
 
 pub total-most : (r : Round) → Fine r → length (r .rows) ≤ 1024 → total r ≤ 17179869184
 unfolding planned
@@ -33,11 +32,11 @@ total-most r f h =
       weights-most r (r .rows) (f .fine),
     )
 
-pub total-answer-small : (t : List ℕ) → Small-amount (answer totalling t)
-unfolding answer refusal table-first round-refusal says
-total-answer-small t = elim (eqb? (first (table-refusal t) (send-refusal (round-in t))) 0) [
+pub total-answer-small : (t : List ℕ) → Small-amount (answer (asking totalling) t)
+unfolding answer says deed question
+total-answer-small t = elim (eqb? (refusal (asking totalling) t) 0) [
   | inl e ↦
-      let s = sound t (first-none (table-refusal t) (send-refusal (round-in t)) (e .1) .0) .sane in
+      let s = accepted-question totalling t (e .1) in
       rw (e .0) (total-most (round-in t) (s .fine) (omega (arith, s .size .long, s .size .room)))
   | inr e ↦ rw (e .0) tt
 ]

@@ -1,24 +1,26 @@
 -- What every exported call answers on any table is within the packing's bounds, so it is read back whole.
+use mathlib.Core.Path.{refl}
 use mathlib.Core.Logic.{inl, inr}
-use mathlib.Core.Bool.{Bool, true, false, _||_, cond}
+use mathlib.Core.Bool.{Bool, true, false, cond}
 use mathlib.Core.List.{List, [], _∷_}
 use mathlib.Core.Option.{Option, none, some}
 use Prim.Native.Nat.{ℕ, _<_}
 use native.Mathlib.Omega.{arith}
-use lib.Dec.{eqb, ltb}
+use lib.Dec.{eqb}
 use Rattle.rules.specs.Rows.{Row, Round, All}
 use Rattle.rules.specs.Plan.{plan, best, substitute, in-plan}
 use Rattle.rules.specs.Steps.{is-ordinary}
 use Rattle.rules.specs.Table.{round-in, table-refusal}
-use Rattle.rules.specs.Calls.{Call, opening, taking, sending, marking, totalling, Out, silence, frame, kept-blank, ordinary, leap, refused, ticket, step, blank-due, first, send-refusal, mark-refusal, table-first, round-refusal, refusal, out-of, says, answer}
+use Rattle.rules.specs.Calls.{taking, sending, marking, totalling, Call, opening, acting, asking, first-of, over, act, question, deed, Out, silence, frame, kept-blank, ordinary, leap, refused, ticket, step, blank-due, first, out-of, says, answer}
 use Rattle.rules.specs.Looking.{with-ticket, stand-in, substitute-answer}
 use Rattle.theory.specs.Tests.{eqb?, both-ways, positive}
 use Rattle.theory.specs.All.{all-of-in}
 use Rattle.theory.specs.Sane.{Sane, sound}
+use Rattle.theory.specs.Stays.{first-none}
 use Rattle.packing.specs.Packing.{Fits-out, silence-fits, frame-fits, blank-fits, Fits, ordinary-fits, leap-fits, mark-fits, total-fits, Unpacks, Fits-substitute, refusal-stands, row-stands, blank-stands}
 use Rattle.packing.proofs.Unpack.{unpacks, substitute-unpacks}
 use Rattle.station.specs.Exports.{Answers-fit, Replies-back}
-use Rattle.station.proofs.Fitting.{small-or, small-first, small-table, answers-fit, first-none, opening-answers, taking-answers}
+use Rattle.station.proofs.Fitting.{small-first, small-table, small-tests, answers-fit, accepted-act, accepted-question, opening-answers, taking-answers}
 use Rattle.station.proofs.Amounts.{total-most, mark-most}
 use Rattle.station.proofs.RowsFit.{Fits-row, best-fits, substitute-fits}
 
@@ -27,40 +29,29 @@ out-fits : (p : Row) → p .ticket < 16777216 → Fits-out (out-of p)
 unfolding out-of
 out-fits p h =
     both-ways Fits-out (eqb (p .ticket) 0) silence _ (λ _. silence-fits)
-    (λ _. both-ways Fits-out (eqb (p .kind) 0) (frame (p .ticket)) (kept-blank (p .ticket)) (λ _. frame-fits h) (λ _. blank-fits h))
+    (λ _. both-ways Fits-out (eqb (p .tail .kind) 0) (frame (p .ticket)) (kept-blank (p .ticket)) (λ _. frame-fits h) (λ _. blank-fits h))
 
-step-fits : (b : Bool) (o : Out) → Fits-out o → Fits sending (step (cond b (ordinary o) (leap o)))
+step-fits : (b : Bool) (o : Out) → Fits-out o → Fits (acting sending) (step (cond b (ordinary o) (leap o)))
 step-fits true o f = ordinary-fits f
 step-fits false o f = leap-fits f
 
-small-send : (r : Round) → send-refusal r < 256
-unfolding send-refusal
-small-send r = small-or (ltb (r .last) (r .slot)) 5 0 (omega arith) (omega arith)
-
-pub sending-answers : Answers-fit sending
-unfolding Answers-fit refusal table-first round-refusal says
+pub sending-answers : Answers-fit (acting sending)
+unfolding Answers-fit says deed act
 sending-answers t =
-    answers-fit sending t (small-first _ _ (small-table t) (small-send (round-in t)))
-    (λ e. let s = sound t (first-none (table-refusal t) (send-refusal (round-in t)) e .0) .sane in
+    answers-fit (acting sending) t
+    (λ e. let s = accepted-act sending t e .0 in
     step-fits (is-ordinary (round-in t)) _ (out-fits (best (round-in t) (plan (round-in t))) (best-fits (round-in t) s .0)))
 
 -- A MARK, a total
-small-mark : (r : Round) (s : ℕ) → mark-refusal r s < 256
-unfolding mark-refusal
-small-mark r s =
-    small-or (ltb (r .last) (r .slot)) 5 _ (omega arith)
-    (small-or (ltb s (r .slot) || ltb (r .last) s) 7 0 (omega arith) (omega arith))
+pub marking-answers : (s : ℕ) → Answers-fit (asking (marking s))
+unfolding Answers-fit says deed question
+marking-answers s t = answers-fit (asking (marking s)) t (λ _. mark-fits (mark-most (round-in t) s))
 
-pub marking-answers : (s : ℕ) → Answers-fit (marking s)
-unfolding Answers-fit refusal table-first round-refusal says
-marking-answers s t =
-    answers-fit (marking s) t (small-first _ _ (small-table t) (small-mark (round-in t) s)) (λ _. mark-fits (mark-most (round-in t) s))
-
-pub totalling-answers : Answers-fit totalling
-unfolding Answers-fit refusal table-first round-refusal says
+pub totalling-answers : Answers-fit (asking totalling)
+unfolding Answers-fit says deed question
 totalling-answers t =
-    answers-fit totalling t (small-first _ _ (small-table t) (small-send (round-in t)))
-    (λ e. let s = sound t (first-none (table-refusal t) (send-refusal (round-in t)) e .0) .sane in
+    answers-fit (asking totalling) t
+    (λ e. let s = accepted-question totalling t e in
     total-fits (total-most (round-in t) (s .fine) (omega (arith, s .size .long, s .size .room))))
 
 -- A SUBSTITUTE
@@ -87,19 +78,20 @@ stand-in-fits r s k =
 pub substitute-answers : (k : ℕ) (t : List ℕ) → Fits-substitute (substitute-answer k t)
 unfolding substitute-answer
 substitute-answers k t =
-    let n = first (table-refusal t) (send-refusal (round-in t)) in
+    let xs = over (round-in t .slot) (round-in t .last) ∷ [] in
+    let n = first (table-refusal t) (first-of xs) in
     elim (eqb? n 0) [
-      | inl e ↦ rw (e .0) (stand-in-fits (round-in t) (sound t (first-none (table-refusal t) (send-refusal (round-in t)) (e .1) .0) .sane) k)
-      | inr e ↦ rw (e .0) (refusal-stands {n = n} (positive n (e .1)) (small-first _ _ (small-table t) (small-send (round-in t))))
+      | inl e ↦ rw (e .0) (stand-in-fits (round-in t) (sound t (first-none (table-refusal t) (first-of xs) (e .1) .0) .sane) k)
+      | inr e ↦ rw (e .0) (refusal-stands {n = n} (positive n (e .1)) (small-first (table-refusal t) (first-of xs) (small-table t) (small-tests xs refl)))
     ]
 
 -- ALL SIX
 pub all-answers : (c : Call) → Answers-fit c
-all-answers (opening l) = opening-answers l
-all-answers (taking d w) = taking-answers d w
-all-answers sending = sending-answers
-all-answers (marking s) = marking-answers s
-all-answers totalling = totalling-answers
+all-answers (opening u) = opening-answers u
+all-answers (acting (taking f)) = taking-answers f
+all-answers (acting sending) = sending-answers
+all-answers (asking (marking s)) = marking-answers s
+all-answers (asking totalling) = totalling-answers
 
 pub replies-back : Replies-back
 unfolding Replies-back Answers-fit Unpacks

@@ -7,7 +7,8 @@ use Rattle.rules.specs.Rows.{Row, Round, blank, All, In}
 use Rattle.rules.specs.Plan.{plan, first-end, segment-start, substitute, best}
 use Rattle.theory.specs.Tests.{both-ways}
 use Rattle.theory.specs.All.{all-in}
-use Rattle.theory.specs.Full.{Rising, Row-fine, plan-all}
+use Rattle.theory.specs.Bounds.{Row-fine}
+use Rattle.theory.specs.Full.{Rising, plan-all}
 use Rattle.theory.specs.Back.{rising-le, outside-all, lightest-all, best-from-all}
 use Rattle.theory.specs.Tights.{segment-from-tight}
 use Rattle.theory.specs.Sane.{Sane}
@@ -22,7 +23,7 @@ blank-row-fits s h = (omega arith, h)
 pub some-rows-fit : (r : Round) (a : ℕ) (xs : List Row) → r .last ≤ 4095 → r .next ≤ 16777216 → All (Row-fine r) xs → Rising a (r .next) xs → All Fits-row xs
 some-rows-fit r a [] h i f u = tt
 some-rows-fit r a (x ∷ xs) h i f u = (
-  (omega (arith, i, rising-le (suc (x .ticket)) (r .next) xs (u .1)), omega (arith, h, f .0 .1)),
+  (omega (arith, i, rising-le (suc (x .ticket)) (r .next) xs (u .1)), omega (arith, h, f .0 .due-by)),
   some-rows-fit r (suc (x .ticket)) xs h i (f .1) (u .1),
 )
 
@@ -46,7 +47,7 @@ module _ (r : Round) (s : Sane r) where
   substitute-fits p i =
       let d = all-in (Row-fine r) p (r .rows) (s .fine .fine) i in
       let b = segment-start r (plan r) (p .due) in
-      let z = segment-from-tight r (s .fine) (p .due) (d .0) (d .1) .1 in
+      let z = segment-from-tight r (s .fine) (p .due) (d .due-from) (d .due-by) .1 in
       both-ways Fits-row (leb (p .due) (first-end r (plan r))) _ _
       (λ _. lightest-all Fits-row (first-end r (plan r)) (plan r) p (all-in Fits-row p (r .rows) rows-fit i) plan-fits)
-      (λ _. outside-all Fits-row b (plan r) (r .rows) (blank b) (blank-row-fits b (omega (arith, z, d .1, s .size .last))) rows-fit)
+      (λ _. outside-all Fits-row b (plan r) (r .rows) (blank b) (blank-row-fits b (omega (arith, z, d .due-by, s .size .last))) rows-fit)

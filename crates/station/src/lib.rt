@@ -1,5 +1,6 @@
 // The C boundary: the calls over numbers and the lent table, each reply packed into one number by docs/REPLIES.md.
-ghost use Rattle.rules.specs.Calls.{opening, taking, sending, marking, totalling};
+ghost use Rattle.rules.specs.Rows.{framed, until};
+ghost use Rattle.rules.specs.Calls.{taking, sending, marking, totalling, opening, acting, asking};
 ghost use Rattle.rules.specs.Looking.{substitute-answer};
 ghost use Rattle.station.specs.Exports.{Exports, Exports-look};
 use calls::opening::open_round;
@@ -20,21 +21,21 @@ use sorts::Weight;
 
 #[no_mangle]
 pub extern "C" fn lirvedd_open(last: u32, table: &mut [u8]) -> u64
-    ensures { λ r. ⌜ Exports (opening last) r (now (table .entry)) (now (table .exit)) ⌝ }
+    ensures { λ r. ⌜ Exports (opening (until last)) r (now (table .entry)) (now (table .exit)) ⌝ }
 {
     pack_opened(open_round(Slot(last), table))
 }
 
 #[no_mangle]
 pub extern "C" fn lirvedd_take(due: u32, weight: u32, table: &mut [u8]) -> u64
-    ensures { λ r. ⌜ Exports (taking due weight) r (now (table .entry)) (now (table .exit)) ⌝ }
+    ensures { λ r. ⌜ Exports (acting (taking (framed due weight))) r (now (table .entry)) (now (table .exit)) ⌝ }
 {
     pack_taken(take_frame(Slot(due), Weight(weight), table))
 }
 
 #[no_mangle]
 pub extern "C" fn lirvedd_send(table: &mut [u8]) -> u64
-    ensures { λ r. ⌜ Exports sending r (now (table .entry)) (now (table .exit)) ⌝ }
+    ensures { λ r. ⌜ Exports (acting sending) r (now (table .entry)) (now (table .exit)) ⌝ }
 {
     pack_sent(send_slot(table))
 }
@@ -42,14 +43,14 @@ pub extern "C" fn lirvedd_send(table: &mut [u8]) -> u64
 // The calls below only read the table.
 #[no_mangle]
 pub extern "C" fn lirvedd_mark(slot: u32, table: &[u8]) -> u64
-    ensures { λ r. ⌜ Exports (marking slot) r (now (table .entry)) (now (table .exit)) ⌝ }
+    ensures { λ r. ⌜ Exports (asking (marking slot)) r (now (table .entry)) (now (table .exit)) ⌝ }
 {
     pack_marked(mark_of(Slot(slot), table))
 }
 
 #[no_mangle]
 pub extern "C" fn lirvedd_total(table: &[u8]) -> u64
-    ensures { λ r. ⌜ Exports totalling r (now (table .entry)) (now (table .exit)) ⌝ }
+    ensures { λ r. ⌜ Exports (asking totalling) r (now (table .entry)) (now (table .exit)) ⌝ }
 {
     pack_totalled(plan_total(table))
 }

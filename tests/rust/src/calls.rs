@@ -1,62 +1,56 @@
-//! The second implementation, and what its calls over the lent table share.
+//! The calls: each is a rule too, so that a fault may stand around one.
 
-use crate::counts::Slot;
-use crate::mutation::Mutation;
-use crate::plan::Plan;
+use crate::command::{self, Command};
+use crate::counts::{Slot, Ticket, Weight};
+use crate::listing::{self, Entry};
+use crate::opening;
+use crate::payload;
+use crate::questions::{self, Substitute};
 use crate::refusal::Refusal;
-use crate::round::Round;
-use crate::send::{send, Step};
-use crate::sound::is_sound;
-use crate::table::{decode, encode, rows_of};
+use crate::rules::Rules;
+use crate::send::{self, Step};
+use crate::station::{self, Reply};
+use crate::taking;
+use crate::writer;
 
-/// The second implementation, with one fault or none.
-#[derive(Clone, Copy)]
-pub struct Second {
-    pub mutation: Mutation,
+macro_rules! calls {
+    ($($(#[$doc:meta])* $name:ident($($given:ident: $sort:ty),*) -> $reply:ty = $rule:path;)*) => {
+        #[derive(Clone)]
+        pub struct Calls {
+            $(pub $name: fn(&Rules, $($sort),*) -> $reply,)*
+        }
+
+        pub const CALLS: Calls = Calls {
+            $($name: $rule,)*
+        };
+
+        impl Rules {
+            $($(#[$doc])* pub fn $name(&self, $($given: $sort),*) -> $reply {
+                (self.calls.$name)(self, $($given),*)
+            })*
+        }
+    };
 }
 
-impl Second {
-    /// Without a fault.
-    pub const PLAIN: Second = Second {
-        mutation: Mutation::None,
-    };
-
-    pub fn send(&self, table: &mut [u8]) -> Result<Step, Refusal> {
-        let mut round = self.judged(table)?;
-        let step = send(&mut round, self.mutation.in_planning());
-        encode(&round, table, self.mutation.in_planning());
-        Ok(step)
-    }
-
-    /// The round of a table that 2, 3 and 5 let through.
-    pub(crate) fn judged(&self, table: &[u8]) -> Result<Round, Refusal> {
-        let mutation = self.mutation.in_planning();
-        rows_of(table.len(), mutation).ok_or(Refusal::Length)?;
-        if !is_sound(table, mutation) {
-            return Err(Refusal::Unsound);
-        }
-        let round = decode(table, mutation);
-        if self.is_over(&round) {
-            return Err(Refusal::Over);
-        }
-        Ok(round)
-    }
-
-    pub(crate) fn plan(&self, round: &Round) -> Plan {
-        Plan::of(round, self.mutation.in_planning())
-    }
-
-    pub(crate) fn is_over(&self, round: &Round) -> bool {
-        let early = self.mutation == Mutation::LastSlotOver && round.slot == round.last;
-        round.slot > round.last || early
-    }
-
-    /// Cuts a slot to two bytes, under the fault that does so.
-    pub(crate) fn cut(&self, slot: Slot, fault: Mutation) -> Slot {
-        if self.mutation == fault {
-            Slot(slot.0 & 0xFFFF)
-        } else {
-            slot
-        }
-    }
+calls! {
+    open(last: Slot, table: &mut [u8]) -> Result<(), Refusal> = opening::open;
+    take(due: Slot, weight: Weight, table: &mut [u8]) -> Result<Ticket, Refusal> = taking::take;
+    send(table: &mut [u8]) -> Result<Step, Refusal> = send::send;
+    mark(slot: Slot, table: &[u8]) -> Result<Weight, Refusal> = questions::mark;
+    total(table: &[u8]) -> Result<u64, Refusal> = questions::total;
+    substitute(ticket: Ticket, table: &[u8]) -> Result<Substitute, Refusal> = questions::substitute;
+    /// Lists the plan's rows into the lent list and returns their number.
+    list(table: &[u8], entries: &mut [Entry]) -> Result<usize, Refusal> = listing::list;
+    /// The line, its 0A included, as a command.
+    read(line: &[u8]) -> Result<Command, Refusal> = command::read;
+    /// Where the payload stands in a line: its start and its end.
+    payload_place(line: &[u8]) -> (usize, usize) = payload::place;
+    /// Writes a command's line into the lent buffer and answers its length.
+    write(command: Command, payload: &[u8], buffer: &mut [u8]) -> Result<usize, Refusal> = writer::write;
+    /// The program's table before its first line.
+    fresh() -> Vec<u8> = station::fresh;
+    /// The program's reply to one line. The last line may lack its 0A.
+    reply(table: &mut [u8], line: &[u8]) -> Reply = station::reply;
+    /// The program's whole output for a whole input.
+    printed(input: &[u8]) -> String = station::printed;
 }

@@ -1,14 +1,12 @@
-//! Reading a text line as a command.
+//! The forms of text lines, and reading one as a command.
 
-use crate::calls::Second;
 use crate::counts::{Slot, Weight};
-use crate::mutation::Mutation;
 use crate::refusal::Refusal;
+use crate::rules::{hold, Clause, Clauses, Rules};
+use std::borrow::Cow;
 
 /// The byte that ends a line.
 pub const END: u8 = 0x0A;
-/// Digits of a take line before its payload: `01`, due slot, weight.
-pub const TAKE_DIGITS: usize = 2 + 4 + 8;
 /// A payload has at most 24 bytes of two digits.
 pub const PAYLOAD_DIGITS: usize = 48;
 
@@ -19,94 +17,130 @@ pub enum Command {
     Send,
 }
 
-impl Second {
-    /// The line, its 0A included, as a command.
-    pub fn read(&self, line: &[u8]) -> Result<Command, Refusal> {
-        command(line, self.mutation).ok_or(Refusal::Line)
+/// The form of a command's line.
+#[derive(Clone, Copy)]
+pub struct Form {
+    /// The digits that it begins with.
+    pub line: &'static str,
+    /// How many digits each of its numbers has.
+    pub widths: &'static [usize],
+    pub has_payload: bool,
+    /// The command with these numbers.
+    pub command: fn(&[u32]) -> Command,
+}
+
+pub const FORMS: &[Form] = &[
+    Form {
+        line: "00",
+        widths: &[4],
+        has_payload: false,
+        command: |numbers| Command::Open {
+            last: Slot(numbers[0]),
+        },
+    },
+    Form {
+        line: "01",
+        widths: &[4, 8],
+        has_payload: true,
+        command: |numbers| Command::Take {
+            due: Slot(numbers[0]),
+            weight: Weight(numbers[1]),
+        },
+    },
+    Form {
+        line: "02",
+        widths: &[],
+        has_payload: false,
+        command: |_| Command::Send,
+    },
+];
+
+impl Command {
+    /// The digits that its line begins with, and its numbers.
+    pub fn numbers(self) -> (&'static str, Vec<u32>) {
+        match self {
+            Command::Open { last } => ("00", vec![last.0]),
+            Command::Take { due, weight } => ("01", vec![due.0, weight.0]),
+            Command::Send => ("02", vec![]),
+        }
     }
 }
+
+impl Form {
+    /// The digits before a payload.
+    pub fn front(&self) -> usize {
+        self.line.len() + self.widths.iter().sum::<usize>()
+    }
+}
+
+/// What a line may have in it.
+#[derive(Clone)]
+pub struct Lines {
+    pub forms: Cow<'static, [Form]>,
+    pub digit: fn(u8) -> Option<u32>,
+    /// When digits could be a payload.
+    pub payload: Clauses,
+}
+
+pub const LINES: Lines = Lines {
+    forms: Cow::Borrowed(FORMS),
+    digit,
+    payload: Cow::Borrowed(PAYLOAD),
+};
 
 /// Digits 0 to 9 and A to F only.
-pub fn digit(byte: u8, mutation: Mutation) -> Option<u32> {
-    match (byte, mutation) {
-        (b'0'..=b'9', _) => Some(u32::from(byte - b'0')),
-        (b'A'..=b'F', _) => Some(u32::from(byte - b'A') + 10),
-        (b'a'..=b'f', Mutation::LowerCaseRead) => Some(u32::from(byte - b'a') + 10),
-        (b':'..=b'@', Mutation::BytesAfterNineRead) => Some(u32::from(byte - b'0')),
-        (b'G', Mutation::GRead) => Some(16),
+pub fn digit(byte: u8) -> Option<u32> {
+    match byte {
+        b'0'..=b'9' => Some(u32::from(byte - b'0')),
+        b'A'..=b'F' => Some(u32::from(byte - b'A') + 10),
         _ => None,
     }
 }
 
-/// The number that some digits stand for, at most eight.
-fn number(digits: &[u8], mutation: Mutation) -> Option<u32> {
-    let mut number: u32 = 0;
-    for byte in digits {
-        number = number
-            .wrapping_mul(16)
-            .wrapping_add(digit(*byte, mutation)?);
+/// 0 to 24 bytes, of two digits each.
+const PAYLOAD: &[Clause] = &[
+    ("digits", |digits| digits.iter().all(|byte| digit(*byte).is_some())),
+    ("whole bytes", |digits| digits.len() % 2 == 0),
+    ("at most 24", |digits| digits.len() <= PAYLOAD_DIGITS),
+];
+
+impl Lines {
+    /// The form of a line that begins with these digits.
+    pub fn form(&self, line: &[u8]) -> Option<&Form> {
+        self.forms.iter().find(|form| form.line.as_bytes() == line)
     }
-    Some(number)
-}
 
-/// Whether these could be a payload.
-pub fn is_payload(digits: &[u8], mutation: Mutation) -> bool {
-    let most = match mutation {
-        Mutation::LongPayloadRead => PAYLOAD_DIGITS + 2,
-        Mutation::LongestPayloadRefused => PAYLOAD_DIGITS - 2,
-        _ => PAYLOAD_DIGITS,
-    };
-    let waived = |which: Mutation| mutation == which;
-    let all = digits.iter().all(|byte| digit(*byte, mutation).is_some());
-    (all || waived(Mutation::AnyPayloadRead))
-        && (digits.len() % 2 == 0 || waived(Mutation::OddPayloadRead))
-        && digits.len() <= most
-}
+    /// Whether these may stand after a line's numbers.
+    pub fn may_follow(&self, form: &Form, payload: &[u8]) -> bool {
+        match form.has_payload {
+            true => hold(&self.payload, payload),
+            false => payload.is_empty(),
+        }
+    }
 
-fn command(line: &[u8], mutation: Mutation) -> Option<Command> {
-    let (which, rest) = digits_of(line, mutation)?.split_at_checked(2)?;
-    let slot = |digits: &[u8]| number(digits, mutation).map(Slot);
-    match (which, rest.len()) {
-        (b"00", 4) => Some(Command::Open { last: slot(rest)? }),
-        (b"00", 5..) if mutation == Mutation::OpenPayloadRead => {
-            let last = slot(&rest[..4])?;
-            is_payload(&rest[4..], mutation).then_some(Command::Open { last })
+    /// The number that some digits stand for, at most eight.
+    fn number(&self, digits: &[u8]) -> Option<u32> {
+        let mut number = 0;
+        for byte in digits {
+            number = 16 * number + (self.digit)(*byte)?;
         }
-        (b"00", 1..=3) if mutation == Mutation::ShortOpenRead => {
-            Some(Command::Open { last: slot(rest)? })
+        Some(number)
+    }
+
+    fn command(&self, line: &[u8]) -> Option<Command> {
+        let (line, mut rest) = line.strip_suffix(&[END])?.split_at_checked(2)?;
+        let form = self.form(line)?;
+        let mut numbers = Vec::new();
+        for width in form.widths {
+            let (digits, after) = rest.split_at_checked(*width)?;
+            numbers.push(self.number(digits)?);
+            rest = after;
         }
-        (b"01", 12..) if is_payload(&rest[12..], mutation) => Some(Command::Take {
-            due: slot(&rest[..4])?,
-            weight: weight(&rest[4..12], mutation)?,
-        }),
-        (b"02", 0) => Some(Command::Send),
-        (b"02", _) if mutation == Mutation::SendPayloadRead => {
-            is_payload(rest, mutation).then_some(Command::Send)
-        }
-        (_, 0) if mutation == Mutation::UnknownNumberRead => {
-            number(which, mutation).map(|_| Command::Send)
-        }
-        _ => None,
+        self.may_follow(form, rest)
+            .then(|| (form.command)(&numbers))
     }
 }
 
-fn weight(digits: &[u8], mutation: Mutation) -> Option<Weight> {
-    let weight = number(digits, mutation)?;
-    Some(Weight(match mutation {
-        Mutation::WeightCutShort => weight & 0xFF_FFFF,
-        _ => weight,
-    }))
-}
-
-/// The line without its 0A, which it must have.
-fn digits_of(line: &[u8], mutation: Mutation) -> Option<&[u8]> {
-    let (end, digits) = line.split_last()?;
-    match mutation {
-        Mutation::UnendedRead if *end != END => Some(line),
-        _ if *end != END => None,
-        Mutation::CarriageReturnRead => Some(digits.strip_suffix(b"\r").unwrap_or(digits)),
-        Mutation::SpaceRead => Some(digits.trim_ascii_end()),
-        Mutation::NulEndsLine => digits.split(|byte| *byte == 0).next(),
-        _ => Some(digits),
-    }
+pub fn read(rules: &Rules, line: &[u8]) -> Result<Command, Refusal> {
+    rules.reading.command(line).ok_or(Refusal::Line)
 }

@@ -1,6 +1,5 @@
 //! How a comparison ends: its last line, or what differs.
 
-use crate::mutation::Mutation;
 use crate::settings::factor;
 use std::env;
 use std::path::Path;
@@ -26,12 +25,6 @@ pub fn told(ended: Ended) -> ExitCode {
 /// A fault, by what it does.
 pub trait Named {
     fn says(&self) -> String;
-}
-
-impl Named for Mutation {
-    fn says(&self) -> String {
-        format!("{self:?}: {}", Mutation::says(*self))
-    }
 }
 
 /// Every fault must be caught; one line each. The place tells where it is.

@@ -1,7 +1,6 @@
 //! Comparing w + φ × s exactly, φ = (1 + √5) / 2, in whole numbers.
 
 use crate::counts::Weight;
-use crate::mutation::Mutation;
 use std::cmp::Ordering;
 
 /// A member's weight and its substitute's, standing for w + φ × s.
@@ -11,20 +10,14 @@ pub struct Score {
     pub substitute: Weight,
 }
 
-/// How a's w + φ × s compares with b's.
-pub fn compare(a: Score, b: Score, mutation: Mutation) -> Ordering {
-    match mutation {
-        Mutation::PhiAsF32 => as_f32(a).total_cmp(&as_f32(b)),
-        Mutation::PhiLeftOut => plain(a).cmp(&plain(b)),
-        Mutation::PhiOnOwnWeight => exact(turned(a), turned(b)),
-        Mutation::SubstituteNotCounted => a.own.cmp(&b.own),
-        _ => exact(a, b),
-    }
+/// Whether a's w + φ × s is greater than b's.
+pub fn beats(a: Score, b: Score) -> bool {
+    compare(a, b).is_gt()
 }
 
-/// w + φ s > w' + φ s' just when x > φ y with x = w − w', y = s' − s; twice
-/// that is 2 x − y > √5 y, and both sides squared are whole numbers.
-fn exact(a: Score, b: Score) -> Ordering {
+/// How a's w + φ × s compares with b's. It is greater just when x > φ y with
+/// x = w − w', y = s' − s; twice that is 2 x − y > √5 y, and both sides squared are whole numbers.
+pub fn compare(a: Score, b: Score) -> Ordering {
     let x = i128::from(a.own.0) - i128::from(b.own.0);
     let y = i128::from(b.substitute.0) - i128::from(a.substitute.0);
     signed_square(2 * x - y).cmp(&(5 * signed_square(y)))
@@ -33,22 +26,6 @@ fn exact(a: Score, b: Score) -> Ordering {
 /// The square, with the number's sign: it rises with the number.
 fn signed_square(number: i128) -> i128 {
     number * number.abs()
-}
-
-fn as_f32(score: Score) -> f32 {
-    let phi = (1.0 + 5.0_f32.sqrt()) / 2.0;
-    score.own.0 as f32 + phi * score.substitute.0 as f32
-}
-
-fn plain(score: Score) -> u64 {
-    u64::from(score.own.0) + u64::from(score.substitute.0)
-}
-
-fn turned(score: Score) -> Score {
-    Score {
-        own: score.substitute,
-        substitute: score.own,
-    }
 }
 
 #[cfg(test)]
@@ -63,7 +40,7 @@ mod tests {
     }
 
     fn greater(a: Score, b: Score) -> bool {
-        compare(a, b, Mutation::None) == Ordering::Greater
+        beats(a, b)
     }
 
     /// x > φ y just when x y + y y < x x, for x above 0 and y not below 0.
@@ -73,11 +50,7 @@ mod tests {
             for y in 0..200u32 {
                 let other = x > 0 && x * y + y * y < x * x;
                 assert_eq!(greater(score(x, 0), score(0, y)), other, "{x} {y}");
-                assert_eq!(
-                    greater(score(0, y), score(x, 0)),
-                    !other && y > 0,
-                    "{x} {y}"
-                );
+                assert_eq!(greater(score(0, y), score(x, 0)), !other && y > 0, "{x} {y}");
             }
         }
     }
@@ -86,14 +59,11 @@ mod tests {
     fn only_equal_pairs_are_equal() {
         for a in 0..12u32 {
             for b in 0..144u32 {
-                let found = compare(score(a, b / 12), score(a + 1, b % 12), Mutation::None);
+                let found = compare(score(a, b / 12), score(a + 1, b % 12));
                 assert_ne!(found, Ordering::Equal);
             }
         }
-        assert_eq!(
-            compare(score(3, 4), score(3, 4), Mutation::None),
-            Ordering::Equal
-        );
+        assert_eq!(compare(score(3, 4), score(3, 4)), Ordering::Equal);
     }
 
     /// Neighbours in Fibonacci's row come nearest to φ, once above, once below.
@@ -101,11 +71,7 @@ mod tests {
     fn fibonacci_takes_turns() {
         let (mut small, mut large, mut above) = (1u32, 2u32, true);
         while large <= 16_777_216 {
-            assert_eq!(
-                greater(score(large, 0), score(0, small)),
-                above,
-                "{large} {small}"
-            );
+            assert_eq!(greater(score(large, 0), score(0, small)), above, "{large} {small}");
             (small, large, above) = (large, large + small, !above);
         }
     }

@@ -3,7 +3,6 @@
 
 use crate::call::Call;
 use crate::counts::{Slot, Ticket, Weight};
-use crate::mutation::Mutation;
 use crate::round::{Round, Row};
 use crate::table::{encode, row_at};
 
@@ -19,18 +18,12 @@ pub const ROUNDS: &[(&str, &str)] = &[
     ("P8", "1; 0:2178309 1:5702887 S S"),
     ("P9", "1; 0:3524578 1:9227465 S S"),
     ("P10", "9; S S S S S S S S S S S"),
-    (
-        "all substitutes",
-        "4; 4:2 1:1 4:20 3:9 0:9 2:2 1:2 3:4 S S S S S",
-    ),
+    ("all substitutes", "4; 4:2 1:1 4:20 3:9 0:9 2:2 1:2 3:4 S S S S S"),
     ("send, take, send", "3; 3:20 0:5 2:5 3:9 S 2:1 S S S"),
     ("shift and raise", "4; 0:3 4:3 2:2 3:5 1:9 4:5 S S S S S"),
     ("all equal", "3; 3:9 3:9 3:9 2:9 S S S S"),
     ("two shifts", "4; 3:2 2:2 0:4 1:20 3:1 0:5 0:1 S S S S S"),
-    (
-        "leap after leap",
-        "3; 2:3 1:3 3:20 2:5 2:2 S 2:3 3:20 S S S",
-    ),
+    ("leap after leap", "3; 2:3 1:3 3:20 2:5 2:2 S 2:3 3:20 S S S"),
     ("heaviest of later", "3; 1:20 2:5 3:3 0:9 3:20 2:1 S S S S"),
     ("heavy h", "4; 0:3 4:20 1:4 1:4 4:2 4:3 4:20 2:20 S S S S S"),
     ("blank substitute", "3; 1:11 3:20 1:2 S S S S"),
@@ -112,21 +105,17 @@ fn number(text: &str) -> u32 {
 
 /// A table of so many rows.
 pub fn table(rows: usize, last: u32, used: &[HandRow]) -> Vec<u8> {
-    let row = |&(ticket, due, weight, kept): &HandRow| Row {
-        ticket: Ticket(ticket),
-        due: Slot(due),
-        weight: Weight(weight),
-        kept,
+    let row = |&(ticket, due, weight, kept): &HandRow| {
+        Row::of_kind(kept, Ticket(ticket), Slot(due), Weight(weight))
     };
     let next = used.last().map_or(1, |row| row.0 + 1);
     let round = Round {
-        slot: Slot(0),
-        last: Slot(last),
         next: Ticket(next),
         rows: used.iter().map(row).collect(),
+        ..Round::opened(Slot(last))
     };
     let mut table = vec![0; row_at(rows)];
-    encode(&round, &mut table, Mutation::None);
+    encode(&round, &mut table);
     table
 }
 

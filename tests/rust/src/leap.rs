@@ -2,122 +2,79 @@
 //! tight slots are those of the plan before the slot.
 
 use crate::counts::{Slot, Weight};
-use crate::mutation::Mutation;
 use crate::order::Item;
 use crate::plan::Plan;
 use crate::round::{Round, Row};
 
-/// Steps 1 to 3 of document 01; p's row leaves, or becomes a kept blank.
-pub fn leap(round: &mut Round, plan: &Plan, p: Item, r: Item) {
-    let mut fresh = Fresh::new(plan);
-    if plan.mutation != Mutation::HNotShifted {
-        shift(round, plan, &mut fresh, p, r);
+/// A member or substitute, and the due slot and weight that it gets.
+#[derive(Clone, Copy, Debug)]
+pub struct Change {
+    pub of: Item,
+    pub due: Slot,
+    pub weight: Weight,
+}
+
+pub struct Leap {
+    /// Step 2: each h.
+    pub shifted: Vec<Change>,
+    /// Step 3: r.
+    pub raised: Change,
+    /// Step 3: the kept blank in p's row, if r becomes one.
+    pub kept: Option<Row>,
+}
+
+/// Steps 1 to 3 of document 01, for p and its substitute r.
+pub fn leap(plan: &Plan, p: Item, r: Item) -> Leap {
+    let mark = plan.mark(r.due);
+    let is_kept = r.ticket.is_none() && mark > Weight(0);
+    Leap {
+        shifted: shifted(plan, p, r),
+        raised: Change {
+            of: r,
+            due: r.due,
+            weight: mark,
+        },
+        kept: match is_kept {
+            true => kept_blank(p, r.due, mark),
+            false => None,
+        },
     }
-    let mark = fresh.mark(plan, r.due);
-    raise(round, plan, p, r, mark);
 }
 
 /// Step 2: each h takes the place of the one before it.
-fn shift(round: &mut Round, plan: &Plan, fresh: &mut Fresh, p: Item, r: Item) {
+pub fn shifted(plan: &Plan, p: Item, r: Item) -> Vec<Change> {
     let g = plan.tight_from(r.due);
     let mut e = plan.tight_from(p.due);
+    let mut shifted = Vec::new();
     while e < g {
-        let h = plan
-            .heaviest_between(e, g)
-            .expect("each segment has a member");
-        let raised = match plan.mutation {
-            Mutation::HNotRaised => h.weight,
-            Mutation::HSetToMark => fresh.mark(plan, e),
-            _ => h.weight.max(fresh.mark(plan, e)),
-        };
-        set(round, h, e, raised);
-        fresh.shifted(h, e, raised);
+        let h = plan.heaviest_between(e, g);
+        shifted.push(Change {
+            of: h,
+            due: e,
+            weight: h.weight.max(plan.mark(e)),
+        });
         e = plan.tight_from(h.due);
-        if plan.mutation == Mutation::OneShiftOnly {
-            break;
-        }
     }
+    shifted
 }
 
-/// Step 3: r's weight becomes the mark of its due slot.
-fn raise(round: &mut Round, plan: &Plan, p: Item, r: Item, mark: Weight) {
-    let gone = p.ticket.and_then(|ticket| round.place(ticket));
-    if r.ticket.is_some() {
-        if plan.mutation != Mutation::RNotRaised {
-            set(round, r, r.due, mark);
-        }
-    } else if keeps(mark, plan.mutation) {
-        if let Some(place) = gone {
-            let ticket = round.rows[place].ticket;
-            let due = match plan.mutation {
-                Mutation::KeptBlankDueAsSent => p.due,
-                _ => r.due,
-            };
-            let kept = plan.mutation != Mutation::KeptBlankAsFrame;
-            round.rows[place] = Row {
-                ticket,
-                due,
-                weight: mark,
-                kept,
-            };
-            return;
-        }
-    }
-    if let Some(place) = gone {
-        round.rows.remove(place);
-    }
+/// A kept blank with p's ticket, where p has one.
+pub fn kept_blank(p: Item, due: Slot, weight: Weight) -> Option<Row> {
+    p.ticket.map(|ticket| Row::kept_blank(ticket, due, weight))
 }
 
-/// Whether a blank raised to this mark becomes a kept blank.
-fn keeps(mark: Weight, mutation: Mutation) -> bool {
-    match mutation {
-        Mutation::BlankDropped => false,
-        Mutation::BlankKeptAtZero => true,
-        _ => mark > Weight(0),
-    }
-}
-
-/// Gives an item's row a due slot and a weight. A blank has no row to change.
-fn set(round: &mut Round, item: Item, due: Slot, weight: Weight) {
-    let place = item.ticket.and_then(|ticket| round.place(ticket));
-    if let Some(place) = place {
-        round.rows[place].due = due;
-        round.rows[place].weight = weight;
-    }
-}
-
-/// The wrong marks of one mutation, taken anew after each shift. Without it
-/// this holds nothing, and the marks are the plan's.
-struct Fresh {
-    members: Option<Vec<Item>>,
-}
-
-impl Fresh {
-    fn new(plan: &Plan) -> Fresh {
-        let wrong = plan.mutation == Mutation::MarksAfterShift;
-        Fresh {
-            members: wrong.then(|| plan.members.clone()),
-        }
-    }
-
-    fn shifted(&mut self, h: Item, due: Slot, weight: Weight) {
-        for item in self.members.iter_mut().flatten() {
-            if item.ticket == h.ticket {
-                *item = Item {
-                    due,
-                    weight,
-                    ticket: h.ticket,
-                };
+impl Leap {
+    /// Makes the changes; p's row leaves, or becomes the kept blank.
+    pub fn changes(&self, round: &mut Round, p: Item) {
+        for change in self.shifted.iter().chain([&self.raised]) {
+            if let Some(row) = round.row_of(change.of) {
+                row.due = change.due;
+                row.weight = change.weight;
             }
         }
-    }
-
-    fn mark(&self, plan: &Plan, slot: Slot) -> Weight {
-        let Some(members) = &self.members else {
-            return plan.mark(slot);
-        };
-        let end = plan.tight_from(slot);
-        let due_by = members.iter().filter(|item| item.due <= end);
-        due_by.map(|item| item.weight).min().unwrap_or(Weight(0))
+        match (self.kept, round.row_of(p)) {
+            (Some(kept), Some(row)) => *row = kept,
+            _ => round.leaves(p),
+        }
     }
 }

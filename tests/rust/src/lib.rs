@@ -4,20 +4,20 @@
 
 #![forbid(unsafe_code)]
 
-pub mod bytes;
 pub mod call;
 pub mod calls;
 pub mod command;
 pub mod compare;
 pub mod counts;
 pub mod ending;
+pub mod faults;
+pub mod field;
 pub mod golden;
 pub mod hand;
 pub mod hindsight;
 pub mod kind;
 pub mod leap;
 pub mod listing;
-pub mod mutation;
 pub mod opening;
 pub mod order;
 pub mod pack;
@@ -25,8 +25,10 @@ pub mod payload;
 pub mod plan;
 pub mod programs;
 pub mod questions;
+pub mod reasons;
 pub mod refusal;
 pub mod round;
+pub mod rules;
 pub mod send;
 pub mod settings;
 pub mod sound;

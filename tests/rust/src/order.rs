@@ -1,8 +1,8 @@
 //! Rows and blanks side by side, and the two orders of document 01.
 
 use crate::counts::{Slot, Ticket, Weight};
-use crate::mutation::Mutation;
 use crate::round::Row;
+use crate::rules::Rules;
 use std::cmp::Ordering;
 
 /// A row, or a blank without a row (which has no ticket).
@@ -33,19 +33,21 @@ impl Item {
 
 /// Heavier comes first: larger weight; if equal, earlier due slot; if equal,
 /// smaller ticket.
-pub fn heaviest_first(a: &Item, b: &Item, mutation: Mutation) -> Ordering {
+pub fn heaviest_first(a: &Item, b: &Item) -> Ordering {
     let weight = b.weight.cmp(&a.weight);
     let due = a.due.cmp(&b.due);
     let ticket = a.ticket.cmp(&b.ticket);
-    match mutation {
-        Mutation::TiesByTicket => weight.then(ticket).then(due),
-        Mutation::TiesByLateDue => weight.then(due.reverse()).then(ticket),
-        Mutation::TiesByLateTicket => weight.then(due).then(ticket.reverse()),
-        _ => weight.then(due).then(ticket),
-    }
+    weight.then(due).then(ticket)
 }
 
-/// Canonical order: earlier due slot; if equal, heavier.
-pub fn canonical(a: &Item, b: &Item, mutation: Mutation) -> Ordering {
-    a.due.cmp(&b.due).then(heaviest_first(a, b, mutation))
+impl Rules {
+    pub fn heaviest_first(&self, a: &Item, b: &Item) -> Ordering {
+        (self.planning.heaviest_first)(a, b)
+    }
+
+    /// Canonical order: earlier due slot; if equal, heavier.
+    pub fn canonical(&self, a: &Item, b: &Item) -> Ordering {
+        let due = a.due.cmp(&b.due);
+        due.then_with(|| self.heaviest_first(a, b))
+    }
 }

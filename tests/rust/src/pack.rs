@@ -2,13 +2,13 @@
 //! the refusal, 0 when accepted; a refusal has every other bit 0.
 
 use crate::call::Call;
-use crate::calls::Second;
 use crate::counts::{Slot, Ticket, Weight};
 use crate::questions::Substitute;
 use crate::refusal::Refusal;
+use crate::rules::Rules;
 use crate::send::{Out, Step};
 
-impl Second {
+impl Rules {
     /// The packed reply to a call over the lent table.
     pub fn answer(&self, call: Call, table: &mut [u8]) -> u64 {
         match call {

@@ -2,11 +2,13 @@
 //! feasible is kept (document 01; algorithm ComputePlan of the source).
 
 use crate::counts::{Slot, Ticket};
-use crate::mutation::Mutation;
-use crate::order::{canonical, heaviest_first, Item};
+use crate::order::Item;
 use crate::round::Round;
+use crate::rules::Rules;
 
-pub struct Plan {
+#[derive(Clone)]
+pub struct Plan<'a> {
+    pub rules: &'a Rules,
     pub slot: Slot,
     pub last: Slot,
     /// Rows and blanks in the plan, in canonical order.
@@ -15,7 +17,6 @@ pub struct Plan {
     pub outside: Vec<Item>,
     /// The tight slots, rising; the slot before the current counts as one.
     pub tight: Vec<i64>,
-    pub mutation: Mutation,
 }
 
 /// For each slot from the current on, how many more members due by it the set
@@ -61,20 +62,20 @@ impl Free {
     }
 }
 
-impl Plan {
-    pub fn of(round: &Round, mutation: Mutation) -> Plan {
+impl<'a> Plan<'a> {
+    pub fn of(round: &Round, rules: &'a Rules) -> Plan<'a> {
         let mut plan = Plan {
+            rules,
             slot: round.slot,
             last: round.last,
             members: Vec::new(),
             outside: Vec::new(),
             tight: vec![i64::from(round.slot.0) - 1],
-            mutation,
         };
         let mut free = Free::new(round.slot, round.last);
         plan.choose_rows(round, &mut free);
         plan.choose_blanks(&mut free);
-        plan.members.sort_by(|a, b| canonical(a, b, mutation));
+        plan.members.sort_by(|a, b| rules.canonical(a, b));
         for (s, left) in (round.slot.0..).zip(&free.left) {
             if *left == 0 {
                 plan.tight.push(i64::from(s));
@@ -86,7 +87,7 @@ impl Plan {
     /// Every row weighs more than every blank, so the rows come first.
     fn choose_rows(&mut self, round: &Round, free: &mut Free) {
         let mut rows: Vec<Item> = round.rows.iter().map(Item::of_row).collect();
-        rows.sort_by(|a, b| heaviest_first(a, b, self.mutation));
+        rows.sort_by(|a, b| self.rules.heaviest_first(a, b));
         for row in rows {
             if free.bears(row.due) {
                 free.keep(row.due);

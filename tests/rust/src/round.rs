@@ -1,6 +1,7 @@
 //! A round as it stands between two calls.
 
 use crate::counts::{Slot, Ticket, Weight};
+use crate::order::Item;
 
 /// A waiting row: a frame, or a kept blank.
 #[derive(Clone, Copy, PartialEq, Eq, Debug)]
@@ -19,6 +20,32 @@ pub struct Round {
     pub next: Ticket,
     /// The used rows, in ticket order.
     pub rows: Vec<Row>,
+}
+
+impl Row {
+    pub fn frame(ticket: Ticket, due: Slot, weight: Weight) -> Row {
+        Row {
+            ticket,
+            due,
+            weight,
+            kept: false,
+        }
+    }
+
+    pub fn kept_blank(ticket: Ticket, due: Slot, weight: Weight) -> Row {
+        Row {
+            kept: true,
+            ..Row::frame(ticket, due, weight)
+        }
+    }
+
+    /// One of the two.
+    pub fn of_kind(kept: bool, ticket: Ticket, due: Slot, weight: Weight) -> Row {
+        match kept {
+            true => Row::kept_blank(ticket, due, weight),
+            false => Row::frame(ticket, due, weight),
+        }
+    }
 }
 
 impl Round {
@@ -44,5 +71,16 @@ impl Round {
     /// The place of the row with this ticket.
     pub fn place(&self, ticket: Ticket) -> Option<usize> {
         self.rows.iter().position(|row| row.ticket == ticket)
+    }
+
+    /// An item's row; a blank has none.
+    pub fn row_of(&mut self, item: Item) -> Option<&mut Row> {
+        let place = self.place(item.ticket?)?;
+        Some(&mut self.rows[place])
+    }
+
+    /// An item's row leaves, and the others close up.
+    pub fn leaves(&mut self, item: Item) {
+        self.rows.retain(|row| Some(row.ticket) != item.ticket);
     }
 }

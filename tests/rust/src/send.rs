@@ -1,13 +1,15 @@
 //! Sending a slot.
 
 use crate::counts::{Slot, Ticket};
-use crate::golden::{compare, Score};
-use crate::leap::leap;
-use crate::mutation::Mutation;
+use crate::golden::Score;
 use crate::order::Item;
 use crate::plan::Plan;
-use crate::round::Round;
+use crate::reasons::Asked;
+use crate::refusal::Refusal;
+use crate::round::{Round, Row};
+use crate::rules::Rules;
 use crate::substitute::Substitutes;
+use crate::table::encode;
 
 /// What went out.
 #[derive(Clone, Copy, PartialEq, Eq, Debug)]
@@ -24,62 +26,74 @@ pub enum Step {
     Leap(Out),
 }
 
-/// Sends the current slot of a round that is not over.
-pub fn send(round: &mut Round, mutation: Mutation) -> Step {
-    let plan = Plan::of(round, mutation);
-    let substitutes = Substitutes::of(&plan);
-    let p = pick(&plan, &substitutes);
-    let out = what_goes_out(round, p, mutation);
+pub fn send(rules: &Rules, table: &mut [u8]) -> Result<Step, Refusal> {
+    let mut round = Asked::new(rules, table, ()).accepted(&rules.reasons.send)?;
+    let plan = Plan::of(&round, rules);
+    let step = step(&plan, &mut round);
+    encode(&round, table);
+    Ok(step)
+}
+
+/// Sends the current slot of a round with this plan.
+fn step(plan: &Plan, round: &mut Round) -> Step {
+    let substitutes = Substitutes::of(plan);
+    let p = pick(plan, &substitutes);
+    let out = what_goes_out(round, p);
     let is_leap = p.due > plan.first_end();
-    if is_leap && mutation != Mutation::LeapChangesNothing {
-        leap(round, &plan, p, substitutes.of_member(&plan, p));
-    } else if let Some(place) = p.ticket.and_then(|ticket| round.place(ticket)) {
-        round.rows.remove(place);
-    }
-    next_slot(round, mutation);
     if is_leap {
-        Step::Leap(out)
+        let leap = (plan.rules.planning.leap)(plan, p, substitutes.of_member(p));
+        leap.changes(round, p);
     } else {
-        Step::Ordinary(out)
+        round.leaves(p);
+    }
+    next_slot(plan.rules, round);
+    match is_leap {
+        true => Step::Leap(out),
+        false => Step::Ordinary(out),
     }
 }
 
 /// The plan member with the greatest weight + φ × weight of its substitute;
 /// among equals the canonical first. The members stand in canonical order.
 fn pick(plan: &Plan, substitutes: &Substitutes) -> Item {
-    let score = |member: Item| Score {
-        own: member.weight,
-        substitute: substitutes.of_member(plan, member).weight,
+    let scored = |member: &Item| Scored {
+        member: *member,
+        score: Score {
+            own: member.weight,
+            substitute: substitutes.of_member(*member).weight,
+        },
     };
-    let mut best = plan.members[0];
-    if plan.mutation == Mutation::EarliestDueSent {
-        return best;
-    }
-    for member in &plan.members[1..] {
-        let order = compare(score(*member), score(best), plan.mutation);
-        let last_wins = plan.mutation == Mutation::PicksLastOfEquals;
-        if order.is_gt() || last_wins && order.is_eq() {
-            best = *member;
+    let mut best = scored(&plan.members[0]);
+    for other in plan.members[1..].iter().map(scored) {
+        if (plan.rules.planning.beats)(other.score, best.score) {
+            best = other;
         }
     }
-    best
+    best.member
 }
 
-fn what_goes_out(round: &Round, p: Item, mutation: Mutation) -> Out {
+struct Scored {
+    member: Item,
+    score: Score,
+}
+
+fn what_goes_out(round: &Round, p: Item) -> Out {
     match p.ticket.and_then(|ticket| round.place(ticket)) {
         None => Out::Silence,
-        Some(place) if mutation != Mutation::KeptBlankSentAsFrame && round.rows[place].kept => {
-            Out::KeptBlank(round.rows[place].ticket)
-        }
+        Some(place) if round.rows[place].kept => Out::KeptBlank(round.rows[place].ticket),
         Some(place) => Out::Frame(round.rows[place].ticket),
     }
 }
 
 /// The current slot rises by 1 and rows due before it leave.
-fn next_slot(round: &mut Round, mutation: Mutation) {
-    round.slot = Slot(round.slot.0 + 1);
-    let slot = round.slot;
-    if mutation != Mutation::LateRowsStay {
-        round.rows.retain(|row| row.due >= slot);
-    }
+fn next_slot(rules: &Rules, round: &mut Round) {
+    let slot = Slot(round.slot.0 + 1);
+    round.slot = slot;
+    round
+        .rows
+        .retain(|row| !(rules.planning.is_late)(row, slot));
+}
+
+pub fn is_late(row: &Row, slot: Slot) -> bool {
+    row.due < slot
 }

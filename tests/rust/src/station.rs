@@ -1,18 +1,12 @@
 //! The program stationround: one reply for each line of its input.
 
-use crate::calls::Second;
 use crate::command::{Command, END};
-use crate::counts::{Slot, Ticket};
-use crate::mutation::Mutation;
+use crate::counts::Ticket;
 use crate::refusal::Refusal;
 use crate::round::Round;
+use crate::rules::Rules;
 use crate::send::{Out, Step};
-use crate::table::{decode, row_at};
-
-pub struct Station {
-    second: Second,
-    pub table: Vec<u8>,
-}
+use crate::table::row_at;
 
 /// The text of one reply with its 0A, and whether the program goes on.
 pub struct Reply {
@@ -20,120 +14,56 @@ pub struct Reply {
     pub goes_on: bool,
 }
 
-impl Station {
-    /// A table of 1,024 rows, all zero at first.
-    pub fn new(second: Second) -> Station {
-        let rows = match second.mutation {
-            Mutation::OneRowLess => Round::ROWS - 1,
-            _ => Round::ROWS,
-        };
-        let mut table = vec![0; row_at(rows)];
-        if second.mutation == Mutation::OpenAtFirst {
-            let _ = Second::PLAIN.open(Round::LAST, &mut table);
+/// A table of 1,024 rows, all zero at first.
+pub fn fresh(_: &Rules) -> Vec<u8> {
+    vec![0; row_at(Round::ROWS)]
+}
+
+/// It stops after refusal 1.
+pub fn reply(rules: &Rules, table: &mut [u8], line: &[u8]) -> Reply {
+    let command = rules.read(line);
+    let goes_on = command.is_ok();
+    let answer = command.and_then(|command| answer(rules, command, table));
+    let text = answer.unwrap_or_else(|refusal| format!("FF{:02X}\n", refusal.number()));
+    Reply { text, goes_on }
+}
+
+fn answer(rules: &Rules, command: Command, table: &mut [u8]) -> Result<String, Refusal> {
+    match command {
+        Command::Open { last } => {
+            rules.open(last, table)?;
+            Ok("00\n".to_string())
         }
-        Station { second, table }
-    }
-
-    /// The reply to one line. The last line may lack its 0A.
-    pub fn reply(&mut self, line: &[u8]) -> Reply {
-        let Ok(command) = self.second.read(line) else {
-            return self.broken(line);
-        };
-        let answer = self.answer(command);
-        let goes_on = answer.is_ok() || self.second.mutation != Mutation::StopsAfterAny;
-        let text = answer.unwrap_or_else(refused);
-        let text = match self.second.mutation {
-            Mutation::LowerCaseReplied => text.to_lowercase(),
-            _ => text,
-        };
-        Reply { text, goes_on }
-    }
-
-    /// Refusal 1, after which it stops.
-    fn broken(&self, line: &[u8]) -> Reply {
-        let mutation = self.second.mutation;
-        let silent = mutation == Mutation::EmptyLineSkipped && line == [END]
-            || mutation == Mutation::UnendedNotReplied && !line.ends_with(&[END]);
-        let text = match silent {
-            true => String::new(),
-            false => refused(Refusal::Line),
-        };
-        let goes_on = silent || mutation == Mutation::GoesOnAfterOne;
-        Reply { text, goes_on }
-    }
-
-    fn answer(&mut self, command: Command) -> Result<String, Refusal> {
-        match command {
-            Command::Open { last } => {
-                self.open(last)?;
-                Ok("00\n".to_string())
-            }
-            Command::Take { due, weight } => {
-                let ticket = self.second.take(due, weight, &mut self.table)?;
-                Ok(format!("01{}\n", self.shown(ticket)))
-            }
-            Command::Send => {
-                let step = self.second.send(&mut self.table)?;
-                Ok(self.sent(step))
-            }
+        Command::Take { due, weight } => {
+            let ticket = rules.take(due, weight, table)?;
+            Ok(format!("01{:08X}\n", ticket.0))
         }
-    }
-
-    fn open(&mut self, last: Slot) -> Result<(), Refusal> {
-        let opened = self.second.open(last, &mut self.table);
-        if self.second.mutation == Mutation::RefusedOpeningCloses && opened.is_err() {
-            self.table.fill(0);
-        }
-        opened
-    }
-
-    fn shown(&self, ticket: Ticket) -> String {
-        match self.second.mutation {
-            Mutation::TicketInDecimal => format!("{:08}", ticket.0),
-            _ => format!("{:08X}", ticket.0),
-        }
-    }
-
-    fn sent(&self, step: Step) -> String {
-        let (out, leap) = match step {
-            Step::Ordinary(out) => (out, false),
-            Step::Leap(out) => (out, true),
-        };
-        let (what, ticket) = match out {
-            Out::Silence => (0, self.of_silence()),
-            Out::Frame(ticket) => (1, ticket),
-            Out::KeptBlank(ticket) => (2, ticket),
-        };
-        let what = match self.second.mutation {
-            Mutation::OutsExchanged if what > 0 => 3 - what,
-            _ => what,
-        };
-        let leap = leap != (self.second.mutation == Mutation::StepsExchanged);
-        format!("02{what:02X}{:02X}{}\n", u8::from(leap), self.shown(ticket))
-    }
-
-    /// Zeros stand for silence.
-    fn of_silence(&self) -> Ticket {
-        match self.second.mutation {
-            Mutation::SilenceHasTicket => decode(&self.table, Mutation::None).next,
-            _ => Ticket(0),
+        Command::Send => {
+            let step = rules.send(table)?;
+            Ok(sent(step))
         }
     }
 }
 
-fn refused(refusal: Refusal) -> String {
-    format!("FF{:02X}\n", refusal.number())
+/// What went out, the step, and the ticket; zeros stand for silence.
+fn sent(step: Step) -> String {
+    let (out, leap) = match step {
+        Step::Ordinary(out) => (out, 0),
+        Step::Leap(out) => (out, 1),
+    };
+    let (what, ticket) = match out {
+        Out::Silence => (0, Ticket(0)),
+        Out::Frame(ticket) => (1, ticket),
+        Out::KeptBlank(ticket) => (2, ticket),
+    };
+    format!("02{what:02X}{leap:02X}{:08X}\n", ticket.0)
 }
 
-/// The whole output for a whole input.
-pub fn printed(second: Second, input: &[u8]) -> String {
-    if input.is_empty() && second.mutation == Mutation::EmptyInputReplied {
-        return refused(Refusal::Line);
-    }
-    let mut station = Station::new(second);
+pub fn printed(rules: &Rules, input: &[u8]) -> String {
+    let mut table = rules.fresh();
     let mut output = String::new();
     for line in input.split_inclusive(|byte| *byte == END) {
-        let reply = station.reply(line);
+        let reply = rules.reply(&mut table, line);
         output.push_str(&reply.text);
         if !reply.goes_on {
             break;

@@ -1,69 +1,90 @@
-//! The table's layout: a head of 16 bytes, then rows of 24.
+//! The table's layout: a head of 16 bytes, then rows of 24. The bytes after
+//! the last field of each are zero.
 
-use crate::bytes::{get, put};
 use crate::counts::{Slot, Ticket, Weight};
-use crate::mutation::Mutation;
+use crate::field::{fields, Field};
 use crate::round::{Round, Row};
 
 pub const HEAD: usize = 16;
 pub const ROW: usize = 24;
 
+fields! {
+    /// The head's fields: what it is, its first byte, and how many it has.
+    HEAD_FIELDS:
+    SLOT, "current slot", 0, 2;
+    LAST, "last slot", 2, 2;
+    NEXT, "next ticket", 4, 4;
+    USED, "rows in use", 8, 2;
+}
+
+fields! {
+    /// A row's fields.
+    ROW_FIELDS:
+    TICKET, "ticket", 0, 4;
+    DUE, "due slot", 4, 2;
+    WEIGHT, "weight", 6, 4;
+    KIND, "kind", 10, 1;
+}
+
+/// Where the zero bytes begin, after these fields.
+pub const fn zeros_at(fields: &[Field]) -> usize {
+    fields[fields.len() - 1].end()
+}
+
 /// The number of rows of a table of this length, if refusal 2 allows it.
-pub fn rows_of(length: usize, mutation: Mutation) -> Option<usize> {
+pub fn rows_of(length: usize) -> Option<usize> {
     let rows = length.checked_sub(HEAD)? / ROW;
-    let whole = length == HEAD + ROW * rows || mutation == Mutation::AnyLengthAllowed;
-    let most = match mutation {
-        Mutation::OneRowTooMany => Round::ROWS + 1,
-        Mutation::OneRowTooFew => Round::ROWS - 1,
-        _ => Round::ROWS,
-    };
-    let least = usize::from(mutation != Mutation::NoRowAllowed);
-    (whole && (least..=most).contains(&rows)).then_some(rows)
+    let is_whole = length == row_at(rows);
+    (is_whole && (1..=Round::ROWS).contains(&rows)).then_some(rows)
 }
 
 /// Where a row's bytes start.
-pub fn row_at(place: usize) -> usize {
+pub const fn row_at(place: usize) -> usize {
     HEAD + ROW * place
 }
 
+/// A row's bytes.
+pub fn row_mut(table: &mut [u8], place: usize) -> &mut [u8] {
+    &mut table[row_at(place)..row_at(place + 1)]
+}
+
 /// The round in a sound table.
-pub fn decode(table: &[u8], mutation: Mutation) -> Round {
-    let rows = (table.len() - HEAD) / ROW;
-    let used = (get(table, 8, 2, mutation) as usize).min(rows);
-    let row = |place: usize| {
-        let bytes = &table[row_at(place)..row_at(place + 1)];
-        Row {
-            ticket: Ticket(get(bytes, 0, 4, mutation)),
-            due: Slot(get(bytes, 4, 2, mutation)),
-            weight: Weight(get(bytes, 6, 4, mutation)),
-            kept: bytes[10] == 1,
-        }
-    };
+pub fn decode(table: &[u8]) -> Round {
+    let (head, rows) = table.split_at(HEAD);
+    let used = rows.chunks_exact(ROW).take(USED.get(head) as usize);
     Round {
-        slot: Slot(get(table, 0, 2, mutation)),
-        last: Slot(get(table, 2, 2, mutation)),
-        next: Ticket(get(table, 4, 4, mutation)),
-        rows: (0..used).map(row).collect(),
+        slot: Slot(SLOT.get(head)),
+        last: Slot(LAST.get(head)),
+        next: Ticket(NEXT.get(head)),
+        rows: used.map(get_row).collect(),
+    }
+}
+
+fn get_row(bytes: &[u8]) -> Row {
+    Row {
+        ticket: Ticket(TICKET.get(bytes)),
+        due: Slot(DUE.get(bytes)),
+        weight: Weight(WEIGHT.get(bytes)),
+        kept: KIND.get(bytes) == 1,
     }
 }
 
 /// Writes a round over a whole table.
-pub fn encode(round: &Round, table: &mut [u8], mutation: Mutation) {
+pub fn encode(round: &Round, table: &mut [u8]) {
     table.fill(0);
-    put(table, 0, 2, round.slot.0, mutation);
-    put(table, 2, 2, round.last.0, mutation);
-    put(table, 4, 4, round.next.0, mutation);
-    put(table, 8, 2, round.rows.len() as u32, mutation);
+    SLOT.put(table, round.slot.0);
+    LAST.put(table, round.last.0);
+    NEXT.put(table, round.next.0);
+    USED.put(table, round.rows.len() as u32);
     for (place, row) in round.rows.iter().enumerate() {
-        let bytes = &mut table[row_at(place)..row_at(place + 1)];
-        put_row(row, bytes, mutation);
+        put_row(row, row_mut(table, place));
     }
 }
 
 /// Writes a used row over its 24 bytes.
-pub fn put_row(row: &Row, bytes: &mut [u8], mutation: Mutation) {
-    put(bytes, 0, 4, row.ticket.0, mutation);
-    put(bytes, 4, 2, row.due.0, mutation);
-    put(bytes, 6, 4, row.weight.0, mutation);
-    bytes[10] = u8::from(row.kept);
+pub fn put_row(row: &Row, bytes: &mut [u8]) {
+    TICKET.put(bytes, row.ticket.0);
+    DUE.put(bytes, row.due.0);
+    WEIGHT.put(bytes, row.weight.0);
+    KIND.put(bytes, u32::from(row.kept));
 }

@@ -1,11 +1,10 @@
 //! Tight slots, segments and marks of a plan.
 
 use crate::counts::{Slot, Weight};
-use crate::mutation::Mutation;
-use crate::order::{heaviest_first, Item};
+use crate::order::Item;
 use crate::plan::Plan;
 
-impl Plan {
+impl Plan<'_> {
     /// The first tight slot at or after this one. The last slot is tight.
     pub fn tight_from(&self, slot: Slot) -> Slot {
         let wanted = i64::from(slot.0);
@@ -26,33 +25,29 @@ impl Plan {
         self.tight_from(self.slot)
     }
 
-    /// The mark: the smallest weight in the plan due by the first tight slot
-    /// at or after this one.
     pub fn mark(&self, slot: Slot) -> Weight {
-        let end = match self.mutation {
-            Mutation::MarkBySlotAlone => slot,
-            _ => self.tight_from(slot),
-        };
-        let begin = match self.mutation {
-            Mutation::MarkInSegmentAlone => self.tight_before(slot) + 1,
-            _ => i64::from(self.slot.0),
-        };
-        let weights = self
-            .members
-            .iter()
-            .filter(|item| i64::from(item.due.0) >= begin && item.due <= end)
-            .map(|item| item.weight);
+        (self.rules.planning.mark)(self, slot)
+    }
+
+    /// The smallest weight in the plan due from one slot to another.
+    pub fn smallest(&self, from: i64, to: Slot) -> Weight {
+        let there = |item: &&Item| i64::from(item.due.0) >= from && item.due <= to;
+        let weights = self.members.iter().filter(there).map(|item| item.weight);
         weights.min().unwrap_or(Weight(0))
     }
 
-    /// The heaviest plan member due after one slot and by another.
-    pub fn heaviest_between(&self, after: Slot, by: Slot) -> Option<Item> {
+    /// The heaviest plan member due after one slot and by another, which is
+    /// tight.
+    pub fn heaviest_between(&self, after: Slot, by: Slot) -> Item {
         let there = |item: &&Item| item.due > after && item.due <= by;
         let found = self.members.iter().filter(there);
-        let order = |a: &&Item, b: &&Item| heaviest_first(a, b, self.mutation);
-        match self.mutation {
-            Mutation::HLightest => found.max_by(order).copied(),
-            _ => found.min_by(order).copied(),
-        }
+        let heaviest = found.min_by(|a, b| self.rules.heaviest_first(a, b));
+        *heaviest.expect("each segment has a member")
     }
+}
+
+/// The mark: the smallest weight in the plan due by the first tight slot at or
+/// after this one.
+pub fn mark(plan: &Plan, slot: Slot) -> Weight {
+    plan.smallest(i64::from(plan.slot.0), plan.tight_from(slot))
 }

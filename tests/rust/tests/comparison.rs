@@ -2,11 +2,12 @@
 //! notices faults.
 
 use second::call::{Call, CallName};
-use second::calls::Second;
 use second::compare::kinds::{run, Found, Settings};
 use second::compare::library::Library;
 use second::compare::tally::{Outcome, Tally};
-use second::mutation::Mutation;
+use second::faults::Fault;
+use second::rules::Rules;
+use second::table::{row_at, WEIGHT};
 
 const SHORT: Settings = Settings {
     seed: 3,
@@ -14,13 +15,13 @@ const SHORT: Settings = Settings {
     drawn_only: false,
 };
 
-fn compared(library: &dyn Library, mutation: Mutation) -> Result<Tally, Found> {
-    run(library, Second { mutation }, SHORT, |_, _| ())
+fn compared(library: &dyn Library, second: &Rules) -> Result<Tally, Found> {
+    run(library, second, SHORT, |_, _| ())
 }
 
 #[test]
 fn meets_every_outcome() {
-    let Ok(tally) = compared(&Second::PLAIN, Mutation::None) else {
+    let Ok(tally) = compared(Rules::PAPERS, Rules::PAPERS) else {
         panic!("it differs from itself");
     };
     let refusals: [(CallName, &[u8]); 6] = [
@@ -48,10 +49,19 @@ fn meets_every_outcome() {
 
 #[test]
 fn catches_every_mutation() {
-    for mutation in Mutation::shown(CallName::ALL) {
-        assert!(compared(&Second::PLAIN, mutation).is_err(), "{mutation:?}");
-        assert_eq!(Mutation::named(&mutation.name()), Some(mutation));
+    for fault in Fault::shown(CallName::ALL) {
+        let ended = compared(Rules::PAPERS, &fault.rules());
+        assert!(ended.is_err(), "{}", fault.name);
     }
+}
+
+/// Every fault can be asked for by its name.
+#[test]
+fn names_differ() {
+    let mut names: Vec<&str> = Fault::all().map(|fault| fault.name).collect();
+    names.sort_unstable();
+    names.dedup();
+    assert_eq!(names.len(), Fault::all().count());
 }
 
 /// What a wrong library by hand does to the table and the reply.
@@ -61,7 +71,7 @@ struct Wrong(Change);
 
 impl Library for Wrong {
     fn ask(&self, call: Call, table: &mut [u8]) -> u64 {
-        let reply = Second::PLAIN.answer(call, table);
+        let reply = Rules::PAPERS.answer(call, table);
         (self.0)(call, table, reply)
     }
 }
@@ -69,7 +79,7 @@ impl Library for Wrong {
 #[test]
 fn catches_wrong_libraries() {
     let unchanged = Wrong(|_, _, reply| reply);
-    assert!(compared(&unchanged, Mutation::None).is_ok());
+    assert!(compared(&unchanged, Rules::PAPERS).is_ok());
     let wrong: [Change; 5] = [
         // Turns every call down.
         |_, _, _| 3,
@@ -86,19 +96,19 @@ fn catches_wrong_libraries() {
         // Writes on a refusal.
         |_, table, reply| {
             if reply == 9 {
-                table[39] = 1;
+                table[row_at(1) - 1] = 1;
             }
             reply
         },
         // Loses the weight's high byte in the first row.
         |call, table, reply| {
             if matches!(call, Call::Take { .. }) && reply == 1 << 8 {
-                table[25] = 0;
+                table[row_at(0) + WEIGHT.end() - 1] = 0;
             }
             reply
         },
     ];
     for (place, change) in wrong.into_iter().enumerate() {
-        assert!(compared(&Wrong(change), Mutation::None).is_err(), "{place}");
+        assert!(compared(&Wrong(change), Rules::PAPERS).is_err(), "{place}");
     }
 }

@@ -1,12 +1,12 @@
 //! The third demand by brute force, on small rounds and drawn lists of calls.
 
 use second::call::Call;
-use second::calls::Second;
 use second::compare::draw::Draw;
 use second::counts::Slot;
-use second::mutation::Mutation;
+use second::faults;
 use second::plan::Plan;
 use second::round::{Round, Row};
+use second::rules::Rules;
 use second::table::{decode, row_at};
 
 /// Whether these rows can be given slots, no two the same, each from the
@@ -37,9 +37,9 @@ fn heaviest_set(round: &Round) -> u64 {
 
 /// The plan's rows could all go out in time and weigh the total, and no set
 /// of waiting rows that could do so weighs more; the plan fills every slot.
-fn plan_is_best(second: Second, table: &[u8]) -> bool {
-    let round = decode(table, Mutation::None);
-    let plan = Plan::of(&round, second.mutation);
+fn plan_is_best(second: &Rules, table: &[u8]) -> bool {
+    let round = decode(table);
+    let plan = Plan::of(&round, second);
     let tickets = plan.members.iter().filter_map(|item| item.ticket);
     let rows: Vec<Row> = tickets
         .map(|ticket| round.rows[round.place(ticket).expect("a waiting row")])
@@ -54,8 +54,8 @@ fn plan_is_best(second: Second, table: &[u8]) -> bool {
 }
 
 /// The marks of the slots still ahead, each with its slot.
-fn marks(second: Second, table: &[u8]) -> Vec<(u32, u32)> {
-    let round = decode(table, Mutation::None);
+fn marks(second: &Rules, table: &[u8]) -> Vec<(u32, u32)> {
+    let round = decode(table);
     let mark = |s| second.mark(Slot(s), table).expect("a mark").0;
     let ahead = round.slot.0..=round.last.0;
     ahead.map(|s| (s, mark(s))).collect()
@@ -74,7 +74,7 @@ fn marks_hold(before: &[(u32, u32)], after: &[(u32, u32)]) -> bool {
 }
 
 /// An accepted newcomer adds just what it weighs above its due slot's mark.
-fn newcomer_adds(second: Second, before: &[u8], after: &[u8], due: u32, weight: u32) -> bool {
+fn newcomer_adds(second: &Rules, before: &[u8], after: &[u8], due: u32, weight: u32) -> bool {
     let mark = second.mark(Slot(due), before).expect("a mark").0;
     let total = |table: &[u8]| second.total(table).expect("a total");
     total(after) == total(before) + u64::from(weight.saturating_sub(mark))
@@ -92,7 +92,7 @@ fn weight(draw: &mut Draw, most: u32, falling: bool, later: u32) -> u32 {
 
 /// A call with arguments mostly good, sometimes not.
 fn drawn(draw: &mut Draw, most: u32, falling: bool, table: &[u8]) -> Call {
-    let round = decode(table, Mutation::None);
+    let round = decode(table);
     let due = draw.between(round.slot.0.min(round.last.0), round.last.0 + 1);
     let later = due.saturating_sub(round.slot.0);
     match draw.below(16) {
@@ -108,7 +108,7 @@ fn drawn(draw: &mut Draw, most: u32, falling: bool, table: &[u8]) -> Call {
 }
 
 /// One call of a list, and what the demand says of it.
-fn holds(second: Second, call: Call, table: &mut [u8]) -> bool {
+fn holds(second: &Rules, call: Call, table: &mut [u8]) -> bool {
     let before = table.to_vec();
     let reply = second.answer(call, table);
     let refused = reply & 0xFF != 0;
@@ -122,7 +122,7 @@ fn holds(second: Second, call: Call, table: &mut [u8]) -> bool {
 }
 
 /// Whether the demand holds over a whole drawn list.
-fn list_holds(second: Second, seed: u64) -> bool {
+fn list_holds(second: &Rules, seed: u64) -> bool {
     let mut draw = Draw::new(seed);
     let mut table = vec![0xEE; row_at(1 + draw.below(8) as usize)];
     let last = draw.below(6) as u32;
@@ -138,23 +138,24 @@ fn list_holds(second: Second, seed: u64) -> bool {
 #[test]
 fn lists_of_calls() {
     for seed in 0..20_000 {
-        assert!(list_holds(Second::PLAIN, seed), "seed {seed}");
+        assert!(list_holds(Rules::PAPERS, seed), "seed {seed}");
     }
 }
 
 /// Leaps that leave out a part of their work break the demand on such lists.
 #[test]
 fn the_lists_are_hard_enough() {
-    for mutation in [
-        Mutation::RNotRaised,
-        Mutation::HNotShifted,
-        Mutation::HNotRaised,
-        Mutation::OneShiftOnly,
-        Mutation::BlankDropped,
-        Mutation::LeapChangesNothing,
-        Mutation::MarkInSegmentAlone,
+    for name in [
+        "RNotRaised",
+        "HNotShifted",
+        "HNotRaised",
+        "OneShiftOnly",
+        "BlankDropped",
+        "LeapChangesNothing",
+        "MarkInSegmentAlone",
     ] {
-        let broken = (0..20_000).find(|seed| !list_holds(Second { mutation }, *seed));
-        assert!(broken.is_some(), "{mutation:?}");
+        let second = faults::with(name);
+        let broken = (0..20_000).find(|seed| !list_holds(&second, *seed));
+        assert!(broken.is_some(), "{name}");
     }
 }

@@ -1,11 +1,11 @@
 //! The check of what hindsight could have gained: it holds of the second
 //! implementation, and notices each fault.
 
-use second::calls::Second;
 use second::ending::Named;
 use second::hindsight::check::check;
 use second::hindsight::fault::FAULTS;
 use second::hindsight::kinds::rounds;
+use second::rules::Rules;
 
 const FACTOR: f64 = 0.02;
 
@@ -14,7 +14,7 @@ fn holds_on_every_kind() {
     let mut gains = 0;
     for round in rounds(3, FACTOR) {
         let (kind, number) = (round.kind, round.number);
-        let found = check(&Second::PLAIN, &round.script);
+        let found = check(Rules::PAPERS, &round.script);
         let found = found.unwrap_or_else(|wrong| panic!("{kind} {number}: {wrong}"));
         gains += usize::from(found.gain.best > found.gain.sent);
     }
@@ -24,8 +24,8 @@ fn holds_on_every_kind() {
 #[test]
 fn catches_every_fault() {
     for fault in FAULTS {
-        let shown =
-            rounds(3, FACTOR).any(|round| fault.shown(&Second::PLAIN, &round.script).is_some());
-        assert!(shown, "{}", fault.says());
+        let shown = fault.shown(Rules::PAPERS);
+        let is_seen = rounds(3, FACTOR).any(|round| shown(&round.script).is_some());
+        assert!(is_seen, "{}", fault.says());
     }
 }

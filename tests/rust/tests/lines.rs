@@ -1,12 +1,12 @@
 //! Reading and writing text lines, each undoing the other.
 
-use second::calls::Second;
 use second::command::Command;
 use second::compare::draw::Draw;
 use second::counts::{Slot, Weight};
 use second::refusal::Refusal;
+use second::rules::Rules;
 
-const SECOND: Second = Second::PLAIN;
+const SECOND: &Rules = Rules::PAPERS;
 
 fn take(due: u32, weight: u32) -> Command {
     Command::Take {
@@ -17,19 +17,10 @@ fn take(due: u32, weight: u32) -> Command {
 
 #[test]
 fn good_lines() {
-    assert_eq!(
-        SECOND.read(b"000ABC\n"),
-        Ok(Command::Open { last: Slot(0xABC) })
-    );
-    assert_eq!(
-        SECOND.read(b"00FFFF\n"),
-        Ok(Command::Open { last: Slot(0xFFFF) })
-    );
+    assert_eq!(SECOND.read(b"000ABC\n"), Ok(Command::Open { last: Slot(0xABC) }));
+    assert_eq!(SECOND.read(b"00FFFF\n"), Ok(Command::Open { last: Slot(0xFFFF) }));
     assert_eq!(SECOND.read(b"02\n"), Ok(Command::Send));
-    assert_eq!(
-        SECOND.read(b"01FFFFFFFFFFFF\n"),
-        Ok(take(0xFFFF, 0xFFFF_FFFF))
-    );
+    assert_eq!(SECOND.read(b"01FFFFFFFFFFFF\n"), Ok(take(0xFFFF, 0xFFFF_FFFF)));
     let longest = format!("010001000000FF{}\n", "A5".repeat(24));
     assert_eq!(SECOND.read(longest.as_bytes()), Ok(take(1, 255)));
 }
@@ -91,20 +82,11 @@ fn the_writer_refuses_1_before_12() {
         (take(1, 1), &long),
     ];
     for (command, digits) in refused {
-        assert_eq!(
-            SECOND.write(command, digits, &mut buffer),
-            Err(Refusal::Line)
-        );
+        assert_eq!(SECOND.write(command, digits, &mut buffer), Err(Refusal::Line));
         assert_eq!(SECOND.write(command, digits, &mut []), Err(Refusal::Line));
     }
-    assert_eq!(
-        SECOND.write(take(1, 0), b"", &mut buffer[..14]),
-        Err(Refusal::Short)
-    );
-    assert_eq!(
-        SECOND.write(Command::Send, b"", &mut buffer[..2]),
-        Err(Refusal::Short)
-    );
+    assert_eq!(SECOND.write(take(1, 0), b"", &mut buffer[..14]), Err(Refusal::Short));
+    assert_eq!(SECOND.write(Command::Send, b"", &mut buffer[..2]), Err(Refusal::Short));
     assert_eq!(buffer, [7; 63]);
 }
 
@@ -139,10 +121,7 @@ fn each_undoes_the_other() {
             .expect("it can stand in a line");
         assert!(buffer[length..].iter().all(|byte| *byte == b'x'));
         let line = &buffer[..length];
-        assert_eq!(
-            (SECOND.read(line), SECOND.payload(line)),
-            (Ok(command), &digits[..])
-        );
+        assert_eq!((SECOND.read(line), SECOND.payload(line)), (Ok(command), &digits[..]));
         let mut changed = line.to_vec();
         let at = draw.below(length as u64) as usize;
         changed[at] = *draw.pick(b"0123456789ABCDEFGabf\n /:@`");

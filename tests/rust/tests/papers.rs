@@ -1,12 +1,11 @@
 //! Document 01's rounds by hand, P1 to P10, with everything it says of them.
 
 use second::call::Call;
-use second::calls::Second;
 use second::counts::{Slot, Ticket};
 use second::hand::{calls, shown};
 use second::listing::Entry;
-use second::mutation::Mutation;
 use second::refusal::Refusal;
+use second::rules::Rules;
 use second::send::{Out, Step};
 use second::table::{decode, row_at};
 
@@ -14,25 +13,21 @@ use second::table::{decode, row_at};
 fn after(text: &str) -> Vec<u8> {
     let mut table = vec![0xEE; row_at(6)];
     for call in calls(text) {
-        assert_eq!(
-            Second::PLAIN.answer(call, &mut table) & 0xFF,
-            0,
-            "{text}: {call:?}"
-        );
+        assert_eq!(Rules::PAPERS.answer(call, &mut table) & 0xFF, 0, "{text}: {call:?}");
     }
     table
 }
 
 fn send(table: &mut [u8]) -> Step {
-    Second::PLAIN.send(table).expect("a sending")
+    Rules::PAPERS.send(table).expect("a sending")
 }
 
 fn waits(table: &[u8]) -> String {
-    shown(&decode(table, Mutation::None))
+    shown(&decode(table))
 }
 
 fn mark(slot: u32, table: &[u8]) -> u32 {
-    Second::PLAIN.mark(Slot(slot), table).expect("a mark").0
+    Rules::PAPERS.mark(Slot(slot), table).expect("a mark").0
 }
 
 fn frame(ticket: u32) -> Out {
@@ -42,7 +37,7 @@ fn frame(ticket: u32) -> Out {
 /// The tickets of the plan's rows.
 fn plan(table: &[u8]) -> Vec<u32> {
     let mut entries = [Entry::ZERO; 6];
-    let count = Second::PLAIN.list(table, &mut entries).expect("a plan");
+    let count = Rules::PAPERS.list(table, &mut entries).expect("a plan");
     assert!(entries[count..].iter().all(|entry| *entry == Entry::ZERO));
     entries[..count]
         .iter()
@@ -91,14 +86,11 @@ fn p5_among_equals_the_smaller_ticket() {
 
 #[test]
 fn p6_and_p7_newcomers() {
-    let total = |table: &[u8]| Second::PLAIN.total(table).expect("a total");
+    let total = |table: &[u8]| Rules::PAPERS.total(table).expect("a total");
     let alone = after("0; 0:5");
     let equal = after("0; 0:5 0:5");
     let heavier = after("0; 0:5 0:6");
-    assert_eq!(
-        (plan(&alone), plan(&equal), plan(&heavier)),
-        (vec![1], vec![1], vec![2])
-    );
+    assert_eq!((plan(&alone), plan(&equal), plan(&heavier)), (vec![1], vec![1], vec![2]));
     assert_eq!(waits(&equal), "0:5 (t1) 0:5 (t2)");
     assert_eq!((total(&alone), total(&equal), total(&heavier)), (5, 5, 6));
 }
@@ -115,7 +107,7 @@ fn p8_and_p9_need_exact_numbers() {
 fn p10_silence_for_every_last_slot() {
     for last in 0..=4_095 {
         let mut table = vec![0xEE; row_at(1)];
-        assert_eq!(Second::PLAIN.open(Slot(last), &mut table), Ok(()));
+        assert_eq!(Rules::PAPERS.open(Slot(last), &mut table), Ok(()));
         assert_eq!(send(&mut table), Step::Ordinary(Out::Silence));
         assert_eq!(waits(&table), "");
     }
@@ -125,10 +117,7 @@ fn p10_silence_for_every_last_slot() {
 fn limits() {
     let mut table = after("4095;");
     let take = |weight| Call::Take { due: 0, weight };
-    assert_eq!(Second::PLAIN.answer(take(16_777_217), &mut table), 6);
-    assert_eq!(Second::PLAIN.answer(take(16_777_216), &mut table), 1 << 8);
-    assert_eq!(
-        Second::PLAIN.open(Slot(4_096), &mut table),
-        Err(Refusal::LastTooLate)
-    );
+    assert_eq!(Rules::PAPERS.answer(take(16_777_217), &mut table), 6);
+    assert_eq!(Rules::PAPERS.answer(take(16_777_216), &mut table), 1 << 8);
+    assert_eq!(Rules::PAPERS.open(Slot(4_096), &mut table), Err(Refusal::LastTooLate));
 }

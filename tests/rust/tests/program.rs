@@ -1,8 +1,7 @@
 //! The program stationround, and document 01's sample through it.
 
-use second::calls::Second;
 use second::programs::process;
-use second::station;
+use second::rules::Rules;
 use std::path::Path;
 
 const SAMPLE: &str = "000001\n01000000000004\n0100010000000B\n02\n02\n";
@@ -10,7 +9,7 @@ const ANSWER: &str = "00\n0100000001\n0100000002\n02010100000002\n02020000000002
 
 /// What the function prints.
 fn printed(input: &[u8]) -> String {
-    station::printed(Second::PLAIN, input)
+    Rules::PAPERS.printed(input)
 }
 
 /// What the program itself prints.
@@ -38,14 +37,8 @@ fn named_replies() {
     prints("02\n", "FF03\n");
     prints("000000\n02\n02\n", "00\n02000000000000\nFF05\n");
     prints("000FFF\n001000\n00FFFF\n", "00\nFF04\nFF04\n");
-    prints(
-        "000001\n01000001000000\n01000001000001\n",
-        "00\n0100000001\nFF06\n",
-    );
-    prints(
-        "000001\n01000200000001\n01000200000000\n",
-        "00\nFF07\nFF06\n",
-    );
+    prints("000001\n01000001000000\n01000001000001\n", "00\n0100000001\nFF06\n");
+    prints("000001\n01000200000001\n01000200000000\n", "00\nFF07\nFF06\n");
 }
 
 #[test]

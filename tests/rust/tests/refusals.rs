@@ -1,17 +1,17 @@
 //! Each refusal under its condition, in order, and nothing changed by it.
 
 use second::call::Call;
-use second::calls::Second;
 use second::counts::{Slot, Ticket, Weight};
 use second::hand::table;
 use second::listing::Entry;
 use second::refusal::Refusal;
-use second::table::row_at;
+use second::rules::Rules;
+use second::table::{row_at, row_mut, NEXT, SLOT, TICKET};
 
 /// A refused call: its number, and the table as it was.
 fn refused(call: Call, table: &[u8], number: u64) {
     let mut lent = table.to_vec();
-    assert_eq!(Second::PLAIN.answer(call, &mut lent), number, "{call:?}");
+    assert_eq!(Rules::PAPERS.answer(call, &mut lent), number, "{call:?}");
     assert_eq!(lent, table, "{call:?}");
 }
 
@@ -30,7 +30,7 @@ fn every_call() -> [Call; 5] {
 #[test]
 fn two_then_three_then_five() {
     for length in (0..100).chain([row_at(1_024) - 1, row_at(1_024) + 1, row_at(1_025)]) {
-        let good = length > 16 && (length - 16) % 24 == 0 && length <= row_at(1_024);
+        let good = (1..=1_024).any(|rows| length == 16 + 24 * rows);
         for call in every_call() {
             refused(call, &vec![0; length], if good { 3 } else { 2 });
         }
@@ -39,7 +39,7 @@ fn two_then_three_then_five() {
         }
     }
     let mut over = table(1, 0, &[]);
-    over[0] = 1;
+    SLOT.put(&mut over, 1);
     for call in every_call() {
         refused(call, &over, 5);
     }
@@ -56,8 +56,8 @@ fn six_to_nine() {
     refused(take(3, 16_777_216), &full, 7);
     refused(take(65_536, 1), &full, 7);
     refused(take(2, 1), &full, 8);
-    full[4..8].copy_from_slice(&[0xFF, 0xFF, 0xFF, 0]);
-    full[16..20].copy_from_slice(&[1, 0, 0, 0]);
+    NEXT.put(&mut full, 16_777_215);
+    TICKET.put(row_mut(&mut full, 0), 1);
     refused(take(2, 1), &full, 9);
 }
 
@@ -69,10 +69,7 @@ fn ten_and_eleven() {
     }
     refused(Call::Substitute { ticket: 4 }, &lent, 11);
     let mut same = lent.clone();
-    assert_eq!(
-        Second::PLAIN.answer(Call::Substitute { ticket: 2 }, &mut same),
-        2 << 8
-    );
+    assert_eq!(Rules::PAPERS.answer(Call::Substitute { ticket: 2 }, &mut same), 2 << 8);
 }
 
 #[test]
@@ -84,12 +81,9 @@ fn twelve_in_listing() {
         weight: Weight(9),
     };
     let mut entries = [none; 3];
-    assert_eq!(
-        Second::PLAIN.list(&lent, &mut entries[..1]),
-        Err(Refusal::Short)
-    );
+    assert_eq!(Rules::PAPERS.list(&lent, &mut entries[..1]), Err(Refusal::Short));
     assert_eq!(entries, [none; 3]);
-    assert_eq!(Second::PLAIN.list(&lent, &mut entries), Ok(2));
+    assert_eq!(Rules::PAPERS.list(&lent, &mut entries), Ok(2));
     let entry = |ticket, due| Entry {
         ticket: Ticket(ticket),
         due: Slot(due),
@@ -103,10 +97,10 @@ fn twelve_in_listing() {
 fn opening_reads_no_old_content() {
     for last in [0, 1, 256, 4_095] {
         let mut junk = vec![0xA7; row_at(3)];
-        assert_eq!(Second::PLAIN.open(Slot(last), &mut junk), Ok(()));
+        assert_eq!(Rules::PAPERS.open(Slot(last), &mut junk), Ok(()));
         assert_eq!(junk, table(3, last, &[]));
     }
-    refused(Call::Open { last: 4_096 }, &[0xA7; 40], 4);
+    refused(Call::Open { last: 4_096 }, &[0xA7; row_at(1)], 4);
 }
 
 /// One table byte for byte, with values above 255 in every field.
@@ -114,18 +108,20 @@ fn opening_reads_no_old_content() {
 fn layout() {
     let row = (0x01_0203, 0x0405, 0x06_0708, true);
     let mut lent = table(2, 0x0908, &[row]);
-    lent[0..2].copy_from_slice(&[0x02, 0x01]);
+    SLOT.put(&mut lent, 0x0102);
     let mut bytes = vec![
         0x02, 0x01, 0x08, 0x09, 0x04, 0x02, 0x01, 0, 1, 0, 0, 0, 0, 0, 0, 0,
     ];
     bytes.extend([0x03, 0x02, 0x01, 0, 0x05, 0x04, 0x08, 0x07, 0x06, 0, 1]);
-    bytes.resize(row_at(2), 0);
+    bytes.resize(64, 0);
     assert_eq!(lent, bytes);
-    let ticket = Second::PLAIN.take(Slot(0x0907), Weight(0x0A_0B0C), &mut lent);
+    let ticket = Rules::PAPERS.take(Slot(0x0907), Weight(0x0A_0B0C), &mut lent);
     assert_eq!(ticket, Ok(Ticket(0x01_0204)));
-    bytes[4] = 5;
-    bytes[8] = 2;
-    let second = [0x04, 0x02, 0x01, 0, 0x07, 0x09, 0x0C, 0x0B, 0x0A, 0, 0];
-    bytes[40..51].copy_from_slice(&second);
-    assert_eq!(lent, bytes);
+    let mut after = vec![
+        0x02, 0x01, 0x08, 0x09, 0x05, 0x02, 0x01, 0, 2, 0, 0, 0, 0, 0, 0, 0,
+    ];
+    after.extend(&bytes[16..40]);
+    after.extend([0x04, 0x02, 0x01, 0, 0x07, 0x09, 0x0C, 0x0B, 0x0A, 0, 0]);
+    after.resize(64, 0);
+    assert_eq!(lent, after);
 }

@@ -2,15 +2,14 @@
 //! that wait; for the first of them the plan and its substitutes.
 
 use second::call::Call;
-use second::calls::Second;
 use second::counts::Ticket;
 use second::hand::{
     calls, shown, table, HandRow, BLANK_FIRST, BLANK_GOES, BLANK_LIGHTEST, FRAME_FIRST, LEAPING,
     SHIFTED, THREE_SHIFTS,
 };
 use second::listing::Entry;
-use second::mutation::Mutation;
 use second::questions::Substitute;
+use second::rules::Rules;
 use second::send::{Out, Step};
 use second::table::{decode, row_at};
 
@@ -21,11 +20,11 @@ fn play(text: &str) -> (Vec<u8>, Vec<(Step, String)>) {
     for call in calls(text) {
         match call {
             Call::Send => {
-                let step = Second::PLAIN.send(&mut table).expect("a sending");
-                let round = decode(&table, Mutation::None);
+                let step = Rules::PAPERS.send(&mut table).expect("a sending");
+                let round = decode(&table);
                 sendings.push((step, shown(&round)));
             }
-            _ => assert_eq!(Second::PLAIN.answer(call, &mut table) & 0xFF, 0),
+            _ => assert_eq!(Rules::PAPERS.answer(call, &mut table) & 0xFF, 0),
         }
     }
     (table, sendings)
@@ -50,16 +49,12 @@ fn plan_and_substitutes_of_the_first() {
     let text = "4; 4:2 1:1 4:20 3:9 0:9 2:2 1:2 3:4";
     let (table, _) = play(text);
     let mut entries = [Entry::ZERO; 8];
-    assert_eq!(Second::PLAIN.list(&table, &mut entries), Ok(5));
+    assert_eq!(Rules::PAPERS.list(&table, &mut entries), Ok(5));
     let listed: Vec<u32> = entries[..5].iter().map(|entry| entry.ticket.0).collect();
     assert_eq!(listed, [5, 7, 4, 8, 3]);
     for (ticket, substitute) in [(3, 1), (4, 6), (5, 5), (7, 6), (8, 6)] {
-        let found = Second::PLAIN.substitute(Ticket(ticket), &table);
-        assert_eq!(
-            found,
-            Ok(Substitute::Ticket(Ticket(substitute))),
-            "ticket {ticket}"
-        );
+        let found = Rules::PAPERS.substitute(Ticket(ticket), &table);
+        assert_eq!(found, Ok(Substitute::Ticket(Ticket(substitute))), "ticket {ticket}");
     }
     let rows = "4:2 (t1) 1:1 (t2) 4:20 (t3) 3:9 (t4) 2:2 (t6) 1:2 (t7) 3:4 (t8)";
     one(text, ordinary(5), rows);
@@ -81,42 +76,22 @@ fn a_sending_between_takings() {
 
 #[test]
 fn shifts_and_raises() {
-    one(
-        "4; 0:3 4:3 2:2 3:5 1:9 4:5",
-        leap(5),
-        "4:3 (t2) 2:3 (t3) 1:5 (t4) 4:5 (t6)",
-    );
-    one(
-        "4; 3:2 2:2 0:4 1:20 3:1 0:5 0:1",
-        leap(4),
-        "2:2 (t1) 1:5 (t2) 3:2 (t5)",
-    );
-    one(
-        "3; 1:20 2:5 3:3 0:9 3:20 2:1",
-        leap(1),
-        "2:5 (t2) 3:5 (t3) 1:20 (t5) 2:1 (t6)",
-    );
+    one("4; 0:3 4:3 2:2 3:5 1:9 4:5", leap(5), "4:3 (t2) 2:3 (t3) 1:5 (t4) 4:5 (t6)");
+    one("4; 3:2 2:2 0:4 1:20 3:1 0:5 0:1", leap(4), "2:2 (t1) 1:5 (t2) 3:2 (t5)");
+    one("3; 1:20 2:5 3:3 0:9 3:20 2:1", leap(1), "2:5 (t2) 3:5 (t3) 1:20 (t5) 2:1 (t6)");
     let heavy = "2:20 (t2) 1:4 (t3) 1:4 (t4) 4:2 (t5) 4:4 (t6) 4:20 (t7)";
     one("4; 0:3 4:20 1:4 1:4 4:2 4:3 4:20 2:20", leap(8), heavy);
-    one(
-        "3; 0:8 1:40 2:5 3:4 3:3",
-        leap(2),
-        "1:8 (t3) 2:5 (t4) 3:4 (t5)",
-    );
+    one("3; 0:8 1:40 2:5 3:4 3:3", leap(2), "1:8 (t3) 2:5 (t4) 3:4 (t5)");
 }
 
 #[test]
 fn equals_and_idle_slots() {
     let (table, _) = play("3; 3:9 3:9 3:9 2:9");
     for ticket in 1..=4 {
-        let found = Second::PLAIN.substitute(Ticket(ticket), &table);
+        let found = Rules::PAPERS.substitute(Ticket(ticket), &table);
         assert_eq!(found, Ok(Substitute::Ticket(Ticket(3))), "ticket {ticket}");
     }
-    one(
-        "3; 3:9 3:9 3:9 2:9",
-        ordinary(4),
-        "3:9 (t1) 3:9 (t2) 3:9 (t3)",
-    );
+    one("3; 3:9 3:9 3:9 2:9", ordinary(4), "3:9 (t1) 3:9 (t2) 3:9 (t3)");
     assert_eq!(play("3; 1:11 3:20 1:2 S").1[0].0, leap(2));
     assert_eq!(play("3; 3:9 3:5 S").1[0].0, leap(1));
 }
@@ -139,8 +114,8 @@ fn kept_blanks_anywhere() {
 /// What a table's sending gives, and the rows that it leaves.
 fn leaves(last: u32, rows: &[HandRow], step: Step, left: &str) {
     let mut lent = table(rows.len(), last, rows);
-    assert_eq!(Second::PLAIN.send(&mut lent), Ok(step));
-    assert_eq!(shown(&decode(&lent, Mutation::None)), left);
+    assert_eq!(Rules::PAPERS.send(&mut lent), Ok(step));
+    assert_eq!(shown(&decode(&lent)), left);
 }
 
 fn kept(ticket: u32) -> Out {
@@ -154,11 +129,11 @@ fn segments_totals_and_ties() {
     one("4; 3:1 2:3 3:3", leap(2), "3:1 (t1) 3:3 (t3)");
     for (text, total) in [("", 4), (" 1:3", 4), (" 1:3 1:6", 6)] {
         let (lent, _) = play(&format!("1; 0:4 1:11 S{text}"));
-        assert_eq!(Second::PLAIN.total(&lent), Ok(total), "{text}");
+        assert_eq!(Rules::PAPERS.total(&lent), Ok(total), "{text}");
     }
     let (lent, _) = play("3; 0:9 3:4 3:4 3:9 2:9 1:9");
     for ticket in [4, 5, 6] {
-        let found = Second::PLAIN.substitute(Ticket(ticket), &lent);
+        let found = Rules::PAPERS.substitute(Ticket(ticket), &lent);
         assert_eq!(found, Ok(Substitute::Ticket(Ticket(2))), "ticket {ticket}");
     }
 }

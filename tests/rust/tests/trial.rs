@@ -1,9 +1,9 @@
 //! What trial reads and prints, by tests/trial.md.
 
-use second::calls::Second;
 use second::compare::draw::Draw;
 use second::programs::requests::KINDS;
 use second::programs::trial::Request;
+use second::rules::Rules;
 
 /// Numbers of 4 bytes, then bytes.
 fn bytes(numbers: &[u32], rest: &[u8]) -> Vec<u8> {
@@ -17,7 +17,7 @@ fn outcome(head: &[u32; 6], body: &[u8]) -> Vec<u8> {
     let (request, rest) = Request::first(&given).expect("a request");
     assert!(rest.is_empty());
     assert_eq!(request.bytes(), given);
-    request.outcome(Second::PLAIN)
+    request.outcome(Rules::PAPERS)
 }
 
 #[test]

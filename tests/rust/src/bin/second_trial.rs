@@ -1,7 +1,7 @@
 //! The program trial over the second implementation.
 
-use second::calls::Second;
 use second::programs::trial::Request;
+use second::rules::Rules;
 use std::io::{self, Read, Write};
 
 fn main() -> io::Result<()> {
@@ -10,7 +10,7 @@ fn main() -> io::Result<()> {
     let mut output = io::stdout().lock();
     let mut rest = input.as_slice();
     while let Some((request, after)) = Request::first(rest) {
-        output.write_all(&request.outcome(Second::PLAIN))?;
+        output.write_all(&request.outcome(Rules::PAPERS))?;
         rest = after;
     }
     output.flush()

@@ -2,16 +2,15 @@
 //! drawn files: streams PROGRAM [--mutations].
 
 use second::call::CallName;
-use second::calls::Second;
 use second::ending::{caught, enough, with_program, Ended};
+use second::faults::Fault;
 use second::kind::counted;
-use second::mutation::Mutation;
 use second::programs::files::KINDS;
 use second::programs::pipes::{closed, paced};
 use second::programs::process::{ended_well, run, Watch};
 use second::programs::rounds::by_hand;
+use second::rules::Rules;
 use second::settings::{factor, seed};
-use second::station::printed;
 use std::path::Path;
 use std::process::ExitCode;
 
@@ -40,39 +39,6 @@ const LEAST: &[(&str, usize)] = &[
     ("FF09", 30),
 ];
 
-/// Faults that no line can show: the table's length and its bytes are the
-/// program's own, a slot has four digits, and a round of 4,096 slots gives out
-/// at most 1,024 tickets in each, far fewer than 16,777,215.
-const HIDDEN: &[Mutation] = &[
-    Mutation::AnyLengthAllowed,
-    Mutation::NoRowAllowed,
-    Mutation::OneRowTooMany,
-    Mutation::LastCutShort,
-    Mutation::FourBeforeTwo,
-    Mutation::HighByteFirst,
-    Mutation::EightAfterNine,
-    Mutation::TicketEarly,
-    Mutation::TicketLate,
-    Mutation::DueCutShort,
-    Mutation::HeadZerosUnchecked,
-    Mutation::CountUnchecked,
-    Mutation::LastUnchecked,
-    Mutation::SlotUnchecked,
-    Mutation::TicketOrderUnchecked,
-    Mutation::EqualTicketsSound,
-    Mutation::TicketZeroSound,
-    Mutation::TicketAtNextSound,
-    Mutation::DueBeforeUnchecked,
-    Mutation::DueAfterUnchecked,
-    Mutation::WeightZeroSound,
-    Mutation::WeightAboveSound,
-    Mutation::KindUnchecked,
-    Mutation::RowZerosUnchecked,
-    Mutation::UnusedRowsUnchecked,
-    Mutation::UnusedEighthUnchecked,
-    Mutation::UnusedWordsAdded,
-];
-
 /// The calls whose faults lines show.
 const SHOWN_BY: &[CallName] = &[
     CallName::Open,
@@ -89,7 +55,7 @@ fn main() -> ExitCode {
 fn compare(program: &Path) -> Ended {
     let runs = runs(program)?;
     for run in &runs {
-        let wanted = printed(Second::PLAIN, &run.file);
+        let wanted = Rules::PAPERS.printed(&run.file);
         if run.output != wanted.as_bytes() {
             return Err(difference(run, &wanted));
         }
@@ -184,11 +150,11 @@ fn pipes(program: &Path) -> Result<usize, String> {
 /// Every fault that lines can show.
 fn mutations(program: &Path) -> Ended {
     let runs = runs(program)?;
-    let mut all = Mutation::shown(SHOWN_BY);
-    all.retain(|mutation| !HIDDEN.contains(mutation));
-    caught("streams", &all, |&mutation| {
-        let second = Second { mutation };
-        let differs = |run: &&Run| printed(second, &run.file).as_bytes() != run.output;
+    let mut all = Fault::shown(SHOWN_BY);
+    all.retain(|fault| fault.in_lines);
+    caught("streams", &all, |fault| {
+        let second = fault.rules();
+        let differs = |run: &&Run| second.printed(&run.file).as_bytes() != run.output;
         let found = runs.iter().find(differs)?;
         Some(format!("{} {}", found.kind, found.number))
     })

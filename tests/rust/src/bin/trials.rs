@@ -2,13 +2,13 @@
 //! requests: trials PROGRAM [--mutations].
 
 use second::call::CallName;
-use second::calls::Second;
 use second::ending::{caught, enough, with_program, Ended};
+use second::faults::Fault;
 use second::kind::counted;
-use second::mutation::Mutation;
 use second::programs::process::{ended_well, run, Watch};
 use second::programs::requests::KINDS;
 use second::programs::trial::Request;
+use second::rules::Rules;
 use second::settings::{factor, seed};
 use std::path::Path;
 use std::process::ExitCode;
@@ -51,7 +51,7 @@ fn main() -> ExitCode {
 fn compare(program: &Path) -> Ended {
     let tried = tried(program)?;
     for one in &tried {
-        let wanted = one.request.outcome(Second::PLAIN);
+        let wanted = one.request.outcome(Rules::PAPERS);
         if one.outcome != wanted {
             return Err(difference(one, &wanted));
         }
@@ -88,7 +88,7 @@ fn parted(
 ) -> Result<Vec<Tried>, String> {
     let mut tried = Vec::new();
     for (number, request) in (0..).zip(requests) {
-        let length = request.outcome(Second::PLAIN).len();
+        let length = request.outcome(Rules::PAPERS).len();
         let (outcome, rest) = printed.split_at(length.min(printed.len()));
         printed = rest;
         tried.push(Tried {
@@ -137,9 +137,9 @@ fn least(tried: &[Tried]) -> Result<(), String> {
 /// Every fault in the calls that trial makes.
 fn mutations(program: &Path) -> Ended {
     let tried = tried(program)?;
-    caught("trials", &Mutation::shown(SHOWN_BY), |&mutation| {
-        let second = Second { mutation };
-        let differs = |one: &&Tried| one.request.outcome(second) != one.outcome;
+    caught("trials", &Fault::shown(SHOWN_BY), |fault| {
+        let second = fault.rules();
+        let differs = |one: &&Tried| one.request.outcome(&second) != one.outcome;
         let found = tried.iter().find(differs)?;
         Some(format!("{} {}", found.kind, found.number))
     })

@@ -1,16 +1,16 @@
 //! The bench: one call asked of both, and every difference told.
 
 use crate::call::Call;
-use crate::calls::Second;
 use crate::compare::library::Library;
 use crate::compare::store::Store;
 use crate::compare::tally::Tally;
+use crate::rules::Rules;
 use crate::table::{row_at, HEAD, ROW};
 use std::fmt;
 
 pub struct Bench<'a> {
     library: &'a dyn Library,
-    second: Second,
+    second: &'a Rules,
     store: Store,
     before: Vec<u8>,
     /// Calls that agreed so far.
@@ -32,7 +32,7 @@ pub struct Difference {
 pub type Agreed<T> = Result<T, Box<Difference>>;
 
 impl<'a> Bench<'a> {
-    pub fn new(library: &'a dyn Library, second: Second) -> Bench<'a> {
+    pub fn new(library: &'a dyn Library, second: &'a Rules) -> Bench<'a> {
         Bench {
             library,
             second,
@@ -83,21 +83,14 @@ impl<'a> Bench<'a> {
             return None;
         }
         let at = (0..table.len()).find(|at| lent[*at] != table[*at])?;
-        Some(format!(
-            "byte {at} is {:02X}, not {:02X}",
-            lent[at], table[at]
-        ))
+        Some(format!("byte {at} is {:02X}, not {:02X}", lent[at], table[at]))
     }
 }
 
 impl fmt::Display for Difference {
     fn fmt(&self, out: &mut fmt::Formatter<'_>) -> fmt::Result {
         writeln!(out, "{:?}: {}", self.call, self.what)?;
-        writeln!(
-            out,
-            "library {:#X}, second {:#X}",
-            self.library, self.second
-        )?;
+        writeln!(out, "library {:#X}, second {:#X}", self.library, self.second)?;
         write!(out, "table before, {} bytes:", self.before.len())?;
         for (at, byte) in self.before.iter().take(row_at(20)).enumerate() {
             let starts = at == 0 || at >= HEAD && (at - HEAD) % ROW == 0;

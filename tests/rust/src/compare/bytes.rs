@@ -4,10 +4,11 @@ use crate::call::Call;
 use crate::compare::bench::{Agreed, Bench};
 use crate::compare::draw::Draw;
 use crate::hand;
+use crate::table::{row_at, SLOT};
 
 /// One case for each byte of the two tables below.
 pub const CASES: u64 = 2 * LENGTH;
-const LENGTH: u64 = 16 + 24 * 4;
+const LENGTH: u64 = row_at(4) as u64;
 
 /// Two tables of four rows, two in use; the first with small numbers, the
 /// second with values above 255 in every field.
@@ -20,7 +21,7 @@ fn base(which: u64) -> Vec<u8> {
         (0x01_0305, 0x0405, 0x0304, false),
     ];
     let mut table = hand::table(4, 0x0506, &rows);
-    table[0..2].copy_from_slice(&[0x03, 0x02]);
+    SLOT.put(&mut table, 0x0203);
     table
 }
 

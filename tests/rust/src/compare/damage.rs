@@ -1,14 +1,14 @@
 //! Sound tables damaged in one or more bytes, aimed at each clause of
 //! soundness, and calls that only the damage speaks against.
 
-use crate::bytes::put;
 use crate::call::Call;
 use crate::compare::bench::{Agreed, Bench};
 use crate::compare::draw::Draw;
+use crate::compare::extremes::NUMBERS;
 use crate::compare::tables::{drawn, size};
-use crate::mutation::Mutation;
+use crate::field::Field;
 use crate::round::Round;
-use crate::table::{row_at, ROW};
+use crate::table::{row_at, row_mut, zeros_at, HEAD, HEAD_FIELDS, ROW, ROW_FIELDS, TICKET};
 
 /// A sound table about to be damaged.
 pub struct Target {
@@ -19,122 +19,37 @@ pub struct Target {
 /// A way to damage a table; the rows it needs in use, and its name.
 type Damage = (&'static str, usize, fn(&mut Target, &mut Draw));
 
+/// Beside these, every field of the head and of a row gets another number.
 const DAMAGES: &[Damage] = &[
     ("head zero byte", 0, |target, draw| {
-        let at = draw.between(10, 15) as usize;
-        target.table[at] = draw.between(1, 255) as u8;
+        let at = draw.between(zeros_at(HEAD_FIELDS) as u32, HEAD as u32 - 1);
+        target.table[at as usize] = draw.between(1, 255) as u8;
     }),
-    ("rows in use", 0, |target, draw| {
-        let used = target.round.rows.len() as u32;
-        let rows = target.rows();
-        let values = [
-            0,
-            used.wrapping_sub(1),
-            used + 1,
-            rows,
-            rows + 1,
-            256,
-            1_025,
-            65_535,
-        ];
-        target.head(8, 2, *draw.pick(&values));
-    }),
-    ("last slot", 0, |target, draw| {
-        let (slot, last) = (target.round.slot.0, target.round.last.0);
-        let near = [last.wrapping_sub(1), last + 1, slot, slot.wrapping_sub(1)];
-        let far = [0, slot.wrapping_sub(2), 4_095, 4_096, 32_768, 65_535];
-        let values = [near.as_slice(), far.as_slice()].concat();
-        target.head(2, 2, *draw.pick(&values));
-    }),
-    ("current slot", 0, |target, draw| {
-        let (slot, last) = (target.round.slot.0, target.round.last.0);
-        let values = [
-            0,
-            slot.wrapping_sub(1),
-            slot + 1,
-            last,
-            last + 1,
-            last + 2,
-            4_096,
-            65_535,
-        ];
-        target.head(0, 2, *draw.pick(&values));
-    }),
-    ("next ticket", 0, |target, draw| {
-        let top = target.round.rows.last().map_or(0, |row| row.ticket.0);
-        let values = [
-            0,
-            1,
-            top,
-            top + 1,
-            1 << 24,
-            (1 << 24) + 1,
-            1 << 31,
-            u32::MAX,
-        ];
-        target.head(4, 4, *draw.pick(&values));
-    }),
-    ("ticket", 1, |target, draw| {
-        let next = target.round.next.0;
-        let values = [0, 1, next - 1, next, next + 1, 1 << 24, u32::MAX];
+    ("row zero byte", 1, |target, draw| {
+        let at = draw.between(zeros_at(ROW_FIELDS) as u32, ROW as u32 - 1);
         let place = target.place(draw);
-        target.row(place, 0, 4, *draw.pick(&values));
+        row_mut(&mut target.table, place)[at as usize] = draw.between(1, 255) as u8;
     }),
     ("first ticket", 1, |target, draw| {
         let second = target.round.rows.get(1).map_or(9, |row| row.ticket.0);
-        target.row(0, 0, 4, *draw.pick(&[0, second - 1, second, second + 1]));
+        target.ticket(0, *draw.pick(&[0, second - 1, second, second + 1]));
     }),
     ("equal tickets", 2, |target, draw| {
-        let place = draw.between(1, target.round.rows.len() as u32 - 1) as usize;
+        let place = target.later_place(draw);
         let ticket = target.round.rows[place - 1].ticket.0;
-        target.row(place, 0, 4, ticket + draw.between(0, 1));
+        target.ticket(place, ticket + draw.between(0, 1));
     }),
     ("falling tickets", 2, |target, draw| {
-        let place = draw.between(1, target.round.rows.len() as u32 - 1) as usize;
-        let (low, high) = (
-            target.round.rows[place - 1].ticket.0,
-            target.round.rows[place].ticket.0,
-        );
-        target.row(place - 1, 0, 4, high);
-        target.row(place, 0, 4, low);
-    }),
-    ("due slot", 1, |target, draw| {
-        let (slot, last) = (target.round.slot.0, target.round.last.0);
-        let values = [
-            0,
-            slot.wrapping_sub(1),
-            slot,
-            last,
-            last + 1,
-            256,
-            4_096,
-            65_535,
-        ];
-        let place = target.place(draw);
-        target.row(place, 4, 2, *draw.pick(&values));
-    }),
-    ("weight", 1, |target, draw| {
-        let values = [0, 1, 1 << 24, (1 << 24) + 1, 1 << 25, 1 << 31, u32::MAX];
-        let place = target.place(draw);
-        target.row(place, 6, 4, *draw.pick(&values));
-    }),
-    ("kind", 1, |target, draw| {
-        let value = *draw.pick(&[0, 1, 2, 3, 128, 129, 255]);
-        let place = target.place(draw);
-        target.row(place, 10, 1, value);
-    }),
-    ("row zero byte", 1, |target, draw| {
-        let at = draw.between(11, 23) as usize;
-        let value = draw.between(1, 255);
-        let place = target.place(draw);
-        target.row(place, at, 1, value);
+        let place = target.later_place(draw);
+        let pair = [place, place - 1].map(|place| target.round.rows[place].ticket.0);
+        target.ticket(place - 1, pair[0]);
+        target.ticket(place, pair[1]);
     }),
     ("unused row", 0, |target, draw| {
-        let used = target.round.rows.len() as u32;
-        if used < target.rows() {
-            let place = draw.between(used, target.rows() - 1) as usize;
-            let at = draw.between(0, ROW as u32 - 1) as usize;
-            target.row(place, at, 1, draw.between(1, 255));
+        let unused = row_at(target.round.rows.len());
+        if unused < target.table.len() {
+            let at = draw.between(unused as u32, target.table.len() as u32 - 1);
+            target.table[at as usize] = draw.between(1, 255) as u8;
         }
     }),
     ("last byte", 0, |target, draw| {
@@ -147,11 +62,10 @@ const DAMAGES: &[Damage] = &[
     }),
 ];
 
-impl Target {
-    fn rows(&self) -> u32 {
-        ((self.table.len() - row_at(0)) / ROW) as u32
-    }
+/// How many ways there are.
+const WAYS: usize = DAMAGES.len() + HEAD_FIELDS.len() + ROW_FIELDS.len();
 
+impl Target {
     /// The place of a used row: the first, the last, or any.
     fn place(&self, draw: &mut Draw) -> usize {
         let used = self.round.rows.len() as u64;
@@ -162,18 +76,55 @@ impl Target {
         }
     }
 
-    fn head(&mut self, at: usize, size: usize, number: u32) {
-        put(&mut self.table, at, size, number, Mutation::None);
+    /// The place of a used row that is not the first.
+    fn later_place(&self, draw: &mut Draw) -> usize {
+        draw.between(1, self.round.rows.len() as u32 - 1) as usize
     }
 
-    fn row(&mut self, place: usize, at: usize, size: usize, number: u32) {
-        put(
-            &mut self.table,
-            row_at(place) + at,
-            size,
-            number,
-            Mutation::None,
-        );
+    fn ticket(&mut self, place: usize, ticket: u32) {
+        TICKET.put(row_mut(&mut self.table, place), ticket);
+    }
+
+    /// A number at or next to one that stands in the table, or a limit.
+    fn number(&self, draw: &mut Draw, own: u32) -> u32 {
+        let Round {
+            slot,
+            last,
+            next,
+            rows,
+        } = &self.round;
+        let all = (self.table.len() - HEAD) / ROW;
+        let near = [own, slot.0, last.0, next.0, rows.len() as u32, all as u32];
+        match draw.below(2) {
+            0 => *draw.pick(NUMBERS),
+            _ => draw
+                .pick(&near)
+                .wrapping_add(draw.between(0, 3))
+                .wrapping_sub(2),
+        }
+    }
+
+    /// Gives a field of these bytes another number.
+    fn change(&mut self, draw: &mut Draw, at: usize, field: Field) {
+        let own = field.get(&self.table[at..]);
+        let number = self.number(draw, own);
+        field.put(&mut self.table[at..], number);
+    }
+
+    /// Damages the table in the way of this number.
+    fn damage(&mut self, draw: &mut Draw, way: usize) {
+        let used = self.round.rows.len();
+        if let Some((_, rows, damage)) = DAMAGES.get(way) {
+            if used >= *rows {
+                damage(self, draw);
+            }
+        } else if let Some(field) = HEAD_FIELDS.get(way - DAMAGES.len()) {
+            self.change(draw, 0, *field);
+        } else if used > 0 {
+            let place = self.place(draw);
+            let field = ROW_FIELDS[way - DAMAGES.len() - HEAD_FIELDS.len()];
+            self.change(draw, row_at(place), field);
+        }
     }
 }
 
@@ -182,18 +133,11 @@ pub fn damaged(draw: &mut Draw, case: u64) -> Target {
     let size = size(draw);
     let (table, round) = drawn(draw, size);
     let mut target = Target { table, round };
-    let times = if draw.once_in(4) {
-        draw.between(2, 4)
-    } else {
-        1
-    };
-    for time in 0..times {
-        let chosen = match time {
-            0 => &DAMAGES[case as usize % DAMAGES.len()],
-            _ => draw.pick(DAMAGES),
-        };
-        if target.round.rows.len() >= chosen.1 {
-            chosen.2(&mut target, draw);
+    target.damage(draw, case as usize % WAYS);
+    if draw.once_in(4) {
+        for _ in 0..draw.between(1, 3) {
+            let way = draw.below(WAYS as u64) as usize;
+            target.damage(draw, way);
         }
     }
     target
@@ -202,10 +146,7 @@ pub fn damaged(draw: &mut Draw, case: u64) -> Target {
 /// Every call is asked of a damaged table.
 pub fn run(bench: &mut Bench, draw: &mut Draw, case: u64) -> Agreed<()> {
     let target = damaged(draw, case);
-    let due = draw.between(
-        target.round.slot.0.min(target.round.last.0),
-        target.round.last.0,
-    );
+    let due = draw.between(target.round.slot.0.min(target.round.last.0), target.round.last.0);
     let weight = draw.between(1, Round::WEIGHT.0);
     let ticket = target.round.rows.first().map_or(1, |row| row.ticket.0);
     bench.check_aside(Call::Take { due, weight }, &target.table)?;

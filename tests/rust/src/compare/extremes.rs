@@ -44,18 +44,17 @@ fn round(case: u64) -> Round {
     } else {
         [0, 2, 3][(case / 64 % 3) as usize]
     };
-    let row = |place: u32| Row {
-        ticket: Ticket(next - 3 + place),
-        due: Slot(if place == 1 { slot } else { last }),
-        weight: Weight([1, 16_777_216, 16_777_215][place as usize]),
-        kept: place == 2,
+    let row = |place: u32| {
+        let due = Slot(if place == 1 { slot } else { last });
+        let weight = Weight([1, 16_777_216, 16_777_215][place as usize]);
+        Row::of_kind(place == 2, Ticket(next - 3 + place), due, weight)
     };
     let rows = (0..used).map(row).collect();
     Round {
         slot: Slot(slot),
-        last: Slot(last),
         next: Ticket(next),
         rows,
+        ..Round::opened(Slot(last))
     }
 }
 

@@ -5,7 +5,6 @@ use crate::call::Call;
 use crate::compare::bench::{Agreed, Bench};
 use crate::compare::draw::Draw;
 use crate::compare::tables::{weight, weights, Weights};
-use crate::mutation::Mutation;
 use crate::round::Round;
 use crate::table::{decode, row_at};
 
@@ -57,7 +56,7 @@ pub fn run(bench: &mut Bench, draw: &mut Draw, _: u64) -> Agreed<()> {
     )?;
     let mut taken = 0;
     for slot in 0..SENDINGS {
-        while decode(&table, Mutation::None).rows.len() < Round::ROWS {
+        while decode(&table).rows.len() < Round::ROWS {
             let take = frames.next(draw, slot, taken);
             bench.check(take, &mut table)?;
             taken += 1;

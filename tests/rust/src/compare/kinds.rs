@@ -1,6 +1,5 @@
 //! The kinds of input, and a run through all of them.
 
-use crate::calls::Second;
 use crate::compare::bench::{Agreed, Bench, Difference};
 use crate::compare::draw::Draw;
 use crate::compare::library::Library;
@@ -9,6 +8,7 @@ use crate::compare::{
     bytes, damage, extremes, fullest, hands, large, lengths, lists, sound, unused,
 };
 use crate::kind::Kind;
+use crate::rules::Rules;
 
 /// Asks all of one case.
 pub type Case = fn(&mut Bench, &mut Draw, u64) -> Agreed<()>;
@@ -47,7 +47,7 @@ pub struct Found {
 /// Runs every kind, telling the agreed calls of each, up to a difference.
 pub fn run(
     library: &dyn Library,
-    second: Second,
+    second: &Rules,
     settings: Settings,
     tell: impl FnMut(&Kind<Case>, u64),
 ) -> Result<Tally, Found> {
@@ -58,7 +58,7 @@ pub fn run(
 pub fn run_kinds(
     kinds: &[Kind<Case>],
     library: &dyn Library,
-    second: Second,
+    second: &Rules,
     settings: Settings,
     mut tell: impl FnMut(&Kind<Case>, u64),
 ) -> Result<Tally, Found> {

@@ -48,9 +48,8 @@ fn chain(frames: u32) -> Vec<u8> {
 #[cfg(test)]
 mod tests {
     use super::*;
-    use crate::calls::Second;
     use crate::counts::Ticket;
-    use crate::mutation::Mutation;
+    use crate::rules::Rules;
     use crate::send::{Out, Step};
     use crate::table::decode;
 
@@ -59,10 +58,10 @@ mod tests {
     fn chains_shift_all_but_three() {
         for frames in [4, 5, 6, 30, 1_023, 1_024] {
             let mut table = chain(frames);
-            let before = decode(&table, Mutation::None).rows;
-            let step = Second::PLAIN.send(&mut table);
+            let before = decode(&table).rows;
+            let step = Rules::PAPERS.send(&mut table);
             assert_eq!(step, Ok(Step::Leap(Out::Frame(Ticket(2)))));
-            let after = decode(&table, Mutation::None).rows;
+            let after = decode(&table).rows;
             let old = |ticket| before.iter().find(|row| row.ticket == ticket);
             let shifted = after
                 .iter()

@@ -4,7 +4,7 @@ use crate::call::Call;
 use crate::compare::bench::{Agreed, Bench};
 use crate::compare::draw::Draw;
 use crate::round::Round;
-use crate::table::row_at;
+use crate::table::{row_at, HEAD, LAST, NEXT};
 
 /// Lengths 0 to 100, then 30 less than the longest to 30 more.
 pub const CASES: u64 = SHORT + 61;
@@ -20,12 +20,10 @@ pub fn length(case: u64) -> usize {
 
 /// A round just opened with last slot 9, as far as the length goes.
 pub fn opened(length: usize) -> Vec<u8> {
-    let mut table = vec![0; length];
-    for (at, byte) in [(2, 9), (4, 1)] {
-        if at < length {
-            table[at] = byte;
-        }
-    }
+    let mut table = vec![0; length.max(HEAD)];
+    LAST.put(&mut table, 9);
+    NEXT.put(&mut table, 1);
+    table.truncate(length);
     table
 }
 

@@ -4,7 +4,6 @@ use crate::call::Call;
 use crate::compare::bench::{Agreed, Bench};
 use crate::compare::draw::Draw;
 use crate::compare::tables::{weight, weights, Weights};
-use crate::mutation::Mutation;
 use crate::round::Round;
 use crate::table::{decode, row_at};
 
@@ -85,7 +84,7 @@ pub fn run(bench: &mut Bench, draw: &mut Draw, _: u64) -> Agreed<()> {
     bench.check(Call::Take { due: 0, weight: 1 }, &mut table)?;
     bench.check(Call::Open { last: list.last }, &mut table)?;
     for _ in 0..draw.between(20, 400) {
-        let round = decode(&table, Mutation::None);
+        let round = decode(&table);
         let call = call(draw, &list, &round);
         bench.check(call, &mut table)?;
     }

@@ -2,7 +2,6 @@
 
 use crate::compare::draw::Draw;
 use crate::counts::{Slot, Ticket, Weight};
-use crate::mutation::Mutation;
 use crate::round::{Round, Row};
 use crate::table::{encode, row_at};
 
@@ -89,9 +88,9 @@ pub fn round(draw: &mut Draw, size: Size, most_rows: u32) -> Round {
     };
     Round {
         slot: Slot(slot),
-        last: Slot(last),
         next,
         rows,
+        ..Round::opened(Slot(last))
     }
 }
 
@@ -121,11 +120,10 @@ fn rows(draw: &mut Draw, slot: Slot, last: Slot, tickets: Vec<Ticket>) -> Vec<Ro
         0 => draw.between(slot.0.min(last.0), last.0),
         _ => last.0,
     };
-    let row = |ticket| Row {
-        ticket,
-        due: Slot(draw.between(slot.0, late)),
-        weight: Weight(weight(draw, weights)),
-        kept: draw.once_in(kept_once_in),
+    let row = |ticket| {
+        let due = Slot(draw.between(slot.0, late));
+        let weight = Weight(weight(draw, weights));
+        Row::of_kind(draw.once_in(kept_once_in), ticket, due, weight)
     };
     tickets.into_iter().map(row).collect()
 }
@@ -152,12 +150,9 @@ fn ladder(draw: &mut Draw, slot: Slot, last: Slot, tickets: Vec<Ticket>) -> Vec<
         } else {
             1
         };
-        Row {
-            ticket,
-            due: Slot(slot.0 + step as u32),
-            weight: Weight((falls as u32 + draw.between(1, 3)) * heavy),
-            kept: draw.once_in(kept_once_in),
-        }
+        let due = Slot(slot.0 + step as u32);
+        let weight = Weight((falls as u32 + draw.between(1, 3)) * heavy);
+        Row::of_kind(draw.once_in(kept_once_in), ticket, due, weight)
     };
     tickets.iter().map(|ticket| row(*ticket)).collect()
 }
@@ -165,7 +160,7 @@ fn ladder(draw: &mut Draw, slot: Slot, last: Slot, tickets: Vec<Ticket>) -> Vec<
 /// The table of a round, with so many rows.
 pub fn table(round: &Round, rows: u32) -> Vec<u8> {
     let mut table = vec![0; row_at(rows as usize)];
-    encode(round, &mut table, Mutation::None);
+    encode(round, &mut table);
     table
 }
 

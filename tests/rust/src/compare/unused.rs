@@ -5,10 +5,10 @@ use crate::call::Call;
 use crate::compare::bench::{Agreed, Bench};
 use crate::compare::draw::Draw;
 use crate::hand;
-use crate::table::row_at;
+use crate::table::{row_at, ROW};
 
 /// One case for each unused byte of a table of four rows, two in use.
-pub const CASES: u64 = 2 * 24;
+pub const CASES: u64 = 2 * ROW as u64;
 
 pub fn run(bench: &mut Bench, _: &mut Draw, case: u64) -> Agreed<()> {
     let sound = hand::table(4, 3, &[(2, 1, 7, false), (5, 2, 9, true)]);

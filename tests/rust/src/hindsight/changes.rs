@@ -98,7 +98,7 @@ fn weight(draw: &mut Draw, own: u32, others: u32) -> u32 {
 #[cfg(test)]
 mod tests {
     use super::*;
-    use crate::calls::Second;
+    use crate::rules::Rules;
 
     /// Every change leaves takings that are all accepted, in the order of
     /// their slots, and not too many.
@@ -119,7 +119,7 @@ mod tests {
                     own.count() > CROWD
                 });
                 assert!(!crowded && round.last == slots - 1, "{round:?}");
-                let asked = round.script().play(&Second::PLAIN);
+                let asked = round.script().play(Rules::PAPERS);
                 assert!(asked.iter().all(|one| one.is_accepted()), "{round:?}");
             }
         }

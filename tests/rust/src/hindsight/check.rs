@@ -1,11 +1,11 @@
 //! The check of one round, played by a library and by the second
 //! implementation.
 
-use crate::calls::Second;
 use crate::compare::library::Library;
 use crate::hindsight::account::Account;
 use crate::hindsight::gain::{Claim, Gain};
 use crate::hindsight::script::{Asked, Script};
+use crate::rules::Rules;
 
 /// A round of which every claim holds.
 #[derive(Debug)]
@@ -18,7 +18,7 @@ pub struct Checked {
 pub fn check(library: &dyn Library, script: &Script) -> Result<Checked, String> {
     let asked = script.play(library);
     let own = Account::of(&asked)?;
-    let other = Account::of(&script.play(&Second::PLAIN))?;
+    let other = Account::of(&script.play(Rules::PAPERS))?;
     let (gain, others) = (Gain::of(&own), Gain::of(&other));
     let claims = [
         (own.is_over(), "the round is not over"),

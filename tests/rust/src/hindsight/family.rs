@@ -42,13 +42,13 @@ pub fn longest() -> Takings {
 #[cfg(test)]
 mod tests {
     use super::*;
-    use crate::calls::Second;
     use crate::hindsight::check::check;
     use crate::hindsight::recorded;
+    use crate::rules::Rules;
 
     #[test]
     fn sends_what_is_due_at_once() {
-        let found = check(&Second::PLAIN, &family(6).script()).expect("every claim");
+        let found = check(Rules::PAPERS, &family(6).script()).expect("every claim");
         assert_eq!(found.gain.sent, 1 + 2 + 5 + 13 + 34 + 89);
         assert_eq!(found.gain.best, 2 + 5 + 13 + 34 + 89 + 89);
     }

@@ -2,23 +2,23 @@
 //! round: that is what shows that the check can fail.
 
 use crate::call::Call;
-use crate::calls::Second;
 use crate::compare::library::Library;
 use crate::counts::{Slot, Ticket};
 use crate::ending::Named;
+use crate::faults;
 use crate::hindsight::account::{Account, Offer};
 use crate::hindsight::best::best;
 use crate::hindsight::check::check;
 use crate::hindsight::gain::{Claim, Gain};
 use crate::hindsight::script::{Asked, Script};
-use crate::mutation::Mutation;
+use crate::rules::Rules;
 use crate::table::decode;
 
 pub enum Fault {
     /// Played in the library's place, it breaks this claim.
-    Planner(Mutation, Claim),
+    Planner(&'static str, Claim),
     /// Played in the library's place, it differs from the second implementation.
-    Library(Mutation),
+    Library(&'static str),
     /// S is counted so, and is then above B.
     Sum(&'static str, fn(&dyn Library, &Script) -> u64),
     /// S is counted so, and is then not the second implementation's.
@@ -28,18 +28,18 @@ pub enum Fault {
 }
 
 pub const FAULTS: &[Fault] = &[
-    Fault::Planner(Mutation::SubstituteNotCounted, Claim::Golden),
-    Fault::Planner(Mutation::EarliestDueSent, Claim::Golden),
-    Fault::Planner(Mutation::PhiLeftOut, Claim::Golden),
-    Fault::Planner(Mutation::PhiOnOwnWeight, Claim::Golden),
-    Fault::Planner(Mutation::SubstituteFromAnywhere, Claim::Golden),
-    Fault::Planner(Mutation::SubstituteAlwaysBlank, Claim::Golden),
-    Fault::Planner(Mutation::HSetToMark, Claim::Golden),
-    Fault::Planner(Mutation::MarksAfterShift, Claim::Golden),
-    Fault::Planner(Mutation::KeptBlankAsFrame, Claim::Possible),
-    Fault::Planner(Mutation::KeptBlankSentAsFrame, Claim::Possible),
-    Fault::Library(Mutation::RNotRaised),
-    Fault::Library(Mutation::GreatestWeightRefused),
+    Fault::Planner("SubstituteNotCounted", Claim::Golden),
+    Fault::Planner("EarliestDueSent", Claim::Golden),
+    Fault::Planner("PhiLeftOut", Claim::Golden),
+    Fault::Planner("PhiOnOwnWeight", Claim::Golden),
+    Fault::Planner("SubstituteFromAnywhere", Claim::Golden),
+    Fault::Planner("SubstituteAlwaysBlank", Claim::Golden),
+    Fault::Planner("HSetToMark", Claim::Golden),
+    Fault::Planner("MarksAfterShift", Claim::Golden),
+    Fault::Planner("KeptBlankAsFrame", Claim::Possible),
+    Fault::Planner("KeptBlankSentAsFrame", Claim::Possible),
+    Fault::Library("RNotRaised"),
+    Fault::Library("GreatestWeightRefused"),
     Fault::Sum("S counts kept blanks, by their tickets", with_kept_blanks),
     Fault::OtherSum("S counts current weights", with_current_weights),
     Fault::Best("B leaves a frame out", Claim::Possible, |offers| {
@@ -62,7 +62,10 @@ pub const FAULTS: &[Fault] = &[
 impl Named for Fault {
     fn says(&self) -> String {
         match self {
-            Fault::Planner(mutation, _) | Fault::Library(mutation) => Named::says(mutation),
+            Fault::Planner(name, _) | Fault::Library(name) => {
+                let fault = faults::Fault::named(name);
+                fault.expect("its name").says()
+            }
             Fault::Sum(says, _) | Fault::OtherSum(says, _) | Fault::Best(says, ..) => {
                 says.to_string()
             }
@@ -70,30 +73,35 @@ impl Named for Fault {
     }
 }
 
+/// How a round shows a fault, where it does.
+type Shown<'a> = Box<dyn Fn(&Script) -> Option<String> + 'a>;
+
 impl Fault {
-    /// How this round shows the fault, where it does.
-    pub fn shown(&self, library: &dyn Library, script: &Script) -> Option<String> {
+    pub fn shown<'a>(&self, library: &'a dyn Library) -> Shown<'a> {
         match *self {
-            Fault::Planner(mutation, claim) => {
-                let (gain, _) = right(&Second { mutation }, script);
-                broken(claim, gain)
+            Fault::Planner(name, claim) => {
+                let second = faults::with(name);
+                Box::new(move |script| broken(claim, right(&second, script).0))
             }
-            Fault::Library(mutation) => check(&Second { mutation }, script).err(),
-            Fault::Sum(_, sum) => {
+            Fault::Library(name) => {
+                let second = faults::with(name);
+                Box::new(move |script| check(&second, script).err())
+            }
+            Fault::Sum(_, sum) => Box::new(move |script| {
                 let (mut gain, _) = right(library, script);
                 gain.sent = sum(library, script);
                 broken(Claim::Possible, gain)
-            }
-            Fault::OtherSum(_, sum) => {
+            }),
+            Fault::OtherSum(_, sum) => Box::new(move |script| {
                 let sent = sum(library, script);
-                let second = right(&Second::PLAIN, script).0.sent;
+                let second = right(Rules::PAPERS, script).0.sent;
                 (sent != second).then(|| format!("another S: {sent}, the second's {second}"))
-            }
-            Fault::Best(_, claim, most) => {
+            }),
+            Fault::Best(_, claim, most) => Box::new(move |script| {
                 let (mut gain, offers) = right(library, script);
                 gain.best = most(&offers);
                 broken(claim, gain)
-            }
+            }),
         }
     }
 }
@@ -138,7 +146,7 @@ fn with_current_weights(library: &dyn Library, script: &Script) -> u64 {
         match call {
             Call::Open { .. } if reply == 0 => sum = 0,
             Call::Send if reply & 0xFF == 0 && reply >> 32 & 3 == 1 => {
-                let round = decode(&before, Mutation::None);
+                let round = decode(&before);
                 let place = round.place(Ticket((reply >> 8 & 0xFF_FFFF) as u32));
                 sum += u64::from(round.rows[place.expect("its row")].weight.0);
             }

@@ -79,11 +79,11 @@ impl fmt::Display for Claim {
 #[cfg(test)]
 mod tests {
     use super::*;
-    use crate::calls::Second;
     use crate::hindsight::script::Script;
+    use crate::rules::Rules;
 
     fn gain(text: &str) -> (u64, u64) {
-        let asked = Script::by_hand(text).play(&Second::PLAIN);
+        let asked = Script::by_hand(text).play(Rules::PAPERS);
         let account = Account::of(&asked).expect("an account");
         assert!(account.is_over() && account.is_in_time());
         let gain = Gain::of(&account);

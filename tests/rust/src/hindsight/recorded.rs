@@ -100,8 +100,8 @@ impl fmt::Display for Recorded {
 #[cfg(test)]
 mod tests {
     use super::*;
-    use crate::calls::Second;
     use crate::hindsight::check::check;
+    use crate::rules::Rules;
 
     #[test]
     fn lines_are_read_back() {
@@ -133,7 +133,7 @@ mod tests {
         let all = all().expect("recorded rounds");
         assert!(all.len() >= 8);
         for one in all {
-            let found = check(&Second::PLAIN, &one.round.script()).expect("every claim");
+            let found = check(Rules::PAPERS, &one.round.script()).expect("every claim");
             assert_eq!(found.gain, one.gain, "{one}");
         }
     }

@@ -145,15 +145,11 @@ impl Search<'_> {
 #[cfg(test)]
 mod tests {
     use super::*;
-    use crate::calls::Second;
-    use crate::mutation::Mutation;
+    use crate::faults;
+    use crate::rules::Rules;
 
-    fn searched(
-        mutation: Mutation,
-        from: Vec<Recorded>,
-        seed: u64,
-    ) -> Result<Vec<Recorded>, String> {
-        search(&Second { mutation }, from, seed, Duration::ZERO)
+    fn searched(second: &Rules, from: Vec<Recorded>, seed: u64) -> Result<Vec<Recorded>, String> {
+        search(second, from, seed, Duration::ZERO)
     }
 
     /// In some goes, each from where the last one ended, it loses nothing of
@@ -162,21 +158,21 @@ mod tests {
     fn climbs() {
         let mut best = Vec::new();
         for seed in 1..=4 {
-            best = searched(Mutation::None, best, seed).expect("every claim");
+            best = searched(Rules::PAPERS, best, seed).expect("every claim");
         }
         assert_eq!(best.len(), 7);
         let by_hand = Gain { sent: 15, best: 21 };
         assert!(best[0].gain.is_above(by_hand), "{}", best[0]);
         for (one, slots) in best.iter().zip(FEWEST..) {
             assert_eq!(one.round.last + 1, slots);
-            let start = played(&Second::PLAIN, family(slots)).expect("every claim");
+            let start = played(Rules::PAPERS, family(slots)).expect("every claim");
             assert!(!start.gain.is_above(one.gain), "{one}");
         }
     }
 
     #[test]
     fn ends_with_a_round_that_breaks_a_claim() {
-        let found = searched(Mutation::SubstituteNotCounted, Vec::new(), 1);
+        let found = searched(&faults::with("SubstituteNotCounted"), Vec::new(), 1);
         let told = found.expect_err("a round");
         assert!(told.ends_with("B × B is above B × S + S × S"), "{told}");
     }

@@ -1,10 +1,9 @@
 //! Stationround at a terminal or in a pipe: replies come before more input is
 //! asked for, however the input is cut, and a closed output ends it quietly.
 
-use crate::calls::Second;
 use crate::command::END;
 use crate::programs::process::{ended_well, started, written, PATIENCE};
-use crate::station::Station;
+use crate::rules::Rules;
 use std::io::{BufRead, BufReader, Write};
 use std::os::unix::process::ExitStatusExt;
 use std::path::Path;
@@ -22,7 +21,7 @@ pub fn paced(program: &Path, input: &[u8], parts: &[usize]) -> Result<(), String
     let mut child = started(&mut Command::new(program)).map_err(|error| error.to_string())?;
     let mut stdin = child.stdin.take().ok_or("no input")?;
     let replies = replies_of(&mut child)?;
-    let mut station = Station::new(Second::PLAIN);
+    let mut table = Rules::PAPERS.fresh();
     let mut goes_on = true;
     let (mut at, mut done) = (0, 0);
     for part in parts.iter().cycle() {
@@ -33,7 +32,7 @@ pub fn paced(program: &Path, input: &[u8], parts: &[usize]) -> Result<(), String
             let line = &input[done..=done + length];
             done += length + 1;
             if goes_on {
-                goes_on = expect(&replies, &mut station, line)?;
+                goes_on = expect(&replies, &mut table, line)?;
             }
         }
         if at == input.len() {
@@ -42,7 +41,7 @@ pub fn paced(program: &Path, input: &[u8], parts: &[usize]) -> Result<(), String
     }
     drop(stdin);
     if goes_on && done < input.len() {
-        expect(&replies, &mut station, &input[done..])?;
+        expect(&replies, &mut table, &input[done..])?;
     }
     if let Ok(more) = replies.recv_timeout(PATIENCE) {
         return Err(format!("a reply too many: {more:?}"));
@@ -51,8 +50,8 @@ pub fn paced(program: &Path, input: &[u8], parts: &[usize]) -> Result<(), String
 }
 
 /// Waits for the reply to a line; whether the program goes on after it.
-fn expect(replies: &Receiver<Vec<u8>>, station: &mut Station, line: &[u8]) -> Result<bool, String> {
-    let wanted = station.reply(line);
+fn expect(replies: &Receiver<Vec<u8>>, table: &mut [u8], line: &[u8]) -> Result<bool, String> {
+    let wanted = Rules::PAPERS.reply(table, line);
     let shown = String::from_utf8_lossy(line);
     match replies.recv_timeout(PATIENCE) {
         Ok(reply) if reply == wanted.text.as_bytes() => Ok(wanted.goes_on),
@@ -100,9 +99,7 @@ pub fn closed(program: &Path) -> Result<usize, String> {
         let quiet = status.code().is_some() || *signal && status.signal() == Some(PIPE_SIGNAL);
         if !quiet || !output.stderr.is_empty() {
             let said = String::from_utf8_lossy(&output.stderr);
-            return Err(format!(
-                "with its output closed it ended with {status}: {said}"
-            ));
+            return Err(format!("with its output closed it ended with {status}: {said}"));
         }
     }
     Ok(CLOSED.len())

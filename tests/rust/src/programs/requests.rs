@@ -1,7 +1,6 @@
 //! The kinds of requests that trial is run on.
 
-use crate::calls::Second;
-use crate::command::{Command, TAKE_DIGITS};
+use crate::command::{Command, Form};
 use crate::compare::damage::damaged;
 use crate::compare::draw::Draw;
 use crate::compare::extremes::NUMBERS;
@@ -14,7 +13,8 @@ use crate::listing::Entry;
 use crate::programs::noise::{damage, long_line, noise, odd_line};
 use crate::programs::rounds::{payload, round, Drawn};
 use crate::programs::trial::{Request, MOST_ROOM, MOST_SIZE};
-use crate::station::Station;
+use crate::rules::Rules;
+use crate::table::ROW;
 
 /// Draws one request; the number says which of its kind.
 pub type Drawing = fn(&mut Draw, u64) -> Request;
@@ -54,8 +54,8 @@ pub const KINDS: &[Kind<Drawing>] = &[
 /// A listing with a room at or near what it needs.
 fn listing(draw: &mut Draw, table: Vec<u8>) -> Request {
     let mut entries = [Entry::ZERO; MOST_ROOM];
-    let count = Second::PLAIN.list(&table, &mut entries).unwrap_or(0);
-    let room = near(draw, count, table.len() / 24);
+    let count = Rules::PAPERS.list(&table, &mut entries).unwrap_or(0);
+    let room = near(draw, count, table.len() / ROW);
     Request::List { table, room }
 }
 
@@ -76,11 +76,11 @@ fn near(draw: &mut Draw, number: usize, other: usize) -> usize {
 fn reachable(draw: &mut Draw, _: u64) -> Request {
     let (drawn, lines) = (Drawn::new(draw), draw.between(5, 120));
     let file = round(draw, drawn, lines);
-    let mut station = Station::new(Second::PLAIN);
+    let mut table = Rules::PAPERS.fresh();
     for line in file.split_inclusive(|byte| *byte == b'\n') {
-        station.reply(line);
+        Rules::PAPERS.reply(&mut table, line);
     }
-    listing(draw, station.table)
+    listing(draw, table)
 }
 
 fn writing(draw: &mut Draw, _: u64) -> Request {
@@ -97,11 +97,8 @@ fn writing(draw: &mut Draw, _: u64) -> Request {
         _ => Command::Take { due: slot, weight },
     };
     let payload = digits(draw, matches!(command, Command::Take { .. }));
-    let front = match command {
-        Command::Open { .. } => 6,
-        Command::Take { .. } => TAKE_DIGITS,
-        Command::Send => 2,
-    };
+    let form = Rules::PAPERS.writing.form(command.numbers().0.as_bytes());
+    let front = form.map_or(0, Form::front);
     let room = near(draw, front + payload.len() + 1, 62);
     Request::Write {
         command,

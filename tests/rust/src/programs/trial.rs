@@ -1,11 +1,11 @@
 //! What the program trial reads and prints (tests/trial.md), over the second
 //! implementation.
 
-use crate::calls::Second;
-use crate::command::Command;
+use crate::command::{Command, FORMS};
 use crate::counts::{Slot, Ticket, Weight};
 use crate::listing::Entry;
 use crate::refusal::Refusal;
+use crate::rules::Rules;
 
 /// The most bytes after a request's head.
 pub const MOST_SIZE: usize = 24_640;
@@ -84,7 +84,7 @@ impl Request {
     }
 
     /// The outcome's bytes.
-    pub fn outcome(&self, second: Second) -> Vec<u8> {
+    pub fn outcome(&self, second: &Rules) -> Vec<u8> {
         match self {
             Request::List { table, room } => listed(second, table, *room),
             Request::Write {
@@ -109,27 +109,20 @@ fn reply(answer: Result<usize, Refusal>) -> [u32; 2] {
     }
 }
 
+/// The place of its form, which is the line's number, and its numbers.
 fn numbers_of(command: Command) -> [u32; 3] {
-    match command {
-        Command::Open { last } => [0, last.0, 0],
-        Command::Take { due, weight } => [1, due.0, weight.0],
-        Command::Send => [2, 0, 0],
-    }
+    let (line, numbers) = command.numbers();
+    let place = FORMS.iter().position(|form| form.line == line);
+    let number = |place: usize| numbers.get(place).copied().unwrap_or(0);
+    [place.expect("its form") as u32, number(0), number(1)]
 }
 
 fn command_of(number: u32, slot: u32, weight: u32) -> Option<Command> {
-    match number {
-        0 => Some(Command::Open { last: Slot(slot) }),
-        1 => Some(Command::Take {
-            due: Slot(slot),
-            weight: Weight(weight),
-        }),
-        2 => Some(Command::Send),
-        _ => None,
-    }
+    let form = FORMS.get(number as usize)?;
+    Some((form.command)(&[slot, weight]))
 }
 
-fn listed(second: Second, table: &[u8], room: usize) -> Vec<u8> {
+fn listed(second: &Rules, table: &[u8], room: usize) -> Vec<u8> {
     let mut entries = vec![ENTRY; room];
     let answer = second.list(table, &mut entries);
     let mut bytes = Vec::new();
@@ -140,7 +133,7 @@ fn listed(second: Second, table: &[u8], room: usize) -> Vec<u8> {
     bytes
 }
 
-fn wrote(second: Second, command: Command, payload: &[u8], room: usize) -> Vec<u8> {
+fn wrote(second: &Rules, command: Command, payload: &[u8], room: usize) -> Vec<u8> {
     let mut buffer = vec![BYTE; room];
     let answer = second.write(command, payload, &mut buffer);
     let mut bytes = Vec::new();
@@ -149,7 +142,7 @@ fn wrote(second: Second, command: Command, payload: &[u8], room: usize) -> Vec<u
     bytes
 }
 
-fn read(second: Second, line: &[u8]) -> Vec<u8> {
+fn read(second: &Rules, line: &[u8]) -> Vec<u8> {
     let (refusal, [command, slot, weight]) = match second.read(line) {
         Ok(command) => (0, numbers_of(command)),
         Err(refusal) => (u32::from(refusal.number()), [0; 3]),

@@ -5,10 +5,10 @@ mod options;
 
 use options::{Job, Options};
 use second::call::CallName;
-use second::calls::Second;
 use second::compare::kinds::{run, Settings};
 use second::ending::{caught, told, Ended};
-use second::mutation::Mutation;
+use second::faults::Fault;
+use second::rules::Rules;
 use std::process::ExitCode;
 
 fn main() -> ExitCode {
@@ -19,21 +19,18 @@ fn main() -> ExitCode {
             return ExitCode::from(2);
         }
     };
-    told(match options.job {
-        Job::Compare(mutation) => compare(&options, mutation),
-        Job::Mutations => caught("compare", &Mutation::shown(CallName::ALL), |&mutation| {
-            caught_at(&options, mutation)
-        }),
+    told(match &options.job {
+        Job::Compare(second) => compare(&options, second),
+        Job::Mutations => {
+            caught("compare", &Fault::shown(CallName::ALL), |fault| caught_at(&options, fault))
+        }
     })
 }
 
-fn compare(options: &Options, mutation: Mutation) -> Ended {
+fn compare(options: &Options, second: &Rules) -> Ended {
     let (library, settings) = (options.library.as_ref(), options.settings);
-    println!(
-        "compare: with {}, seed {}, factor {}",
-        options.name, settings.seed, settings.factor
-    );
-    let ended = run(library, Second { mutation }, settings, |kind, agreed| {
+    println!("compare: with {}, seed {}, factor {}", options.name, settings.seed, settings.factor);
+    let ended = run(library, second, settings, |kind, agreed| {
         println!("  {}: {agreed} cases", kind.name);
     });
     match ended {
@@ -50,20 +47,21 @@ fn compare(options: &Options, mutation: Mutation) -> Ended {
 
 /// Where a fault is caught. A fault in planning must be caught by the drawn
 /// inputs alone too.
-fn caught_at(options: &Options, mutation: Mutation) -> Option<String> {
+fn caught_at(options: &Options, fault: &Fault) -> Option<String> {
     let (library, name) = (options.library.as_ref(), options.name);
+    let second = fault.rules();
     let place = |drawn_only| {
         let settings = Settings {
             drawn_only,
             ..options.settings
         };
-        let ended = run(library, Second { mutation }, settings, |_, _| ());
+        let ended = run(library, &second, settings, |_, _| ());
         ended
             .err()
             .map(|found| format!("{} {}", found.kind, found.case))
     };
     let first = place(false)?;
-    if mutation.shown_by().plans() {
+    if fault.shown_by.plans() {
         return Some(format!("with {name}; {first}, drawn {}", place(true)?));
     }
     Some(format!("with {name}; {first}"))

@@ -1,10 +1,10 @@
 //! The words after the command, and the two settings of the environment.
 
 use crate::archive;
-use second::calls::Second;
 use second::compare::kinds::Settings;
 use second::compare::library::Library;
-use second::mutation::Mutation;
+use second::faults::Fault;
+use second::rules::Rules;
 use second::settings;
 use std::env;
 
@@ -12,7 +12,7 @@ const USAGE: &str = "compare [--self] [--mutation NAME | --mutations]
 LIRVEDD_FACTOR: how many times as long (1); LIRVEDD_SEED: the drawn numbers' seed (1)";
 
 pub enum Job {
-    Compare(Mutation),
+    Compare(Box<Rules>),
     Mutations,
 }
 
@@ -26,13 +26,13 @@ pub struct Options {
 
 impl Options {
     pub fn read() -> Result<Options, String> {
-        let (mut job, mut itself) = (Job::Compare(Mutation::None), false);
+        let (mut job, mut itself) = (Job::Compare(Box::new(Rules::PAPERS.clone())), false);
         let mut words = env::args().skip(1);
         while let Some(word) = words.next() {
             match word.as_str() {
                 "--self" => itself = true,
                 "--mutations" => job = Job::Mutations,
-                "--mutation" => job = Job::Compare(named(words.next())?),
+                "--mutation" => job = Job::Compare(Box::new(named(words.next())?)),
                 _ => return Err(USAGE.to_string()),
             }
         }
@@ -51,15 +51,16 @@ impl Options {
     }
 }
 
-fn named(word: Option<String>) -> Result<Mutation, String> {
+fn named(word: Option<String>) -> Result<Rules, String> {
     let name = word.ok_or(USAGE)?;
-    Mutation::named(&name).ok_or(format!("no mutation {name}"))
+    let fault = Fault::named(&name).ok_or(format!("no mutation {name}"))?;
+    Ok(fault.rules())
 }
 
 /// The archive, or the second implementation itself only where that is asked for.
 fn library(itself: bool) -> Result<(Box<dyn Library>, &'static str), String> {
     if itself {
-        return Ok((Box::new(Second::PLAIN), "itself"));
+        return Ok((Box::new(Rules::PAPERS.clone()), "itself"));
     }
     let linked = archive::linked();
     let archive = linked.ok_or("no archive is linked: set LIRVEDD_ARCHIVE, or use --self")?;

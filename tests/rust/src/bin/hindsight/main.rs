@@ -6,13 +6,13 @@ mod archive;
 mod run;
 mod seen;
 
-use second::calls::Second;
 use second::compare::library::Library;
 use second::ending::{told, Ended};
+use second::faults::Fault;
 use second::hindsight::family::longest;
 use second::hindsight::recorded;
 use second::hindsight::search::{played, search};
-use second::mutation::Mutation;
+use second::rules::Rules;
 use second::settings::seed;
 use std::env;
 use std::process::ExitCode;
@@ -36,11 +36,11 @@ fn main() -> ExitCode {
 
 /// What is played, and the words that are left.
 fn library<'a>(words: &'a [&'a str]) -> Result<(Box<dyn Library>, &'a [&'a str]), String> {
-    let (mutation, words) = match words {
-        ["--self", rest @ ..] => (Mutation::None, rest),
+    let (second, words) = match words {
+        ["--self", rest @ ..] => (Rules::PAPERS.clone(), rest),
         ["--mutation", name, rest @ ..] => {
-            let mutation = Mutation::named(name).ok_or(format!("no mutation {name}"))?;
-            (mutation, rest)
+            let fault = Fault::named(name).ok_or(format!("no mutation {name}"))?;
+            (fault.rules(), rest)
         }
         _ => {
             let linked = archive::linked();
@@ -48,7 +48,7 @@ fn library<'a>(words: &'a [&'a str]) -> Result<(Box<dyn Library>, &'a [&'a str])
             return Ok((linked.ok_or(told)?, words));
         }
     };
-    Ok((Box::new(Second { mutation }), words))
+    Ok((Box::new(second), words))
 }
 
 fn job(words: &[&str], library: &dyn Library) -> Result<Ended, String> {

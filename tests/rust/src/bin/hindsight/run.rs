@@ -46,9 +46,10 @@ fn replayed(library: &dyn Library, one: &Recorded) -> Result<Checked, String> {
 pub fn mutations(library: &dyn Library) -> Ended {
     let (seed, factor) = (seed()?, factor()?);
     caught("hindsight", FAULTS, |fault| {
+        let shown = fault.shown(library);
         let mut drawn = rounds(seed, factor).filter(|round| round.is_drawn);
         drawn.find_map(|round| {
-            let wrong = fault.shown(library, &round.script)?;
+            let wrong = shown(&round.script)?;
             Some(format!("{} {}: {wrong}", round.kind, round.number))
         })
     })

@@ -4,8 +4,8 @@
 use second::call::Call;
 use second::compare::library::Library;
 use second::compare::tally::Tally;
-use second::mutation::Mutation;
-use second::table::{row_at, rows_of};
+use second::round::Round;
+use second::table::{row_at, rows_of, LAST};
 use std::cell::RefCell;
 use std::collections::BTreeMap;
 use std::fmt::Display;
@@ -38,7 +38,7 @@ impl Counts {
     fn add(&mut self, call: Call, table: &[u8], reply: u64) {
         self.sizes[size(table.len())] += 1;
         self.outcomes.add(call.name(), reply);
-        let fullest = table.len() == row_at(1_024) && table[2..4] == [0xFF, 0x0F];
+        let fullest = table.len() == row_at(Round::ROWS) && LAST.get(table) == Round::LAST.0;
         if call == Call::Send && reply & 0xFF == 0 && fullest {
             self.fullest += 1;
         }
@@ -97,7 +97,7 @@ impl Library for Counted<'_> {
 
 /// The place of a table's size; a length that refusal 2 turns down is the last one.
 fn size(length: usize) -> usize {
-    let rows = rows_of(length, Mutation::None).unwrap_or(usize::MAX);
+    let rows = rows_of(length).unwrap_or(usize::MAX);
     let place = SIZES.iter().position(|size| rows <= size.0);
     place.expect("the last has no limit")
 }

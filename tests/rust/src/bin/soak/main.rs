@@ -6,9 +6,9 @@ mod archive;
 mod counted;
 
 use counted::{Counted, Counts};
-use second::calls::Second;
 use second::compare::kinds::{run_kinds, Case, Found, Settings, FULLEST, KINDS};
 use second::kind::Kind;
+use second::rules::Rules;
 use std::cell::RefCell;
 use std::env;
 use std::process::ExitCode;
@@ -98,7 +98,7 @@ fn soak(options: &Options, library: Counted) -> Result<(), (u64, Found)> {
 
 fn run_pass(kinds: &[Kind<Case>], settings: Settings, library: &Counted) -> Result<(), Found> {
     let counts = library.counts;
-    run_kinds(kinds, library, Second::PLAIN, settings, |kind, _| {
+    run_kinds(kinds, library, Rules::PAPERS, settings, |kind, _| {
         counts.borrow_mut().end_of(kind.name);
     })?;
     Ok(())

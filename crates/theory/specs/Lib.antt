@@ -65,8 +65,8 @@ pub mod Listings
 pub mod Digits
 pub mod Numerals
 pub mod Lines
-pub mod Reader
 pub mod Broken
+pub mod Reader
 pub mod Complete
 pub mod Printing
 pub mod Served

@@ -8,7 +8,7 @@ use native.Mathlib.Omega.{arith}
 use native.Mathlib.Nat.{pow-suc, pow-le-pow-right}
 use native.Mathlib.Numerals.{add-one}
 use lib.ListN.{length, getD, set, take, drop, drop-of-length-le, length-set, take-append-drop}
-use lib.Seq.{drop-cons, drop-set-lt, take-set-le, getD-set-same, take-length, paste, paste-zero, paste-suc}
+use lib.Seq.{drop-cons, drop-set-lt, take-set-le, getD-set-same}
 use borrow.Author.Tests.{le-leb, lt-leb}
 use Rattle.rules.specs.Lines.{digit, is-digit, digit-value, digits, number-from, all-digits}
 use Rattle.theory.specs.Tests.{either}
@@ -59,24 +59,24 @@ unfolding all-digits
 all-end ds i h = rw (drop-of-length-le ds {i = i} h)
 
 -- A NUMBER READ, the digits before i in the sum
-pub record Read (ds : List ℕ) (sum i : ℕ) : Type 0 where
+pub record Number-read (ds : List ℕ) (sum i : ℕ) : Type 0 where
   pub within : i ≤ length ds
   pub clean : all-digits ds ≡ all-digits (drop i ds)
   pub number : number-from 0 ds ≡ number-from sum (drop i ds)
   pub small : sum < 16 ^ i
 
-pub read-none : (ds : List ℕ) → Read ds 0 0
+pub read-none : (ds : List ℕ) → Number-read ds 0 0
 read-none ds = record { within = omega arith; clean = refl; number = refl; small = omega arith }
 
 -- one digit more fits a u32
-pub sum-fits : {ds : List ℕ} {sum i : ℕ} → Read ds sum i → i < 8 → 16 * sum + 15 < 2 ^ 32
+pub sum-fits : {ds : List ℕ} {sum i : ℕ} → Number-read ds sum i → i < 8 → 16 * sum + 15 < 2 ^ 32
 sum-fits {i = i} r h = omega (arith, pow-suc 16 i, r .small, pow-le-pow-right {n = 16} (omega arith) h)
 
-module _ {ds : List ℕ} {sum i v : ℕ} (r : Read ds sum i) (within : i < length ds) (valued : v ≡ value-or 16 (getD ds i 0)) where
+module _ {ds : List ℕ} {sum i v : ℕ} (r : Number-read ds sum i) (within : i < length ds) (valued : v ≡ value-or 16 (getD ds i 0)) where
   pub value-small : (v ≡ 16 → ⊥) → v < 16
   value-small f = let d = some v (getD ds i 0) valued f in omega (arith, d .1, digit-valued (getD ds i 0) (d .0) .below)
 
-  pub read-more : (v ≡ 16 → ⊥) → Read ds (16 * sum + v) (i + 1)
+  pub read-more : (v ≡ 16 → ⊥) → Number-read ds (16 * sum + v) (i + 1)
   unfolding number-from
   read-more f =
       let d = some v (getD ds i 0) valued f in
@@ -91,18 +91,18 @@ module _ {ds : List ℕ} {sum i v : ℕ} (r : Read ds sum i) (within : i < lengt
   unfolding spelt
   read-foul e = rw (r .clean, all-stop ds i v within valued e)
 
-pub read-whole : {ds : List ℕ} {sum i : ℕ} → Read ds sum i → length ds ≤ i → spelt ds ≡ Number sum
+pub read-whole : {ds : List ℕ} {sum i : ℕ} → Number-read ds sum i → length ds ≤ i → spelt ds ≡ Number sum
 unfolding spelt number-from
 read-whole {ds} {i = i} r h = rw (r .clean, all-end ds i h, r .number, drop-of-length-le ds {i = i} h)
 
 -- A NUMBER WRITTEN from its last digit on: what stands from i on, and what is left for the digits before
-pub record Put (value count at : ℕ) (before buffer : List ℕ) (rest i : ℕ) : Type 0 where
+pub record Number-put (value count at : ℕ) (before buffer : List ℕ) (rest i : ℕ) : Type 0 where
   pub least : at ≤ i
   pub most : i ≤ length buffer
   pub long : length buffer ≡ length before
   pub stands : take at buffer ++ digits (i - at) rest ++ drop i buffer ≡ put at (digits count value) before
 
-pub put-none : (value count at : ℕ) (z : List ℕ) → at + count ≤ length z → Put value count at z z value (at + count)
+pub put-none : (value count at : ℕ) (z : List ℕ) → at + count ≤ length z → Number-put value count at z z value (at + count)
 put-none v n a z h =
     let k : a + n - a ≡ n = omega arith in
     record { least = omega arith; most = h; long = refl; stands = rw (k, length-digits n v) }
@@ -111,8 +111,8 @@ drop-set : (l : List ℕ) (i a : ℕ) → i < length l → drop i (set l i a) �
 drop-set l i a h =
     drop-cons (set l i a) i 0 (omega (arith, length-set l i a)) ∙ rw (getD-set-same l i a 0 h, drop-set-lt (suc i) l i a (omega arith))
 
-pub put-more : {value count at : ℕ} {z b : List ℕ} {rest i d next : ℕ} → Put value count at z b rest i → at < i →
-    d ≡ digit (rest % 16) → next ≡ rest / 16 → Put value count at z (set b (i - 1) d) next (i - 1)
+pub put-more : {value count at : ℕ} {z b : List ℕ} {rest i d next : ℕ} → Number-put value count at z b rest i → at < i →
+    d ≡ digit (rest % 16) → next ≡ rest / 16 → Number-put value count at z (set b (i - 1) d) next (i - 1)
 put-more {at = a} {b = b} {rest = rest} {i = i} {d = d} {next = next} p h e q =
     let j = i - 1 in
     let s : suc j ≡ i = omega arith in
@@ -129,7 +129,7 @@ put-more {at = a} {b = b} {rest = rest} {i = i} {d = d} {next = next} p h e q =
           ∙ rw (t, drop-set b j d (omega (arith, p .most)), s, q, e, g) (sym (append-assoc (take a b) (digits (i - a) rest) (drop i b)) ∙ p .stands);
     }
 
-pub put-whole : {value count at : ℕ} {z b : List ℕ} {rest i : ℕ} → Put value count at z b rest i → i ≤ at → Puts value count at z b
+pub put-whole : {value count at : ℕ} {z b : List ℕ} {rest i : ℕ} → Number-put value count at z b rest i → i ≤ at → Puts value count at z b
 unfolding digits
 put-whole {at = a} {b = b} {i = i} p h =
     let s : i ≡ a = omega (arith, p .least) in

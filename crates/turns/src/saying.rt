@@ -2,7 +2,7 @@
 ghost use Prim.Native.Nat.{_≤_};
 ghost use lib.ListN.{length};
 ghost use Rattle.rules.specs.Calls.{step};
-ghost use Rattle.rules.specs.Lines.{reply-text};
+ghost use Rattle.rules.specs.Lines.{reply-room, reply-text};
 ghost use Rattle.calls.specs.Replies.{of-opened, of-taken};
 ghost use Rattle.calls.specs.Steps.{of-out, of-step, of-sent};
 ghost use Rattle.lines.specs.Cases.{out-number, out-ticket};
@@ -19,7 +19,7 @@ use lines::write_ticket_in_room;
 use round::Ticket;
 
 pub fn say_opened(opened: Opened, reply: &mut [u8]) -> usize
-    requires { ⌜ 15 ≤ length (now reply) ⌝ }
+    requires { ⌜ reply-room ≤ length (now reply) ⌝ }
     ensures { λ r. ⌜ Replies (reply-text (of-opened opened)) (now (reply .entry)) (now (reply .exit)) r ⌝ }
 {
     match opened {
@@ -29,7 +29,7 @@ pub fn say_opened(opened: Opened, reply: &mut [u8]) -> usize
 }
 
 pub fn say_taken(taken: Taken, reply: &mut [u8]) -> usize
-    requires { ⌜ 15 ≤ length (now reply) ⌝ }
+    requires { ⌜ reply-room ≤ length (now reply) ⌝ }
     ensures { λ r. ⌜ Replies (reply-text (of-taken taken)) (now (reply .entry)) (now (reply .exit)) r ⌝ }
 {
     match taken {
@@ -39,7 +39,7 @@ pub fn say_taken(taken: Taken, reply: &mut [u8]) -> usize
 }
 
 pub fn say_sent(sent: Sent, reply: &mut [u8]) -> usize
-    requires { ⌜ 15 ≤ length (now reply) ⌝ }
+    requires { ⌜ reply-room ≤ length (now reply) ⌝ }
     ensures { λ r. ⌜ Replies (reply-text (of-sent sent)) (now (reply .entry)) (now (reply .exit)) r ⌝ }
 {
     match sent {
@@ -54,7 +54,7 @@ const ORDINARY: u32 = 0;
 const LEAP: u32 = 1;
 
 fn say_step(went: Step, reply: &mut [u8]) -> usize
-    requires { ⌜ 15 ≤ length (now reply) ⌝ }
+    requires { ⌜ reply-room ≤ length (now reply) ⌝ }
     ensures { λ r. ⌜ Replies (reply-text (step (of-step went))) (now (reply .entry)) (now (reply .exit)) r ⌝ }
 {
     match went {
@@ -65,7 +65,7 @@ fn say_step(went: Step, reply: &mut [u8]) -> usize
 
 // What went out, in a step of either number; silence has no ticket.
 fn say_out(out: Out, leap: u32, reply: &mut [u8]) -> usize
-    requires { ⌜ 15 ≤ length (now reply) ⌝ }
+    requires { ⌜ reply-room ≤ length (now reply) ⌝ }
     ensures { λ r. ⌜ Replies (step-text (out-number (of-out out)) leap (out-ticket (of-out out))) (now (reply .entry)) (now (reply .exit)) r ⌝ }
 {
     match out {

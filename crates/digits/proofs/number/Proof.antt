@@ -4,12 +4,12 @@ use Prim.Native.Nat.{_+_, _*_, _-_, _^_, _<_}
 use native.Mathlib.Omega.{arith}
 use lib.ListN.{length}
 use borrow.Author.Needs.{needs}
-use Rattle.digits.proofs.Spelling.{value-small, Read, read-none, read-more, read-foul, read-whole, sum-fits}
+use Rattle.digits.proofs.Spelling.{value-small, Number-read, read-none, read-more, read-foul, read-whole, sum-fits}
 use Rattle.digits.proofs.number.Statement.{statement}
 use Rattle.digits.proofs.number.Tie as tie
 
 abbrev Inv-loop : tie.InvT-loop
-Inv-loop digits sum₀ i₀ sum i = Read digits sum i
+Inv-loop digits sum₀ i₀ sum i = Number-read digits sum i
 
 abbrev μ-loop : tie.MeasureT-loop
 μ-loop digits sum₀ i₀ sum i = length digits - i

@@ -1,11 +1,11 @@
 -- `digits::put_number` meets its contract: the digits from i on stand, and the rest is for those before; i falls.
 use borrow.Author.Needs.{needs}
-use Rattle.digits.proofs.Spelling.{Put, put-none, put-more, put-whole}
+use Rattle.digits.proofs.Spelling.{Number-put, put-none, put-more, put-whole}
 use Rattle.digits.proofs.put_number.Statement.{statement}
 use Rattle.digits.proofs.put_number.Tie as tie
 
 abbrev Inv-loop : tie.InvT-loop
-Inv-loop value count at buffer₀ rest₀ i₀ buffer rest i = Put value count at buffer₀ buffer rest i
+Inv-loop value count at buffer₀ rest₀ i₀ buffer rest i = Number-put value count at buffer₀ buffer rest i
 
 abbrev μ-loop : tie.MeasureT-loop
 μ-loop value count at buffer₀ rest₀ i₀ buffer rest i = i

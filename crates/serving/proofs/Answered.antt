@@ -12,7 +12,7 @@ use Rattle.rules.specs.Lines.{Command, call-of, command, broken, read, read-ref
 use Rattle.rules.specs.Reads.{begun-from, asked, calls-of, stops}
 use Rattle.theory.specs.Tests.{ltb?}
 use Rattle.lines.specs.Ends.{No-end, First-end}
-use Rattle.lines.proofs.Commands.{short}
+use Rattle.lines.proofs.ReadLines.{short}
 use Rattle.lines.proofs.Cuts.{cut, uncut}
 use Rattle.serving.specs.declared.answering.Progress.{Progress}
 use Rattle.serving.specs.Answering.{lines, bytes-read, Answers}

@@ -11,10 +11,10 @@ use Rattle.rules.specs.Lines.{line-end}
 use Rattle.rules.specs.Reads.{complete-from, begun-from}
 use Rattle.theory.specs.Tests.{eqb?}
 use Rattle.theory.specs.Complete.{unended-made, unended-complete, unended-begun}
-use Rattle.lines.specs.Ends.{None, First}
+use Rattle.lines.specs.Ends.{No-end, First-end}
 
 -- a byte more that is no 0A
-pub none-more : (input : List ℕ) (from i : ℕ) → None input from i → (getD input i 0 ≡ line-end → ⊥) → None input from (i + 1)
+pub none-more : (input : List ℕ) (from i : ℕ) → No-end input from i → (getD input i 0 ≡ line-end → ⊥) → No-end input from (i + 1)
 none-more input from i f g k h l e = elim (eqb? k i) [ inl a ↦ g (rw (a .1) at e) | inr a ↦ f k h (omega (arith, a .1)) e ]
 
 -- BEHIND A LINE BEGUN: where the first 0A is the k-th byte
@@ -42,7 +42,7 @@ pub record Cut (input : List ℕ) (from at : ℕ) : Type 0 where
   pub complete : complete-from [] (drop from input) ≡ take (at + 1 - from) (drop from input) ∷ complete-from [] (drop (at + 1) input)
   pub begun : begun-from [] (drop from input) ≡ begun-from [] (drop (at + 1) input)
 
-pub cut : (input : List ℕ) (from at : ℕ) → First input from at → Cut input from at
+pub cut : (input : List ℕ) (from at : ℕ) → First-end input from at → Cut input from at
 cut input from at h =
     let k = at - from in
     let n : at + 1 - from ≡ suc k = omega (arith, h .after) in
@@ -62,7 +62,7 @@ pub record Uncut (input : List ℕ) (from : ℕ) : Type 0 where
   pub complete : complete-from [] (drop from input) ≡ []
   pub begun : begun-from [] (drop from input) ≡ drop from input
 
-pub uncut : (input : List ℕ) (from : ℕ) → None input from (length input) → Uncut input from
+pub uncut : (input : List ℕ) (from : ℕ) → No-end input from (length input) → Uncut input from
 uncut input from h =
     let f : (j : ℕ) → j < length (drop from input) → getD (drop from input) j 0 ≡ line-end → ⊥ =
     λ j g e. h (from + j) (omega arith) (omega (arith, length-drop from input)) (rw getD-drop at e) in

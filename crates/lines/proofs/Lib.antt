@@ -1,7 +1,7 @@
 pub mod Cases
-pub mod Spelling
-pub mod Commands
+pub mod FormLaws
+pub mod ReadLines
+pub mod Collecting
 pub mod Places
-pub mod Filling
 pub mod Writing
 pub mod Cuts

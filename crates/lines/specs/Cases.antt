@@ -11,20 +11,20 @@ use Rattle.lines.specs.declared.Written.{Written}
 use Rattle.lines.specs.declared.Written.the-variants.{Length, Refused}
 
 -- lines 00, 01 and 02
-abbrev pub command-of : Command → rules.Command
-command-of (Open last) = open-line (last .0)
-command-of (Take due weight) = take-line (due .0) (weight .0)
-command-of Send = send-line
+abbrev pub of-command : Command → rules.Command
+of-command (Open last) = open-line (last .0)
+of-command (Take due weight) = take-line (due .0) (weight .0)
+of-command Send = send-line
 
 -- a command, or refusal 1
-abbrev pub reading-of : Reading → rules.Reading
-reading-of (Is c) = command (command-of c)
-reading-of Broken = broken
+abbrev pub of-reading : Reading → rules.Reading
+of-reading (Is c) = command (of-command c)
+of-reading Broken = broken
 
 -- the length, or the refusal's number alone
-abbrev pub reply-of : Written → Reply
-reply-of (Length n) = amount n
-reply-of (Refused n) = refused n
+abbrev pub of-written : Written → Reply
+of-written (Length n) = amount n
+of-written (Refused n) = refused n
 
 -- what went out, as a reply line says it: 00 silence, 01 a frame, 02 a kept blank; and its ticket, zeros for silence
 abbrev pub out-number : Out → ℕ

@@ -1,5 +1,5 @@
 pub mod Cases
-pub mod Spelling
+pub mod Forms
 pub mod Part
 pub mod Writing
 pub mod Ends

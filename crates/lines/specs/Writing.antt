@@ -1,23 +1,17 @@
 -- What the writers answer and leave in the lent buffer.
 use mathlib.Core.Path.{_≡_}
-use mathlib.Core.Bool.{Bool, _&&_}
 use mathlib.Core.List.{List, [], _∷_, _++_}
-use Prim.Native.Nat.{ℕ, _%_}
-use lib.Dec.{leb, eqb}
+use Prim.Native.Nat.{ℕ}
 use lib.ListN.{length, drop}
-use Rattle.rules.specs.Limits.{wide-digits, most-payload}
-use Rattle.rules.specs.Lines.{Command, digits, all-digits, line-end, write-answer, write-left}
+use Rattle.rules.specs.Limits.{short-digits, wide-digits}
+use Rattle.rules.specs.Lines.{Command, digits, line-end, write-answer, write-left}
 use Rattle.lines.specs.declared.Written.{Written}
-use Rattle.lines.specs.Cases.{reply-of}
+use Rattle.lines.specs.Cases.{of-written}
 
 -- the line writer, on a buffer before and after
 pub record Writes (c : Command) (payload before after : List ℕ) (r : Written) : Type 0 where
-  pub reply : reply-of r ≡ write-answer c payload (length before)
+  pub reply : of-written r ≡ write-answer c payload (length before)
   pub left : after ≡ write-left c payload before
-
--- a payload that can stand in line 01
-unfoldable pub payload-stands : List ℕ → Bool
-payload-stands ps = all-digits ps && (eqb (length ps % 2) 0 && leb (length ps) most-payload)
 
 -- a reply's line at the buffer's start, and its length answered
 pub record Replies (line before after : List ℕ) (r : ℕ) : Type 0 where
@@ -26,4 +20,4 @@ pub record Replies (line before after : List ℕ) (r : ℕ) : Type 0 where
 
 -- the line of a step by numbers: what went out (0 silence, 1 a frame, 2 a kept blank), 0 ordinary or 1 a leap, and the ticket
 unfoldable pub step-text : (out leap ticket : ℕ) → List ℕ
-step-text o l k = digits 2 2 ++ digits 2 o ++ digits 2 l ++ digits wide-digits k ++ (line-end ∷ [])
+step-text o l k = digits short-digits 2 ++ digits short-digits o ++ digits short-digits l ++ digits wide-digits k ++ (line-end ∷ [])

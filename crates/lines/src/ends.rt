@@ -1,12 +1,12 @@
 // Where the next line of an input ends.
 ghost use mathlib.Core.Path.{_≡_};
-ghost use Rattle.lines.specs.Ends.{Ends};
+ghost use Rattle.lines.specs.Ends.{Line-ends};
 use crate::LINE_END;
 use crate::LineEnd;
 
 // The first 0A at or after a place.
 pub fn line_end(input: &[u8], from: usize) -> LineEnd
-    ensures { λ r. ⌜ Ends (now (input .entry)) from r ⌝ }
+    ensures { λ r. ⌜ Line-ends (now (input .entry)) from r ⌝ }
     ensures { λ _. ⌜ now (input .exit) ≡ now (input .entry) ⌝ }
 {
     let mut i = from;

@@ -2,7 +2,7 @@
 use sorts::Slot;
 use sorts::Weight;
 
-mod digits; // digits.rt: digits, and numbers in digits
+mod forms; // forms.rt: the form of each line
 mod reader; // reader.rt: a line's command
 mod part; // part.rt: a line's payload
 mod writer; // writer.rt: a command's line
@@ -19,22 +19,7 @@ pub use replies::write_step_in_room;
 pub use replies::write_ticket_in_room;
 pub use writer::write_line;
 
-// How many digits a line's number, a slot, and a weight or a ticket have.
-pub const KIND_DIGITS: usize = 2;
-
-pub const SLOT_DIGITS: usize = 4;
-
-pub const WIDE_DIGITS: usize = 8;
-
-// Where a line's numbers and its payload begin, the most payload digits, and the byte that ends a line.
-pub const SLOT_AT: usize = 2;
-
-pub const WEIGHT_AT: usize = 6;
-
-pub const PAYLOAD_AT: usize = 14;
-
-pub const MOST_PAYLOAD: usize = 48;
-
+// The byte that ends a line.
 pub const LINE_END: u8 = 10;
 
 // The room that each reply's line fits in.

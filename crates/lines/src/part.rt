@@ -1,42 +1,35 @@
 // A line's payload: its place, and that part of the caller's line.
 ghost use mathlib.Core.Path.{_≡_};
-ghost use Rattle.lines.specs.Part.{Part, Placed};
-use crate::Command;
-use crate::PAYLOAD_AT;
+ghost use Rattle.lines.specs.Part.{Payload-part, Payload-placed};
 use crate::Place;
 use crate::Reading;
+use crate::forms::form_of;
+use crate::forms::line_number;
 use crate::read_command;
 
 // From start up to end; 0 and 0 with no payload digits, and of a line that is refused.
 pub fn payload_place(line: &[u8]) -> Place
-    ensures { λ r. ⌜ Placed (now (line .entry)) (r .start) (r .end) ⌝ }
+    ensures { λ r. ⌜ Payload-placed (now (line .entry)) (r .start) (r .end) ⌝ }
     ensures { λ _. ⌜ now (line .exit) ≡ now (line .entry) ⌝ }
 {
     let none = Place { start: 0, end: 0 };
     let Reading::Is(command) = read_command(line) else {
         return none;
     };
-    match command {
-        Command::Take(_, _) => {
-            let n = line.len();
-            if PAYLOAD_AT + 1 < n {
-                let end = n - 1;
-                Place {
-                    start: PAYLOAD_AT,
-                    end,
-                }
-            } else {
-                none
-            }
-        }
-        Command::Open(_) => none,
-        Command::Send => none,
+    let form = form_of(line_number(command));
+    let front = form.front;
+    let n = line.len();
+    if front + 1 < n {
+        let end = n - 1;
+        Place { start: front, end }
+    } else {
+        none
     }
 }
 
 // The payload digits, where they stand in the line.
 pub fn payload(line: &[u8]) -> &[u8]
-    ensures { λ r. ⌜ Part (line .entry) r ⌝ }
+    ensures { λ r. ⌜ Payload-part (line .entry) r ⌝ }
     ensures { λ _. ⌜ now (line .exit) ≡ now (line .entry) ⌝ }
 {
     let place = payload_place(line);

@@ -1,91 +1,81 @@
-// A line's command: digits ended by 0A, the line's number first.
+// A line's command: digits ended by 0A, the line's number first, then what its form says.
 ghost use mathlib.Core.Path.{_≡_};
-ghost use Rattle.rules.specs.Lines.{read};
-ghost use Rattle.lines.specs.Cases.{reading-of};
-ghost use Rattle.lines.specs.Spelling.{Begun};
-use crate::Command;
+ghost use Prim.Native.Nat.{_+_, _≤_};
+ghost use lib.ListN.{length};
+ghost use Rattle.rules.specs.Limits.{short-digits};
+ghost use Rattle.rules.specs.Lines.{count-digits, read};
+ghost use Rattle.lines.specs.Cases.{of-reading};
+ghost use Rattle.lines.specs.Forms.{Collects, Small, widths-in};
 use crate::LINE_END;
-use crate::MOST_PAYLOAD;
-use crate::PAYLOAD_AT;
 use crate::Reading;
-use crate::SLOT_AT;
-use crate::WEIGHT_AT;
-use crate::digits::Spelt;
-use crate::digits::digits_only;
-use crate::digits::number;
-use sorts::Slot;
-use sorts::Weight;
+use crate::forms::Form;
+use crate::forms::MOST_NUMBERS;
+use crate::forms::command_of;
+use crate::forms::form_of;
+use digits::SHORT_DIGITS;
+use digits::Spelt;
+use digits::digits_only;
+use digits::number;
+use digits::payload_fits;
 
 // A command, or refusal 1.
 pub fn read_command(line: &[u8]) -> Reading
-    ensures { λ r. ⌜ reading-of r ≡ read (now (line .entry)) ⌝ }
+    ensures { λ r. ⌜ of-reading r ≡ read (now (line .entry)) ⌝ }
     ensures { λ _. ⌜ now (line .exit) ≡ now (line .entry) ⌝ }
 {
     let n = line.len();
-    if n <= SLOT_AT {
+    if n <= SHORT_DIGITS {
         return Reading::Broken;
     }
-    let last = n - 1;
-    if line[last] != LINE_END {
+    let end = n - 1;
+    if line[end] != LINE_END {
         return Reading::Broken;
     }
-    let Spelt::Number(kind) = number(&line[0..SLOT_AT]) else {
+    let Spelt::Number(kind) = number(&line[0..SHORT_DIGITS]) else {
         return Reading::Broken;
     };
-    match kind {
-        0 => read_open(line),
-        1 => read_take(line),
-        2 => read_send(line),
-        _ => Reading::Broken,
+    let form = form_of(kind);
+    let front = form.front;
+    if end < front {
+        return Reading::Broken;
     }
+    if !payload_fits(form.payload, end - front) {
+        return Reading::Broken;
+    }
+    if !digits_only(&line[front..end]) {
+        return Reading::Broken;
+    }
+    let numbers = read_numbers(line, form);
+    if !numbers.good {
+        return Reading::Broken;
+    }
+    let values = numbers.at;
+    command_of(kind, values)
 }
 
-fn read_open(line: &[u8]) -> Reading
-    requires { ⌜ Begun 0 (now line) ⌝ }
-    ensures { λ r. ⌜ reading-of r ≡ read (now (line .entry)) ⌝ }
-{
-    if line.len() != WEIGHT_AT + 1 {
-        return Reading::Broken;
-    }
-    let Spelt::Number(last) = number(&line[SLOT_AT..WEIGHT_AT]) else {
-        return Reading::Broken;
-    };
-    Reading::Is(Command::Open(Slot(last)))
+// A line's numbers behind its own, unless a byte of theirs is no digit.
+pub struct Numbers {
+    pub good: bool,
+    pub at: [u32; MOST_NUMBERS],
 }
 
-fn read_take(line: &[u8]) -> Reading
-    requires { ⌜ Begun 1 (now line) ⌝ }
-    ensures { λ r. ⌜ reading-of r ≡ read (now (line .entry)) ⌝ }
+fn read_numbers(line: &[u8], form: Form) -> Numbers
+    requires { ⌜ Small form × (short-digits + count-digits (widths-in form) ≤ length (now line)) ⌝ }
+    ensures { λ r. ⌜ Collects (widths-in form) (now (line .entry)) r ⌝ }
 {
-    let end = line.len() - 1;
-    if end < PAYLOAD_AT {
-        return Reading::Broken;
+    let count = form.count;
+    let widths = form.widths;
+    let mut at = [0u32; MOST_NUMBERS];
+    let mut from = SHORT_DIGITS;
+    let mut i = 0;
+    while i < count {
+        let next = from + widths[i];
+        let Spelt::Number(v) = number(&line[from..next]) else {
+            return Numbers { good: false, at };
+        };
+        at[i] = v;
+        from = next;
+        i += 1;
     }
-    if PAYLOAD_AT + MOST_PAYLOAD < end {
-        return Reading::Broken;
-    }
-    if end % 2 != 0 {
-        return Reading::Broken;
-    }
-    let Spelt::Number(due) = number(&line[SLOT_AT..WEIGHT_AT]) else {
-        return Reading::Broken;
-    };
-    let Spelt::Number(weight) = number(&line[WEIGHT_AT..PAYLOAD_AT]) else {
-        return Reading::Broken;
-    };
-    if !digits_only(&line[PAYLOAD_AT..end]) {
-        return Reading::Broken;
-    }
-    Reading::Is(Command::Take(Slot(due), Weight(weight)))
-}
-
-fn read_send(line: &[u8]) -> Reading
-    requires { ⌜ Begun 2 (now line) ⌝ }
-    ensures { λ r. ⌜ reading-of r ≡ read (now (line .entry)) ⌝ }
-{
-    if line.len() == SLOT_AT + 1 {
-        Reading::Is(Command::Send)
-    } else {
-        Reading::Broken
-    }
+    Numbers { good: true, at }
 }

@@ -1,108 +1,107 @@
 // The line of a command and its payload digits, written into a lent buffer.
 ghost use mathlib.Core.Path.{_≡_};
-ghost use mathlib.Core.List.{_++_};
-ghost use Prim.Native.Nat.{_≤_};
-ghost use lib.ListN.{length, drop};
-ghost use Rattle.rules.specs.Lines.{stands};
-ghost use Rattle.theory.specs.Lines.{front, front-size};
-ghost use Rattle.lines.specs.Cases.{command-of};
-ghost use Rattle.lines.specs.Writing.{Writes, payload-stands};
+ghost use mathlib.Core.Bool.{_&&_};
+ghost use Prim.Native.Nat.{_+_, _≤_};
+ghost use lib.ListN.{length};
+ghost use Rattle.rules.specs.Limits.{short-digits};
+ghost use Rattle.rules.specs.Lines.{all-digits, count-digits, fit-digits, numerals, payload-fits};
+ghost use Rattle.digits.specs.Spelling.{put};
+ghost use Rattle.lines.specs.Cases.{of-command};
+ghost use Rattle.lines.specs.Forms.{Small, most-numbers, values-in, widths-in};
+ghost use Rattle.lines.specs.Writing.{Writes};
 use crate::Command;
-use crate::KIND_DIGITS;
 use crate::LINE_END;
-use crate::MOST_PAYLOAD;
-use crate::PAYLOAD_AT;
-use crate::SLOT_AT;
-use crate::SLOT_DIGITS;
-use crate::WEIGHT_AT;
-use crate::WIDE_DIGITS;
 use crate::Written;
-use crate::digits::digits_only;
-use crate::digits::put_bytes;
-use crate::digits::put_number;
-use sorts::Slot;
+use crate::forms::Form;
+use crate::forms::MOST_NUMBERS;
+use crate::forms::form_of;
+use crate::forms::line_number;
+use crate::forms::values_of;
+use digits::SHORT_DIGITS;
+use digits::digits_only;
+use digits::fits;
+use digits::payload_fits;
+use digits::put_number;
 
 // Refusal 1 comes before 12, and a refusal changes no byte.
 pub fn write_line(command: Command, payload: &[u8], buffer: &mut [u8]) -> Written
-    ensures { λ r. ⌜ Writes (command-of command) (now (payload .entry)) (now (buffer .entry)) (now (buffer .exit)) r ⌝ }
+    ensures { λ r. ⌜ Writes (of-command command) (now (payload .entry)) (now (buffer .entry)) (now (buffer .exit)) r ⌝ }
     ensures { λ _. ⌜ now (payload .exit) ≡ now (payload .entry) ⌝ }
 {
-    if !can_stand(command, payload) {
+    let number = line_number(command);
+    let form = form_of(number);
+    let values = values_of(command);
+    if !can_stand(form, values, payload) {
         return Written::Refused(1);
     }
-    let front = front_size(command);
+    let front = form.front;
     let end = front + payload.len();
     if buffer.len() <= end {
         return Written::Refused(12);
     }
-    put_front(command, buffer);
-    put_bytes(payload, front, buffer);
+    put_number(number, SHORT_DIGITS, 0, buffer);
+    put_values(form, values, buffer);
+    put_payload(payload, front, buffer);
     buffer[end] = LINE_END;
     let n = end + 1;
     Written::Length(n)
 }
 
-// The most that four digits hold.
-const SLOT_MOST: Slot = Slot(65535);
-
-fn can_stand(command: Command, payload: &[u8]) -> bool
-    ensures { λ r. ⌜ r ≡ stands (command-of command) (now (payload .entry)) ⌝ }
+fn can_stand(form: Form, values: [u32; MOST_NUMBERS], payload: &[u8]) -> bool
+    requires { ⌜ Small form × (length values ≡ most-numbers) ⌝ }
+    ensures { λ r. ⌜ r ≡ fit-digits (widths-in form) (values-in form values) && (all-digits (now (payload .entry)) && payload-fits (form .payload) (length (now (payload .entry)))) ⌝ }
 {
-    match command {
-        Command::Open(last) => {
-            if SLOT_MOST.0 < last.0 {
-                return false;
-            }
-            payload.len() == 0
-        }
-        Command::Take(due, _) => {
-            if SLOT_MOST.0 < due.0 {
-                return false;
-            }
-            payload_can_stand(payload)
-        }
-        Command::Send => payload.len() == 0,
-    }
-}
-
-fn payload_can_stand(payload: &[u8]) -> bool
-    ensures { λ r. ⌜ r ≡ payload-stands (now (payload .entry)) ⌝ }
-{
-    let n = payload.len();
-    if MOST_PAYLOAD < n {
+    if !values_fit(form, values) {
         return false;
     }
-    if n % 2 != 0 {
+    if !payload_fits(form.payload, payload.len()) {
         return false;
     }
     digits_only(payload)
 }
 
-// How many digits come before the payload.
-fn front_size(command: Command) -> usize
-    ensures { λ r. ⌜ r ≡ front-size (command-of command) ⌝ }
+// Whether each value fits its digits.
+fn values_fit(form: Form, values: [u32; MOST_NUMBERS]) -> bool
+    requires { ⌜ Small form × (length values ≡ most-numbers) ⌝ }
+    ensures { λ r. ⌜ r ≡ fit-digits (widths-in form) (values-in form values) ⌝ }
 {
-    match command {
-        Command::Open(_) => WEIGHT_AT,
-        Command::Take(_, _) => PAYLOAD_AT,
-        Command::Send => SLOT_AT,
+    let count = form.count;
+    let widths = form.widths;
+    let mut i = 0;
+    while i < count {
+        if !fits(values[i], widths[i]) {
+            return false;
+        }
+        i += 1;
+    }
+    true
+}
+
+// Each value behind the one before, the first behind the line's number.
+fn put_values(form: Form, values: [u32; MOST_NUMBERS], buffer: &mut [u8])
+    requires { ⌜ Small form × (length values ≡ most-numbers) × (short-digits + count-digits (widths-in form) ≤ length (now buffer)) ⌝ }
+    ensures { λ _. ⌜ now (buffer .exit) ≡ put short-digits (numerals (widths-in form) (values-in form values)) (now (buffer .entry)) ⌝ }
+{
+    let count = form.count;
+    let widths = form.widths;
+    let mut at = SHORT_DIGITS;
+    let mut i = 0;
+    while i < count {
+        let width = widths[i];
+        put_number(values[i], width, at, buffer);
+        at += width;
+        i += 1;
     }
 }
 
-fn put_front(command: Command, buffer: &mut [u8])
-    requires { ⌜ front-size (command-of command) ≤ length (now buffer) ⌝ }
-    ensures { λ _. ⌜ now (buffer .exit) ≡ front (command-of command) ++ drop (front-size (command-of command)) (now (buffer .entry)) ⌝ }
+// The payload, from a place of the buffer on.
+fn put_payload(payload: &[u8], at: usize, buffer: &mut [u8])
+    requires { ⌜ at + length (now payload) ≤ length (now buffer) ⌝ }
+    ensures { λ _. ⌜ now (buffer .exit) ≡ put at (now (payload .entry)) (now (buffer .entry)) ⌝ }
 {
-    match command {
-        Command::Open(last) => {
-            put_number(0, KIND_DIGITS, 0, buffer);
-            put_number(last.0, SLOT_DIGITS, SLOT_AT, buffer);
-        }
-        Command::Take(due, weight) => {
-            put_number(1, KIND_DIGITS, 0, buffer);
-            put_number(due.0, SLOT_DIGITS, SLOT_AT, buffer);
-            put_number(weight.0, WIDE_DIGITS, WEIGHT_AT, buffer);
-        }
-        Command::Send => put_number(2, KIND_DIGITS, 0, buffer),
+    let mut i = 0;
+    while i < payload.len() {
+        buffer[at + i] = payload[i];
+        i += 1;
     }
 }

@@ -8,11 +8,11 @@ use native.Mathlib.Omega.{arith}
 use lib.ListN.{length, take, drop, length-take, length-drop, take-append-drop}
 use lib.Seq.{length-take-le, drop-drop}
 use Rattle.rules.specs.Calls.{refused, answer, left, run}
-use Rattle.rules.specs.Lines.{Command, call-of, command, broken, read, read-refusal, reply-text, turn, printed-from}
+use Rattle.rules.specs.Lines.{Command, call-of, command, broken, read, read-refusal, reply-text, reply-room, reply-ratio, turn, printed-from}
 use Rattle.rules.specs.Reads.{begun-from, asked, calls-of, stops}
 use Rattle.theory.specs.Tests.{ltb?}
-use Rattle.lines.specs.Ends.{None, First}
-use Rattle.lines.proofs.Commands.{short}
+use Rattle.lines.specs.Ends.{No-end, First-end}
+use Rattle.lines.proofs.ReadLines.{short}
 use Rattle.lines.proofs.Cuts.{cut, uncut}
 use Rattle.serving.specs.declared.answering.Progress.{Progress}
 use Rattle.serving.specs.Answering.{lines, bytes-read, Answers}
@@ -49,9 +49,9 @@ command-long c line e =
 
 -- THE LINES ANSWERED so far
 pub record Answering (input t z before after : List ℕ) (read wrote : ℕ) : Type 0 where
-  pub room : 5 * length input + 15 ≤ length before
+  pub room : reply-ratio * length input + reply-room ≤ length before
   pub within : read ≤ length input
-  pub small : wrote ≤ 5 * read
+  pub small : wrote ≤ reply-ratio * read
   pub long : length after ≡ length before
   pub kept : drop wrote after ≡ drop wrote before
   pub said : printed-from (lines input) t ≡ take wrote after ++ printed-from (lines (drop read input)) z
@@ -60,7 +60,7 @@ pub record Answering (input t z before after : List ℕ) (read wrote : ℕ) : Ty
   pub size : bytes-read (lines input) ≡ bytes-read (lines (drop read input)) + read
   pub begun : begun-from [] input ≡ begun-from [] (drop read input)
 
-pub answering-none : (input t o : List ℕ) → 5 * length input + 15 ≤ length o → Answering input t t o o 0 0
+pub answering-none : (input t o : List ℕ) → reply-ratio * length input + reply-room ≤ length o → Answering input t t o o 0 0
 answering-none input t o h =
     record {
       room = h;
@@ -79,7 +79,7 @@ pub out-within : {input t z before after : List ℕ} {from wrote : ℕ} → Answ
 out-within s = omega (arith, s .room, s .within, s .small, s .long)
 
 pub room-left : {input t z before after : List ℕ} {from wrote : ℕ} → Answering input t z before after from wrote →
-    15 ≤ length (take (length after - wrote) (drop wrote after))
+    reply-room ≤ length (take (length after - wrote) (drop wrote after))
 room-left {after = o} {wrote = w} s =
     omega (arith, s .room, s .within, s .small, s .long, length-take (length o - w) (drop w o), length-drop w o)
 
@@ -94,7 +94,7 @@ printed-whole before after ps w h e f =
     (l, sym (take-append-drop w after) ∙ rw (e, ← f, ← l))
 
 module _ {input t z before after : List ℕ} {from wrote : ℕ} (s : Answering input t z before after from wrote) where
-  module _ {at r : ℕ} {o : List ℕ} (end : First input from at) where
+  module _ {at r : ℕ} {o : List ℕ} (end : First-end input from at) where
     -- a command's line more
     pub answering-more : (c : Command) {z′ : List ℕ} {next put : ℕ} → command c ≡ read (take (at + 1 - from) (drop from input)) →
         (next ≡ at + 1) × (put ≡ wrote + r) → z′ ≡ left (call-of c) z →
@@ -153,7 +153,7 @@ module _ {input t z before after : List ℕ} {from wrote : ℕ} (s : Answering i
         }
 
   -- no complete line is left
-  pub answered-all : {p : Progress} → (p .read ≡ from) × (p .wrote ≡ wrote) × (p .stopped ≡ false) → None input from (length input) →
+  pub answered-all : {p : Progress} → (p .read ≡ from) × (p .wrote ≡ wrote) × (p .stopped ≡ false) → No-end input from (length input) →
       Answers input t before z after p
   unfolding printed-from calls-of run stops bytes-read
   answered-all {p} q f =

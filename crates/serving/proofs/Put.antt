@@ -7,12 +7,12 @@ use lib.ListN.{length, take, drop, length-append, length-take, length-drop, drop
 use lib.Seq.{length-take-le, take-all, drop-drop, take-at, drop-at}
 use borrow.Rule.Slice.PartMut.{putMid}
 use Rattle.rules.specs.Calls.{Reply, refused, done, ticket, step, amount, blank-due, ordinary, leap, silence, frame, kept-blank}
-use Rattle.rules.specs.Lines.{reply-digits, reply-text, out-digits}
+use Rattle.rules.specs.Lines.{reply-digits, reply-text, reply-room, out-digits}
 use Rattle.theory.specs.Digits.{length-digits}
 use Rattle.lines.specs.Writing.{Replies}
 
 -- HOW LONG a reply is
-pub reply-long : (r : Reply) → length (reply-text r) ≤ 15
+pub reply-long : (r : Reply) → length (reply-text r) ≤ reply-room
 unfolding reply-text reply-digits out-digits
 reply-long (refused n) = simp (length-append, length-digits) (omega arith)
 reply-long done = simp (length-append, length-digits) (omega arith)

@@ -6,7 +6,7 @@ use Prim.Native.Nat.{ℕ, _+_, _*_, _≤_}
 use lib.Dec.{eqb}
 use lib.ListN.{length, drop}
 use Rattle.rules.specs.Calls.{run}
-use Rattle.rules.specs.Lines.{read-refusal, printed-from}
+use Rattle.rules.specs.Lines.{read-refusal, reply-ratio, printed-from}
 use Rattle.rules.specs.Reads.{complete-from, begun-from, calls-of, stops}
 use Rattle.serving.specs.declared.answering.Progress.{Progress}
 
@@ -31,5 +31,5 @@ pub record Answers (input t out t′ out′ : List ℕ) (r : Progress) : Type 0 
   pub moved : t′ ≡ run (calls-of (lines input)) t
   pub read : r .read ≡ bytes-read (lines input)
   pub within : r .read ≤ length input
-  pub small : r .wrote ≤ 5 * r .read
+  pub small : r .wrote ≤ reply-ratio * r .read
   pub rest : r .stopped ≡ false → drop (r .read) input ≡ begun-from [] input

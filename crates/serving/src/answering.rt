@@ -3,6 +3,7 @@ ghost use mathlib.Core.Path.{_≡_};
 ghost use mathlib.Core.Bool.{false};
 ghost use Prim.Native.Nat.{_+_, _*_, _≤_};
 ghost use lib.ListN.{length};
+ghost use Rattle.rules.specs.Lines.{reply-ratio, reply-room};
 ghost use Rattle.serving.specs.Answering.{Answers};
 use lines::LineEnd;
 use lines::Reading;
@@ -18,9 +19,9 @@ pub struct Progress {
     pub stopped: bool,
 }
 
-// As long as a complete line is there; nothing follows refusal 1. No reply is over five times as long as its line.
+// As long as a complete line is there; nothing follows refusal 1. A reply is at most reply-ratio times as long as its line.
 pub fn answer_lines_in_room(input: &[u8], table: &mut [u8], out: &mut [u8]) -> Progress
-    requires { ⌜ 5 * length (now input) + 15 ≤ length (now out) ⌝ }
+    requires { ⌜ reply-ratio * length (now input) + reply-room ≤ length (now out) ⌝ }
     ensures { λ r. ⌜ Answers (now (input .entry)) (now (table .entry)) (now (out .entry)) (now (table .exit)) (now (out .exit)) r ⌝ }
     ensures { λ r. ⌜ now (input .exit) ≡ now (input .entry) ⌝ }
 {

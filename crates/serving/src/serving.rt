@@ -3,6 +3,7 @@ ghost use mathlib.Core.Path.{_≡_};
 ghost use mathlib.Core.Bool.{true};
 ghost use Prim.Native.Nat.{_+_, _*_, _≤_};
 ghost use lib.ListN.{length};
+ghost use Rattle.rules.specs.Lines.{reply-ratio, reply-room};
 ghost use Rattle.serving.specs.Serving.{Serves, Ending, Behind, moved-front};
 use crate::LONGEST_LINE;
 use crate::Served;
@@ -17,7 +18,7 @@ pub fn serve_in_room(
     table: &mut [u8],
     out: &mut [u8],
 ) -> Served
-    requires { ⌜ (held + got ≤ length (now input)) × (5 * (held + got) + 15 ≤ length (now out)) ⌝ }
+    requires { ⌜ (held + got ≤ length (now input)) × (reply-ratio * (held + got) + reply-room ≤ length (now out)) ⌝ }
     ensures { λ r. ⌜ Serves held got (now (input .entry)) (now (table .entry)) (now (out .entry)) (now (input .exit)) (now (table .exit)) (now (out .exit)) r ⌝ }
 {
     if got == 0 {
@@ -55,7 +56,7 @@ fn over(wrote: usize) -> Served
 
 // A line that the end of the input leaves unended: refusal 1.
 fn end_input(held: usize, out: &mut [u8]) -> usize
-    requires { ⌜ 15 ≤ length (now out) ⌝ }
+    requires { ⌜ reply-room ≤ length (now out) ⌝ }
     ensures { λ r. ⌜ Ending held (now (out .entry)) (now (out .exit)) r ⌝ }
 {
     if held == 0 {
@@ -66,7 +67,7 @@ fn end_input(held: usize, out: &mut [u8]) -> usize
 
 // A line begun that is longer than any command's: refusal 1 behind the replies. It answers how many bytes are written then.
 fn refuse_behind(wrote: usize, out: &mut [u8]) -> usize
-    requires { ⌜ wrote + 15 ≤ length (now out) ⌝ }
+    requires { ⌜ wrote + reply-room ≤ length (now out) ⌝ }
     ensures { λ r. ⌜ Behind wrote (now (out .entry)) (now (out .exit)) r ⌝ }
 {
     wrote + write_refusal_in_room(1, &mut out[wrote..])

@@ -69,8 +69,8 @@ pub mod PlayedOut
 pub mod Digits
 pub mod Numerals
 pub mod Lines
-pub mod Reader
 pub mod Broken
+pub mod Reader
 pub mod Complete
 pub mod Printing
 pub mod Served

@@ -55,6 +55,12 @@ command-made (suc (suc zero)) vs c l e = told c send-line refl (got-all 0 0 vs (
 command-made (suc (suc (suc k))) vs c l e =
     absurd (not-broken c (sym (no-line (suc (suc (suc k))) vs (λ q. omega arith) (λ q. omega arith) (λ q. omega arith)) ∙ e))
 
+pub as-many : (c : Command) → length (values-of c) ≡ length (form-of c .widths)
+unfolding forms found line-number values-of
+as-many (open-line l) = refl
+as-many (take-line d w) = refl
+as-many send-line = refl
+
 pub front-small : (c : Command) → front-size (form-of c) ≤ payload-at
 unfolding count-digits forms found front-size line-number
 front-small (open-line l) = omega arith

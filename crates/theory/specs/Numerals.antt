@@ -1,11 +1,11 @@
 -- Numbers side by side in digits: what stands there is read, and what is read stands there: numbers-read, numbers-stand.
 use mathlib.Core.Path.{_≡_, refl, sym, ap, ap₂, _∙_}
-use mathlib.Core.Bool.{true, false≢true}
-use mathlib.Core.List.{List, [], _∷_, _++_, append-assoc}
-use Prim.Native.Nat.{ℕ, zero, suc, _+_, _^_, _≤_}
+use mathlib.Core.Bool.{true, _&&_, false≢true}
+use mathlib.Core.List.{List, [], _∷_, _++_, append-assoc, append-nil}
+use Prim.Native.Nat.{ℕ, zero, suc, _+_, _^_, _≤_, _<_}
 use native.Mathlib.Omega.{arith}
 use lib.Dec.{ltb}
-use lib.ListN.{length, getD, drop, length-append, drop-of-length-le}
+use lib.ListN.{length, getD, take, drop, length-append, drop-of-length-le}
 use lib.Seq.{drop-at, drop-drop, drop-cons}
 use borrow.Author.Tests.{ltb-true, lt-ltb}
 use Rattle.rules.specs.Lines.{digits, all-digits, count-digits, numerals, fit-digits, number-at, numbers-at}
@@ -82,3 +82,41 @@ numbers-stand (n ∷ ns) a ds e h =
           ∙ sym (append-assoc (digits n v) rest (drop (a + (n + count-digits ns)) ds));
       fit = rw (lt-ltb v (16 ^ n) (p .fits)) (r .fit);
     }
+
+-- ONE NUMBER MORE: the digits so far, the digits written, the number read, and whether the rest fits
+pub count-more : (ns : List ℕ) (i : ℕ) → i < length ns → count-digits (take (suc i) ns) ≡ count-digits (take i ns) + getD ns i 0
+unfolding count-digits
+count-more [] i h = absurd (omega arith)
+count-more (n ∷ ns) zero h = omega arith
+count-more (n ∷ ns) (suc i) h = omega (arith, count-more ns i (omega arith))
+
+pub count-least : (ns : List ℕ) (i : ℕ) → count-digits (take i ns) ≤ count-digits ns
+unfolding count-digits
+count-least [] zero = omega arith
+count-least [] (suc i) = omega arith
+count-least (n ∷ ns) zero = omega arith
+count-least (n ∷ ns) (suc i) = omega (arith, count-least ns i)
+
+pub numerals-more : (ns vs : List ℕ) (i : ℕ) → i < length ns → length vs ≡ length ns →
+    numerals (take (suc i) ns) (take (suc i) vs) ≡ numerals (take i ns) (take i vs) ++ digits (getD ns i 0) (getD vs i 0)
+unfolding numerals
+numerals-more [] vs i h e = absurd (omega arith)
+numerals-more (n ∷ ns) [] i h e = absurd (omega arith)
+numerals-more (n ∷ ns) (v ∷ vs) zero h e = append-nil (digits n v)
+numerals-more (n ∷ ns) (v ∷ vs) (suc i) h e =
+    ap (λ (bs : List ℕ). digits n v ++ bs) (numerals-more ns vs i (omega arith) (omega arith))
+    ∙ sym (append-assoc (digits n v) (numerals (take i ns) (take i vs)) (digits (getD ns i 0) (getD vs i 0)))
+
+pub number-in : (ns : List ℕ) (a : ℕ) (ds : List ℕ) (i : ℕ) → i < length ns →
+    getD (numbers-at a ns ds) i 0 ≡ number-at (a + count-digits (take i ns)) (getD ns i 0) ds
+unfolding numbers-at count-digits
+number-in [] a ds i h = absurd (omega arith)
+number-in (n ∷ ns) a ds zero h = let m : a ≡ a + 0 = omega arith in ap (λ (k : ℕ). number-at k n ds) m
+number-in (n ∷ ns) a ds (suc i) h =
+    let m : a + n + count-digits (take i ns) ≡ a + (n + count-digits (take i ns)) = omega arith in
+    number-in ns (a + n) ds i (omega arith) ∙ ap (λ (k : ℕ). number-at k (getD ns i 0) ds) m
+
+pub fit-more : (ns vs : List ℕ) (i : ℕ) → i < length ns → i < length vs →
+    fit-digits (drop i ns) (drop i vs) ≡ ltb (getD vs i 0) (16 ^ getD ns i 0) && fit-digits (drop (suc i) ns) (drop (suc i) vs)
+unfolding fit-digits
+fit-more ns vs i h g = rw (drop-cons ns i 0 h, drop-cons vs i 0 g)

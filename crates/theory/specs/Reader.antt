@@ -3,14 +3,17 @@ use mathlib.Core.Path.{_≡_, refl, sym, ap, _∙_}
 use mathlib.Core.Logic.{_⊎_, inl, inr}
 use mathlib.Core.Bool.{true}
 use mathlib.Core.List.{List, []}
-use Prim.Native.Nat.{ℕ, _+_, _≤_}
+use Prim.Native.Nat.{ℕ, suc, _+_, _-_, _≤_, _<_}
 use native.Mathlib.Omega.{arith}
 use lib.ListN.{length}
-use Rattle.rules.specs.Lines.{form-of, front-size, Command, text, stands, Reading, command, broken, reading-refusal, read, read-refusal}
-use Rattle.rules.specs.Lines.{payload-at, place-of, payload-place, payload}
+use Rattle.rules.specs.Lines.{form-of, front-size, Command, text, stands, Reading, command, broken, reading-refusal, body, read, read-refusal}
+use Rattle.rules.specs.Lines.{payload-at, Place, place-of, payload-place, payload}
 use Rattle.rules.specs.Conditions.{No-command, read-given}
 use Rattle.rules.specs.Demands.{Place-is, Read-refusals, Payload-places}
-use Rattle.theory.specs.Lines.{payload-start, length-text, Stands, from-stands, not-broken, has-payload, place-behind, place-bare, read-text, text-read}
+use Rattle.theory.specs.Tests.{ltb?}
+use Rattle.theory.specs.Lines.{payload-start, length-text, Stands, from-stands, from-long, not-broken, command-ended}
+use Rattle.theory.specs.Lines.{place, has-payload, place-behind, place-bare, read-text, text-read}
+use Rattle.theory.specs.Broken.{length-body}
 
 -- a line is read as a command, or is none's text
 abbrev pub Read-or-not : (line : List ℕ) → Reading → Type 0
@@ -55,3 +58,33 @@ payload-places = (
   λ c s. rw (text-read c [] s .0) (place-none c (length (text c [])) (length-bare c s)),
   λ c ps s h. rw (text-read c ps s .0) (place-some c ps (length (text c ps)) (from-stands c ps s) h (length-text c ps s)),
 )
+
+-- the same by the reading and the line's length; it lies within the line
+pub payload-behind : (c : Command) (line : List ℕ) → read line ≡ command c → suc (front-size (form-of c)) < length line →
+    payload-place line ≡ place (front-size (form-of c)) (length line - 1)
+unfolding payload-place
+payload-behind c line e h =
+    let f = form-of c in
+    let n = length (body line) in
+    let l = from-long f n (command-ended c line e .reads .long) in
+    let p = has-payload (f .payload) (n - front-size f) (l .payload) (omega (arith, length-body line)) in
+    ap (λ (r : Reading). place-of r (length line)) e ∙ place-behind c (length line) p h
+
+pub payload-bare : (c : Command) (line : List ℕ) → read line ≡ command c → length line ≤ suc (front-size (form-of c)) →
+    payload-place line ≡ place 0 0
+unfolding payload-place
+payload-bare c line e h = ap (λ (r : Reading). place-of r (length line)) e ∙ place-bare c (length line) h
+
+pub payload-broken : (line : List ℕ) → read line ≡ broken → payload-place line ≡ place 0 0
+unfolding payload-place place-of
+payload-broken line e = rw e
+
+pub place-within : (line : List ℕ) → (payload-place line .start ≤ payload-place line .end) × (payload-place line .end ≤ length line)
+place-within line = told (read line) refl
+  where
+    told : (r : Reading) → read line ≡ r → (payload-place line .start ≤ payload-place line .end) × (payload-place line .end ≤ length line)
+    told broken e = rw (payload-broken line e) (omega arith, omega arith)
+    told (command c) e = elim (ltb? (suc (front-size (form-of c))) (length line)) [
+      | inl h ↦ rw (payload-behind c line e (h .1)) (omega (arith, h .1), omega (arith, h .1))
+      | inr h ↦ rw (payload-bare c line e (h .1)) (omega arith, omega arith)
+    ]

@@ -2,7 +2,7 @@
 ghost use Prim.Native.Nat.{_≤_};
 ghost use lib.ListN.{length};
 ghost use Rattle.rules.specs.Calls.{step};
-ghost use Rattle.rules.specs.Lines.{reply-text};
+ghost use Rattle.rules.specs.Lines.{reply-room, reply-text};
 ghost use Rattle.replies.specs.Replies.{of-opened, of-taken, of-out, of-step, of-sent};
 ghost use Rattle.lines.specs.Cases.{out-number, out-ticket};
 ghost use Rattle.lines.specs.Writing.{Replies, step-text};
@@ -18,7 +18,7 @@ use replies::Taken;
 use sorts::Ticket;
 
 pub fn say_opened(opened: Opened, reply: &mut [u8]) -> usize
-    requires { ⌜ 15 ≤ length (now reply) ⌝ }
+    requires { ⌜ reply-room ≤ length (now reply) ⌝ }
     ensures { λ r. ⌜ Replies (reply-text (of-opened opened)) (now (reply .entry)) (now (reply .exit)) r ⌝ }
 {
     match opened {
@@ -28,7 +28,7 @@ pub fn say_opened(opened: Opened, reply: &mut [u8]) -> usize
 }
 
 pub fn say_taken(taken: Taken, reply: &mut [u8]) -> usize
-    requires { ⌜ 15 ≤ length (now reply) ⌝ }
+    requires { ⌜ reply-room ≤ length (now reply) ⌝ }
     ensures { λ r. ⌜ Replies (reply-text (of-taken taken)) (now (reply .entry)) (now (reply .exit)) r ⌝ }
 {
     match taken {
@@ -38,7 +38,7 @@ pub fn say_taken(taken: Taken, reply: &mut [u8]) -> usize
 }
 
 pub fn say_sent(sent: Sent, reply: &mut [u8]) -> usize
-    requires { ⌜ 15 ≤ length (now reply) ⌝ }
+    requires { ⌜ reply-room ≤ length (now reply) ⌝ }
     ensures { λ r. ⌜ Replies (reply-text (of-sent sent)) (now (reply .entry)) (now (reply .exit)) r ⌝ }
 {
     match sent {
@@ -53,7 +53,7 @@ const ORDINARY: u32 = 0;
 const LEAP: u32 = 1;
 
 fn say_step(went: Step, reply: &mut [u8]) -> usize
-    requires { ⌜ 15 ≤ length (now reply) ⌝ }
+    requires { ⌜ reply-room ≤ length (now reply) ⌝ }
     ensures { λ r. ⌜ Replies (reply-text (step (of-step went))) (now (reply .entry)) (now (reply .exit)) r ⌝ }
 {
     match went {
@@ -64,7 +64,7 @@ fn say_step(went: Step, reply: &mut [u8]) -> usize
 
 // What went out, in a step of either number; silence has no ticket.
 fn say_out(out: Out, leap: u32, reply: &mut [u8]) -> usize
-    requires { ⌜ 15 ≤ length (now reply) ⌝ }
+    requires { ⌜ reply-room ≤ length (now reply) ⌝ }
     ensures { λ r. ⌜ Replies (step-text (out-number (of-out out)) leap (out-ticket (of-out out))) (now (reply .entry)) (now (reply .exit)) r ⌝ }
 {
     match out {

@@ -1,7 +1,8 @@
 // A command's turn: its call on the table, and the line of the reply.
 ghost use Prim.Native.Nat.{_≤_};
 ghost use lib.ListN.{length};
-ghost use Rattle.lines.specs.Cases.{command-of};
+ghost use Rattle.rules.specs.Lines.{reply-room};
+ghost use Rattle.lines.specs.Cases.{of-command};
 ghost use Rattle.turns.specs.Turns.{Turns};
 use crate::saying::say_opened;
 use crate::saying::say_sent;
@@ -12,8 +13,8 @@ use calls::taking::take_frame;
 use lines::Command;
 
 pub fn take_turn_in_room(command: Command, table: &mut [u8], reply: &mut [u8]) -> usize
-    requires { ⌜ 15 ≤ length (now reply) ⌝ }
-    ensures { λ r. ⌜ Turns (command-of command) (now (table .entry)) (now (table .exit)) (now (reply .entry)) (now (reply .exit)) r ⌝ }
+    requires { ⌜ reply-room ≤ length (now reply) ⌝ }
+    ensures { λ r. ⌜ Turns (of-command command) (now (table .entry)) (now (table .exit)) (now (reply .entry)) (now (reply .exit)) r ⌝ }
 {
     match command {
         Command::Open(last) => say_opened(open_round(last, table), reply),

@@ -4,13 +4,13 @@ use Prim.Native.Nat.{_≤_, _-_}
 use native.Mathlib.Omega.{arith}
 use lib.ListN.{length}
 use borrow.Author.Needs.{needs}
-use Rattle.lines.specs.Ends.{None}
+use Rattle.lines.specs.Ends.{No-end}
 use Rattle.lines.proofs.Cuts.{none-more}
 use Rattle.lines.proofs.ends.line_end.Statement.{statement}
 use Rattle.lines.proofs.ends.line_end.Tie as tie
 
 abbrev Inv-loop : tie.InvT-loop
-Inv-loop input from i₀ i = (from ≤ i) × None input from i
+Inv-loop input from i₀ i = (from ≤ i) × No-end input from i
 
 abbrev μ-loop : tie.MeasureT-loop
 μ-loop input from i₀ i = length input - i

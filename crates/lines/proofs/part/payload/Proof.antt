@@ -4,7 +4,8 @@ use Prim.Native.Nat.{_≤_}
 use native.Mathlib.Omega.{arith}
 use lib.ListN.{length}
 use borrow.Author.Needs.{needs}
-use Rattle.lines.proofs.Places.{place-within, placed-part}
+use Rattle.theory.specs.Reader.{place-within}
+use Rattle.lines.proofs.Places.{placed-part}
 use Rattle.lines.proofs.part.payload.Statement.{statement}
 use Rattle.lines.proofs.part.payload.Tie as tie
 

@@ -1,7 +1,11 @@
 -- `lines::payload_place` meets its contract: the place, by what the line is read as.
-use mathlib.Core.Path.{refl}
+use mathlib.Core.Path.{_≡_, refl, ap, _∙_}
+use native.Mathlib.Omega.{arith}
 use borrow.Author.Needs.{needs}
-use Rattle.lines.proofs.Places.{placed-broken, placed-open, placed-send, placed-take, placed-bare}
+use Rattle.rules.specs.Lines.{form-of, form-numbered, front-size}
+use Rattle.theory.specs.Lines.{front-small}
+use Rattle.lines.specs.Cases.{of-command}
+use Rattle.lines.proofs.Places.{placed-broken, placed-behind, placed-bare}
 use Rattle.lines.proofs.part.payload_place.Statement.{statement}
 use Rattle.lines.proofs.part.payload_place.Tie as tie
 
@@ -16,68 +20,37 @@ enum-told c = search needs
 
 returns : tie.Need-returns
 returns c = (
-  placed-broken (c .before .before .before .before .args .line .now) (c .before .before .read-command .ensures .0) (c .enum-told .given .1)
-      (search needs) (search needs),
+  placed-broken (c .before .before .before .before .args .line .now) (c .before .before .read-command .ensures .0) (c .enum-told .given .1) (search needs) (search needs),
   refl,
 )
 
-enum-told-2 : tie.Need-enum-told-2
-enum-told-2 c = search needs
+line-number-requires : tie.Need-line-number-requires
+line-number-requires c κs = search needs
+
+form-of-requires : tie.Need-form-of-requires
+form-of-requires c κs = search needs
+
+-- the front of the command's form
+front-here : (c : tie.After-form-of) → c .form-of .result .front ≡ front-size (form-of (of-command (c .before .before .before .command .given .0 .0)))
+front-here c = c .form-of .ensures .front ∙ ap (λ k. front-size (form-numbered k)) (c .before .line-number .ensures)
 
 add-if1 : tie.Need-add-if1
-add-if1 c = search needs
+add-if1 c = omega (arith, front-here c, front-small (of-command (c .before .before .before .command .given .0 .0)))
 
 sub-end : tie.Need-sub-end
 sub-end c = search needs
 
-enum-told-3 : tie.Need-enum-told-3
-enum-told-3 c = search needs
-
-enum-told-4 : tie.Need-enum-told-4
-enum-told-4 c = search needs
-
 returns-2 : tie.Need-returns-2
 returns-2 c =
-    let line = c .before .before .before .before .before .before .before .before .args .line .now in
-    let told = c .before in
-    let is = told .before .before .before .command .given .1 in (
-      placed-take line (c .before .before .before .before .before .before .read-command .ensures .0) is (told .enum-told2 .given .0 .0)
-          (told .enum-told2 .given .0 .1 .0)
-          (told .enum-told2 .given .1)
-          (search needs)
-          (search needs)
-          (search needs),
-      refl,
-    )
+    let form = c .before in
+    let known = form .before .before .before in
+    (placed-behind (c .before .before .before .before .before .before .before .before .args .line .now) (known .before .before .read-command .ensures .0) (known .command .given .1) (front-here form) (c .if1 .taken) refl refl, refl)
 
 returns-3 : tie.Need-returns-3
 returns-3 c =
-    let line = c .before .before .before .before .before .before .before .before .args .line .now in
-    let told = c .before in
-    let is = told .before .before .before .command .given .1 in (
-      placed-bare line (c .before .before .before .before .before .before .read-command .ensures .0) is (told .enum-told2 .given .0 .0)
-          (told .enum-told2 .given .0 .1 .0)
-          (told .enum-told2 .given .1)
-          (search needs)
-          (search needs)
-          (search needs),
-      refl,
-    )
-
-returns-4 : tie.Need-returns-4
-returns-4 c =
-    let line = c .before .before .before .before .before .before .before .args .line .now in
-    let is = c .before .before .before .command .given .1 in (
-      placed-open line (c .before .before .before .before .before .read-command .ensures .0) is (c .enum-told3 .given .0 .0) (c .enum-told3 .given .1)
-          (search needs) (search needs),
-      refl,
-    )
-
-returns-5 : tie.Need-returns-5
-returns-5 c =
-    let line = c .before .before .before .before .before .before .before .args .line .now in
-    let is = c .before .before .before .command .given .1 in
-    (placed-send line (c .before .before .before .before .before .read-command .ensures .0) is (c .enum-told4 .given .1) (search needs) (search needs), refl)
+    let form = c .before in
+    let known = form .before .before .before in
+    (placed-bare (c .before .before .before .before .before .before .before .before .args .line .now) (known .before .before .read-command .ensures .0) (known .command .given .1) (front-here form) (c .if1 .left) refl refl, refl)
 
 pub payload-place-spec : {M : Type 1} → statement M
 payload-place-spec =
@@ -87,12 +60,9 @@ payload-place-spec =
     enum-known-command
     enum-told
     returns
-    enum-told-2
+    line-number-requires
+    form-of-requires
     add-if1
     sub-end
-    enum-told-3
-    enum-told-4
     returns-2
-    returns-3
-    returns-4
-    returns-5)
+    returns-3)

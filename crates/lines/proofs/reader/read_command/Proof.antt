@@ -1,19 +1,25 @@
--- `lines::read_command` meets its contract: each way out is a way in which a line is broken, or a line begun.
-use mathlib.Core.Path.{refl}
+-- `lines::read_command` meets its contract: each way out is a way in which a line is broken, or the command of its numbers.
+use mathlib.Core.Bool.{true}
+use mathlib.Core.Path.{_≡_, refl, sym, _∙_}
+use Prim.Native.Nat.{_+_, _-_, _≤_, _<_}
 use native.Mathlib.Omega.{arith}
-use lib.ListN.{take}
+use lib.ListN.{length, take}
 use borrow.Author.Needs.{needs}
-use Rattle.lines.specs.Spelling.{Begun}
-use Rattle.lines.proofs.Commands.{spelt-number, spelt-nothing, short, foul, begun, unknown}
+use borrow.Author.Tests.{not-true, not-false}
+use Rattle.rules.specs.Limits.{short-digits}
+use Rattle.rules.specs.Lines.{count-digits, numbers-at}
 use Rattle.theory.specs.Broken.{unended}
+use Rattle.lines.specs.Forms.{widths-in}
+use Rattle.lines.proofs.ReadLines.{Begun, spelt-number, spelt-nothing, short, foul, begun, front-count, too-few, unfit-payload, read-good}
+use Rattle.lines.proofs.Collecting.{command-same}
 use Rattle.lines.proofs.reader.read_command.Statement.{statement}
 use Rattle.lines.proofs.reader.read_command.Tie as tie
 
 returns : tie.Need-returns
 returns c = (short (c .before .before .args .line .now) (c .if1 .taken), refl)
 
-sub-last : tie.Need-sub-last
-sub-last c = search needs
+sub-end : tie.Need-sub-end
+sub-end c = search needs
 
 shared-slice-read-if2 : tie.Need-shared-slice-read-if2
 shared-slice-read-if2 c = search needs
@@ -44,37 +50,82 @@ returns-3 c =
     let line = c .before .before .before .before .before .before .before .before .args .line .now in
     (foul 0 2 line (search needs) (spelt-nothing (take 2 line) (c .enum-told .given .1) (c .before .before .number .ensures)), refl)
 
-begun-here : (c : tie.After-known-told) →
-    Begun (c .before .kind .given .0 .0) (c .before .before .before .before .before .before .before .before .before .args .line .now)
+-- the line's number is read, and its form found
+begun-here : (c : tie.After-form-of) → Begun (c .before .before .kind .given .0 .0) (c .before .before .before .before .before .before .before .before .before .before .args .line .now)
 begun-here c =
-    let line = c .before .before .before .before .before .before .before .before .before .args .line .now in
-    let kind = c .before .kind .given in
-    begun (kind .0 .0) line (search needs) (search needs) (spelt-number (take 2 line) (kind .1) (c .before .before .before .number .ensures))
+    let line = c .before .before .before .before .before .before .before .before .before .before .args .line .now in
+    let kind = c .before .before .kind .given in
+    begun (kind .0 .0) line (search needs) (search needs) (spelt-number (take 2 line) (kind .1) (c .before .before .before .before .number .ensures))
 
-read-open-requires : tie.Need-read-open-requires
-read-open-requires c κs = rw (c .match2 .keys1) at (begun-here (c .before))
-
-read-take-requires : tie.Need-read-take-requires
-read-take-requires c κs = rw (c .match2 .keys2) at (begun-here (c .before))
-
-read-send-requires : tie.Need-read-send-requires
-read-send-requires c κs = rw (c .match2 .keys3) at (begun-here (c .before))
+form-of-requires : tie.Need-form-of-requires
+form-of-requires c κs = search needs
 
 returns-4 : tie.Need-returns-4
-returns-4 c = (search needs, refl)
+returns-4 c = (too-few (begun-here (c .before)) (c .before .form-of .ensures) (c .if3 .taken), refl)
+
+payload-fits-requires : tie.Need-payload-fits-requires
+payload-fits-requires c κs = search needs
 
 returns-5 : tie.Need-returns-5
-returns-5 c = (search needs, refl)
+returns-5 c =
+    let form = c .before .before .before in
+    let fits = c .before .payload-fits in
+    (unfit-payload (begun-here form) (form .form-of .ensures) (c .before .before .if3 .left) (sym (fits .ensures) ∙ not-true (fits .result) (c .if4 .taken)), refl)
+
+part-digits-only-start : tie.Need-part-digits-only-start
+part-digits-only-start c = search needs
+
+part-digits-only-end : tie.Need-part-digits-only-end
+part-digits-only-end c = search needs
+
+digits-only-requires : tie.Need-digits-only-requires
+digits-only-requires c κs = search needs
 
 returns-6 : tie.Need-returns-6
-returns-6 c = (search needs, refl)
+returns-6 c =
+    let form = c .before .before .before .before .before .before in
+    let line = form .before .before .before .before .before .before .before .before .before .before .args .line .now in
+    let front = form .form-of .result .front in
+    let only = c .before .digits-only in
+    (foul front (length line - 1 - front) line (omega (arith, c .before .before .before .before .before .if3 .left, begun-here form .long)) (sym (only .ensures) ∙ not-true (only .result) (c .if5 .taken)), refl)
+
+numbers-within : (c : tie.Else5) → let form = c .before .before .before .before .before .before in
+    short-digits + count-digits (widths-in (form .form-of .result)) < length (form .before .before .before .before .before .before .before .before .before .before .args .line .now)
+numbers-within c = let form = c .before .before .before .before .before .before in omega (arith, front-count (form .form-of .ensures), c .before .before .before .before .before .if3 .left, begun-here form .long)
+
+read-numbers-requires : tie.Need-read-numbers-requires
+read-numbers-requires c κs = (c .before .before .before .before .before .before .form-of .ensures .small, omega (arith, numbers-within c))
 
 returns-7 : tie.Need-returns-7
 returns-7 c =
-    let known = c .before in
-    let not = c .match2 .rest in (
-      unknown (known .before .kind .given .0 .0) (c .before .before .before .before .before .before .before .before .before .before .args .line .now)
-          (begun-here known) (not .0 .0 .1) (not .0 .1) (not .1),
+    let clean = c .before .before .before in
+    let form = clean .before .before .before .before .before .before in
+    let line = form .before .before .before .before .before .before .before .before .before .before .args .line .now in
+    let numbers = c .before .before .read-numbers in (
+      foul short-digits (count-digits (widths-in (form .form-of .result))) line (numbers-within clean)
+          (sym (numbers .ensures .clean) ∙ not-true (numbers .result .good) (c .if6 .taken)),
+      refl,
+    )
+
+command-of-requires : tie.Need-command-of-requires
+command-of-requires c κs = search needs
+
+returns-8 : tie.Need-returns-8
+returns-8 c =
+    let last = c .before .before in
+    let clean = last .before .before .before in
+    let form = clean .before .before .before .before .before .before in
+    let numbers = last .before .before .read-numbers in
+    let good = not-false (numbers .result .good) (last .if6 .left) in
+    let fits = clean .before .before .before .before .payload-fits in
+    let only = clean .before .digits-only in
+    let line = form .before .before .before .before .before .before .before .before .before .before .args .line .now in (
+      c .command-of .ensures
+          ∙ command-same (form .before .before .kind .given .0 .0) (numbers .result .at) (numbers-at short-digits (widths-in (form .form-of .result)) line)
+          (numbers .ensures .values good)
+          ∙ read-good (begun-here form) (form .form-of .ensures) (clean .before .before .before .before .before .if3 .left) (sym (fits .ensures) ∙ not-false (fits .result) (clean .before .before .before .if4 .left))
+          (sym (numbers .ensures .clean) ∙ good)
+          (sym (only .ensures) ∙ not-false (only .result) (clean .if5 .left)),
       refl,
     )
 
@@ -83,7 +134,7 @@ read-command-spec =
     tie.close
     (tie.spec
     returns
-    sub-last
+    sub-end
     shared-slice-read-if2
     returns-2
     sub-number
@@ -93,10 +144,15 @@ read-command-spec =
     enum-known-kind
     enum-told
     returns-3
-    read-open-requires
-    read-take-requires
-    read-send-requires
+    form-of-requires
     returns-4
+    payload-fits-requires
     returns-5
+    part-digits-only-start
+    part-digits-only-end
+    digits-only-requires
     returns-6
-    returns-7)
+    read-numbers-requires
+    returns-7
+    command-of-requires
+    returns-8)

@@ -4,7 +4,7 @@ use lib.ListN.{length-set}
 use borrow.Author.Needs.{needs}
 use Rattle.rules.specs.Lines.{digits}
 use Rattle.lines.specs.Writing.{step-text}
-use Rattle.lines.proofs.Filling.{filled-none, filled-number, filled-byte}
+use Rattle.digits.proofs.Filling.{filled-none, filled-number, filled-byte}
 use Rattle.lines.proofs.Writing.{replied}
 use Rattle.lines.proofs.replies.write_step_in_room.Statement.{statement}
 use Rattle.lines.proofs.replies.write_step_in_room.Tie as tie

@@ -3,7 +3,7 @@ use mathlib.Core.Path.{refl}
 use lib.ListN.{length-set}
 use borrow.Author.Needs.{needs}
 use Rattle.rules.specs.Lines.{digits, reply-digits, reply-text}
-use Rattle.lines.proofs.Filling.{filled-none, filled-number, filled-byte}
+use Rattle.digits.proofs.Filling.{filled-none, filled-number, filled-byte}
 use Rattle.lines.proofs.Writing.{replied}
 use Rattle.lines.proofs.replies.write_ticket_in_room.Statement.{statement}
 use Rattle.lines.proofs.replies.write_ticket_in_room.Tie as tie

@@ -1,62 +1,62 @@
--- `lines::can_stand` meets its contract: by the command.
-use mathlib.Core.Path.{_∙_}
+-- `lines::can_stand` meets its contract: values, then the payload's length, then its digits.
+use mathlib.Core.Path.{sym, _∙_}
+use mathlib.Core.Bool.{Bool}
+use lib.ListN.{length}
 use borrow.Author.Needs.{needs}
-use Rattle.lines.proofs.Writing.{open-high, open-stands, take-high, take-stands, send-stands}
+use borrow.Author.Tests.{not-true, not-false}
+use Rattle.rules.specs.Lines.{all-digits, fit-digits, payload-fits}
+use Rattle.lines.specs.Forms.{widths-in, values-in}
+use Rattle.lines.proofs.Writing.{stands-not, stands-long, stands-if}
 use Rattle.lines.proofs.writer.can_stand.Statement.{statement}
 use Rattle.lines.proofs.writer.can_stand.Tie as tie
 
-enum-known-command : tie.Need-enum-known-command
-enum-known-command c = search needs
+-- what each test is about
+abbrev fit : tie.Start → Bool
+fit s = fit-digits (widths-in (s .args .form)) (values-in (s .args .form) (s .args .values))
+
+abbrev clean : tie.Start → Bool
+clean s = all-digits (s .args .payload .now)
+
+abbrev long : tie.Start → Bool
+long s = payload-fits (s .args .form .payload) (length (s .args .payload .now))
+
+values-fit-requires : tie.Need-values-fit-requires
+values-fit-requires c κs = search needs
 
 returns : tie.Need-returns
 returns c =
-    let s = c .before .before .before .before .before .before .before .args in
-    let last = c .before .before .before .before .command .given in
-    open-high (s .command) (s .payload .now) (last .0 .0) (last .1) (search needs)
+    let s = c .before .before .before in
+    let h = c .before .values-fit in
+    stands-not (fit s) (clean s) (long s) (sym (h .ensures) ∙ not-true (h .result) (c .if1 .taken))
 
-enum-known-command-2 : tie.Need-enum-known-command-2
-enum-known-command-2 c = search needs
+payload-fits-requires : tie.Need-payload-fits-requires
+payload-fits-requires c κs = search needs
 
 returns-2 : tie.Need-returns-2
 returns-2 c =
-    let s = c .before .before .before .before .before .before .before .args in
-    let both = c .before .before .before .before .command2 .given in
-    take-high (s .command) (s .payload .now) (both .0 .0) (both .0 .1 .0) (both .1) (search needs)
+    let s = c .before .before .before .before .before in
+    let h = c .before .payload-fits in
+    stands-long (fit s) (clean s) (long s) (sym (h .ensures) ∙ not-true (h .result) (c .if2 .taken))
 
-payload-can-stand-requires : tie.Need-payload-can-stand-requires
-payload-can-stand-requires c κs = search needs
-
-enum-told : tie.Need-enum-told
-enum-told c = search needs
+digits-only-requires : tie.Need-digits-only-requires
+digits-only-requires c κs = search needs
 
 returns-3 : tie.Need-returns-3
 returns-3 c =
-    let s = c .before .before .before .before .before .before .before .args in
-    let last = c .before .before .before .before .command .given in
-    open-stands (s .command) (s .payload .now) (last .0 .0) (last .1) (search needs)
-
-returns-4 : tie.Need-returns-4
-returns-4 c =
-    let s = c .before .before .before .before .before .before .before .before .args in
-    let both = c .before .before .before .before .before .command2 .given in
-    c .payload-can-stand .ensures
-    ∙ take-stands (s .command) (s .payload .now) (both .0 .0) (both .0 .1 .0) (both .1) (search needs) (search needs)
-
-returns-5 : tie.Need-returns-5
-returns-5 c =
-    let s = c .before .before .before in
-    send-stands (s .args .command) (s .args .payload .now) (c .enum-told .given .1)
+    let s = c .before .before .before .before .before .before in
+    let h = c .before .before .before .before .values-fit in
+    let k = c .before .before .payload-fits in
+    c .digits-only .ensures
+    ∙ stands-if (fit s) (clean s) (long s) (sym (h .ensures) ∙ not-false (h .result) (c .before .before .before .if1 .left))
+    (sym (k .ensures) ∙ not-false (k .result) (c .before .if2 .left))
 
 pub can-stand-spec : {M : Type 1} → statement M
 can-stand-spec =
     tie.close
     (tie.spec
-    enum-known-command
+    values-fit-requires
     returns
-    enum-known-command-2
+    payload-fits-requires
     returns-2
-    payload-can-stand-requires
-    enum-told
-    returns-3
-    returns-4
-    returns-5)
+    digits-only-requires
+    returns-3)

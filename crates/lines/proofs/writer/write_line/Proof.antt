@@ -1,48 +1,69 @@
 -- `lines::write_line` meets its contract: the refusals in their order; then front, payload and 0A.
-use mathlib.Core.Bool.{true}
+use mathlib.Core.Bool.{true, false}
 use mathlib.Core.Path.{_≡_, refl, sym, _∙_}
+use Prim.Native.Nat.{_≤_}
 use native.Mathlib.Omega.{arith}
-use lib.ListN.{length-set}
+use lib.ListN.{length, length-set}
 use borrow.Author.Needs.{needs}
 use borrow.Author.Tests.{not-true, not-false}
-use Rattle.rules.specs.Lines.{stands}
-use Rattle.lines.specs.Cases.{command-of}
-use Rattle.lines.proofs.Writing.{front-small, write-unfit, write-full, write-on}
+use Rattle.rules.specs.Lines.{stands, form-of, front-size}
+use Rattle.theory.specs.Lines.{front-small}
+use Rattle.lines.specs.Cases.{of-command}
+use Rattle.lines.proofs.ReadLines.{front-count}
+use Rattle.lines.proofs.Writing.{front-here, stands-here, front-put, write-unfit, write-full, write-on}
 use Rattle.lines.proofs.writer.write_line.Statement.{statement}
 use Rattle.lines.proofs.writer.write_line.Tie as tie
 
-stands-here : (c : tie.Else1) → stands (command-of (c .before .before .before .before .args .command))
-    (c .before .before .before .before .args .payload .now) ≡ true
-stands-here c = sym (c .before .can-stand .ensures) ∙ not-false (c .before .can-stand .result) (c .if1 .left)
+line-number-requires : tie.Need-line-number-requires
+line-number-requires c κs = search needs
+
+form-of-requires : tie.Need-form-of-requires
+form-of-requires c κs = search needs
+
+values-of-requires : tie.Need-values-of-requires
+values-of-requires c κs = search needs
 
 can-stand-requires : tie.Need-can-stand-requires
 can-stand-requires c κs = search needs
 
+-- what stands, by the form and the values
+asked : (c : tie.After-can-stand) → c .can-stand .result ≡ stands (of-command (c .before .before .before .before .before .before .args .command)) (c .before .before .before .before .before .before .args .payload .now)
+asked c =
+    c .can-stand .ensures
+    ∙ stands-here (c .before .before .before .line-number .ensures) (c .before .before .form-of .ensures) (c .before .values-of .ensures) (c .before .before .before .before .before .before .args .payload .now)
+
 returns : tie.Need-returns
 returns c =
-    let s = c .before .before .before .before .args in
-    let can = c .before .can-stand in
-    (write-unfit (command-of (s .command)) (s .payload .now) (s .buffer .now) (sym (can .ensures) ∙ not-true (can .result) (c .if1 .taken)) (search needs), refl)
+    let s = c .before .before .before .before .before .before .before .args in
+    (write-unfit (of-command (s .command)) (s .payload .now) (s .buffer .now) (sym (asked (c .before)) ∙ not-true (c .before .can-stand .result) (c .if1 .taken)) refl, refl)
 
-front-size-requires : tie.Need-front-size-requires
-front-size-requires c κs = search needs
+front : (c : tie.Else1) → c .before .before .before .form-of .result .front ≡ front-size (form-of (of-command (c .before .before .before .before .before .before .before .args .command)))
+front c = front-here (c .before .before .before .before .line-number .ensures) (c .before .before .before .form-of .ensures) (c .before .before .values-of .ensures)
+
+stands-so : (c : tie.Else1) → stands (of-command (c .before .before .before .before .before .before .before .args .command)) (c .before .before .before .before .before .before .before .args .payload .now) ≡ true
+stands-so c = sym (asked (c .before)) ∙ not-false (c .before .can-stand .result) (c .if1 .left)
 
 add-end : tie.Need-add-end
-add-end c = omega (arith, c .front-size .ensures, front-small (command-of (c .before .before .before .before .before .args .command)))
+add-end c = omega (arith, front c, front-small (of-command (c .before .before .before .before .before .before .before .args .command)))
 
 returns-2 : tie.Need-returns-2
 returns-2 c =
-    let s = c .before .before .before .before .before .before .args in (
-      write-full (command-of (s .command)) (s .payload .now) (s .buffer .now) (stands-here (c .before .before)) (omega (arith, c .before .front-size .ensures))
-          (search needs),
-      refl,
-    )
+    let s = c .before .before .before .before .before .before .before .before .args in
+    (write-full (of-command (s .command)) (s .payload .now) (s .buffer .now) (stands-so (c .before)) (omega (arith, front (c .before), c .if2 .taken)) refl, refl)
 
-put-front-requires : tie.Need-put-front-requires
-put-front-requires c κs = omega (arith, c .before .before .front-size .ensures)
+front-room : (c : tie.Else2) → c .before .before .before .before .form-of .result .front ≤ length (c .before .before .before .before .before .before .before .before .args .buffer .now)
+front-room c = omega (arith, c .if2 .left)
 
-put-bytes-requires : tie.Need-put-bytes-requires
-put-bytes-requires c κs = search needs
+put-number-requires : tie.Need-put-number-requires
+put-number-requires c κs = omega (arith, front-room (c .before), front-count (c .before .before .before .before .before .form-of .ensures))
+
+put-values-requires : tie.Need-put-values-requires
+put-values-requires c κs =
+    let form = c .before .before .before .before .before .before .before .before .before .form-of .ensures in
+    (form .small, c .before .before .before .before .before .before .before .before .values-of .ensures .room, omega (arith, front-room (c .before .before .before .before .before), front-count form))
+
+put-payload-requires : tie.Need-put-payload-requires
+put-payload-requires c κs = search needs
 
 slice-write-buffer : tie.Need-slice-write-buffer
 slice-write-buffer c = search needs
@@ -55,15 +76,13 @@ same-length c = simp length-set (search needs)
 
 returns-3 : tie.Need-returns-3
 returns-3 c =
-    let put = c .before .before .before .before .before .before in
-    let room = put .before .before in
-    let start = c .before .before .before .before .before .before .before .before .before .before .before .before .before .before .args in (
-      write-on (command-of (start .command)) (start .payload .now) (start .buffer .now) (stands-here (room .before .before))
-          (room .before .front-size .ensures)
-          (room .if2 .left)
-          (put .put-front .ensures)
-          (c .before .before .put-bytes .ensures)
-          (search needs),
+    let room = c .before .before .before .before .before .before .before .before .before .before .before .before in
+    let stand = room .before in
+    let s = c .before .before .before .before .before .before .before .before .before .before .before .before .before .before .before .before .before .before .before .before .args in
+    let filled = front-put (stand .before .before .before .before .line-number .ensures) (stand .before .before .before .form-of .ensures) (stand .before .before .values-of .ensures) (front-room room)
+    (c .before .before .before .before .before .before .before .before .before .before .put-number .ensures) (c .before .before .before .before .before .before .put-values .ensures) in (
+      write-on (of-command (s .command)) (s .payload .now) (s .buffer .now) (stands-so stand) (front stand) (room .if2 .left) filled
+          (c .before .before .put-payload .ensures) (search needs),
       refl,
     )
 
@@ -71,13 +90,16 @@ pub write-line-spec : {M : Type 1} → statement M
 write-line-spec =
     tie.close
     (tie.spec
+    line-number-requires
+    form-of-requires
+    values-of-requires
     can-stand-requires
     returns
-    front-size-requires
     add-end
     returns-2
-    put-front-requires
-    put-bytes-requires
+    put-number-requires
+    put-values-requires
+    put-payload-requires
     slice-write-buffer
     add-n
     same-length

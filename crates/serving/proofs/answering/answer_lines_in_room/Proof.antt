@@ -7,8 +7,8 @@ use lib.ListN.{length}
 use borrow.Author.Needs.{needs}
 use Rattle.rules.specs.Calls.{refused}
 use Rattle.rules.specs.Lines.{reply-text}
-use Rattle.lines.specs.Cases.{command-of, reading-of}
-use Rattle.lines.specs.Ends.{Ends, First}
+use Rattle.lines.specs.Cases.{of-command, of-reading}
+use Rattle.lines.specs.Ends.{Line-ends, First-end}
 use Rattle.turns.proofs.Said.{said-by}
 use Rattle.serving.proofs.Put.{put-line, reply-within}
 use Rattle.serving.proofs.Answered.{Answering, out-within, room-left, answering-none, answering-more, answered-broken, answered-all}
@@ -23,11 +23,11 @@ abbrev μ-loop : tie.MeasureT-loop
 
 -- the line's end that was found
 here : (c : tie.After-known-told Inv-loop μ-loop) →
-    First (c .before .before .before .before .before .before .before .before .args .input .now)
+    First-end (c .before .before .before .before .before .before .before .before .args .input .now)
     (c .before .before .before .before .loop .read) (c .before .end .given .0 .0)
 here c =
     let input = c .before .before .before .before .before .before .before .before .args .input .now in
-    subst (Ends input (c .before .before .before .before .loop .read)) (c .before .end .given .1) (c .before .before .before .line-end .ensures .0)
+    subst (Line-ends input (c .before .before .before .before .loop .read)) (c .before .end .given .1) (c .before .before .before .line-end .ensures .0)
 
 loop-holds : tie.Need-loop-holds Inv-loop μ-loop
 loop-holds c =
@@ -55,7 +55,7 @@ same-length-2 c = c .before .before .before .before .loop .inv .0 .long
 returns : tie.Need-returns Inv-loop μ-loop
 returns c =
     let loop = c .before .before .before .before .loop in
-    let none = subst (Ends (c .before .before .before .before .before .before .before .before .args .input .now) (loop .read))
+    let none = subst (Line-ends (c .before .before .before .before .before .before .before .before .args .input .now) (loop .read))
     (c .before .enum-told .given .1) (c .before .before .before .line-end .ensures .0) in
     let told = c .so-far .ensures in
     (answered-all (loop .inv .0) (omega (arith, told .0), omega (arith, told .1), told .2) none, refl)
@@ -107,7 +107,7 @@ same-length-4 c = search needs
 returns-2 : tie.Need-returns-2 Inv-loop μ-loop
 returns-2 c =
     let line = c .before .before .before .before .before .before in
-    let told = ap reading-of (c .before .before .before .before .enum-told2 .given .1) in
+    let told = ap of-reading (c .before .before .before .before .enum-told2 .given .1) in
     let inv = line .before .before .before .before .before .before .loop .inv .0 in
     let wrote = c .before .before .write-refusal-in-room in (
       answered-broken inv (here (line .before .before)) (cc (told, line .read-command .ensures .0)) (refl, refl, search needs)
@@ -142,10 +142,10 @@ loop-again : tie.Need-loop-again Inv-loop μ-loop
 loop-again c =
     let line = c .before .before .before .before .before .before .before .before .before .before in
     let command = c .before .before .before .before .before .before .before .before .command .given in
-    let told = ap reading-of (command .1) in
+    let told = ap of-reading (command .1) in
     let inv = line .before .before .before .before .before .before .loop .inv in
     let taken = c .before .before .before .before .take-turn-in-room in (
-      answering-more (inv .0) (here (line .before .before)) (command-of (command .0 .0)) (sym told ∙ line .read-command .ensures .0) (omega arith, refl)
+      answering-more (inv .0) (here (line .before .before)) (of-command (command .0 .0)) (sym told ∙ line .read-command .ensures .0) (omega arith, refl)
           (taken .ensures .moved) (put-line (out-within (inv .0)) (taken .ensures .said) (taken .kept .1 .1 .0)),
       taken .kept .1 .0 ∙ inv .1,
     )

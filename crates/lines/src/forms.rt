@@ -1,0 +1,88 @@
+// The form of each line, and a command's number and values, and back.
+ghost use mathlib.Core.Path.{_≡_};
+ghost use Rattle.rules.specs.Lines.{command-of, form-numbered, line-number};
+ghost use Rattle.lines.specs.Cases.{of-command, of-reading};
+ghost use Rattle.lines.specs.Forms.{Has-form, Has-values};
+use crate::Command;
+use crate::Reading;
+use digits::SHORT_DIGITS;
+use digits::SLOT_DIGITS;
+use digits::WIDE_DIGITS;
+use sorts::Slot;
+use sorts::Weight;
+
+// The most numbers that a line has behind its own.
+pub const MOST_NUMBERS: usize = 2;
+
+// How many numbers a line has, the digits of each, the digits before the payload, and whether a payload may follow.
+pub struct Form {
+    pub count: usize,
+    pub widths: [usize; MOST_NUMBERS],
+    pub front: usize,
+    pub payload: bool,
+}
+
+// The form of a line number; a number that no line has would stand alone, and makes no command.
+pub fn form_of(number: u32) -> Form
+    ensures { λ r. ⌜ Has-form (form-numbered number) r ⌝ }
+{
+    match number {
+        0 => Form {
+            count: 1,
+            widths: [SLOT_DIGITS, 0],
+            front: SHORT_DIGITS + SLOT_DIGITS,
+            payload: false,
+        },
+        1 => Form {
+            count: 2,
+            widths: [SLOT_DIGITS, WIDE_DIGITS],
+            front: SHORT_DIGITS + SLOT_DIGITS + WIDE_DIGITS,
+            payload: true,
+        },
+        2 => Form {
+            count: 0,
+            widths: [0, 0],
+            front: SHORT_DIGITS,
+            payload: false,
+        },
+        _ => Form {
+            count: 0,
+            widths: [0, 0],
+            front: SHORT_DIGITS,
+            payload: false,
+        },
+    }
+}
+
+// The command of a line number and its values, or refusal 1.
+pub fn command_of(number: u32, values: [u32; MOST_NUMBERS]) -> Reading
+    ensures { λ r. ⌜ of-reading r ≡ command-of number values ⌝ }
+{
+    match number {
+        0 => Reading::Is(Command::Open(Slot(values[0]))),
+        1 => Reading::Is(Command::Take(Slot(values[0]), Weight(values[1]))),
+        2 => Reading::Is(Command::Send),
+        _ => Reading::Broken,
+    }
+}
+
+pub fn line_number(command: Command) -> u32
+    ensures { λ r. ⌜ r ≡ line-number (of-command command) ⌝ }
+{
+    match command {
+        Command::Open(_) => 0,
+        Command::Take(_, _) => 1,
+        Command::Send => 2,
+    }
+}
+
+// A command's values, and 0 for those that its line does not have.
+pub fn values_of(command: Command) -> [u32; MOST_NUMBERS]
+    ensures { λ r. ⌜ Has-values (of-command command) r ⌝ }
+{
+    match command {
+        Command::Open(last) => [last.0, 0],
+        Command::Take(due, weight) => [due.0, weight.0],
+        Command::Send => [0, 0],
+    }
+}

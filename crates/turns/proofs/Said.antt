@@ -1,8 +1,9 @@
 -- A reply's line by another name for it, and a turn by the call that its command asks for.
-use mathlib.Core.Path.{_≡_}
+use mathlib.Core.Path.{_≡_, ap, ap₂}
 use mathlib.Core.List.{List}
 use Prim.Native.Nat.{ℕ}
-use Rattle.rules.specs.Calls.{Call, Reply, Says}
+use Rattle.rules.specs.Rows.{framed, until}
+use Rattle.rules.specs.Calls.{taking, Call, opening, acting, Reply, Says}
 use Rattle.rules.specs.Lines.{Command, call-of, reply-text}
 use Rattle.lines.specs.Writing.{Replies}
 use Rattle.turns.specs.Turns.{Turns}
@@ -14,3 +15,10 @@ said-by p e = rw e at p
 pub turned : (c : Command) (k : Call) (o : Reply) (t z before after : List ℕ) (r : ℕ) → call-of c ≡ k → Says k o t z → Replies (reply-text o) before after r →
     Turns c t z before after r
 turned c k o t z before after r e s p = record { said = rw (e, ← s .0) p; moved = rw e (s .1) }
+
+-- calls of equal numbers
+pub same-opening : {l m : ℕ} → l ≡ m → opening (until l) ≡ opening (until m)
+same-opening e = ap (λ (n : ℕ). opening (until n)) e
+
+pub same-taking : {d e w v : ℕ} → d ≡ e → w ≡ v → acting (taking (framed d w)) ≡ acting (taking (framed e v))
+same-taking p q = ap₂ (λ (d w : ℕ). acting (taking (framed d w))) p q

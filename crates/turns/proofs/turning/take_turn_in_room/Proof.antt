@@ -1,8 +1,6 @@
 -- `turns::turning::take_turn_in_room` meets its contract: the call that the command asks for, and its reply's line.
-use mathlib.Core.Path.{ap, ap₂}
-use Rattle.rules.specs.Calls.{opening, taking}
 use Rattle.rules.specs.Lines.{call-of}
-use Rattle.turns.proofs.Said.{turned}
+use Rattle.turns.proofs.Said.{turned, same-opening, same-taking}
 use borrow.Author.Needs.{needs}
 use Rattle.turns.proofs.turning.take_turn_in_room.Statement.{statement}
 use Rattle.turns.proofs.turning.take_turn_in_room.Tie as tie
@@ -44,7 +42,7 @@ returns : tie.Need-returns
 unfolding call-of
 returns c =
     let told = c .before .before .before .before .before .before .before .before .before .command .given .1 in
-    turned _ _ _ _ _ _ _ _ (rw told (ap opening (search needs))) (c .before .before .before .before .before .before .open-round .ensures)
+    turned _ _ _ _ _ _ _ _ (rw told (same-opening (search needs))) (c .before .before .before .before .before .before .open-round .ensures)
     (c .before .before .say-opened .ensures)
 
 same-length-3 : tie.Need-same-length-3
@@ -57,7 +55,7 @@ returns-2 : tie.Need-returns-2
 unfolding call-of
 returns-2 c =
     let told = c .before .before .before .before .before .before .before .before .before .command2 .given .1 in
-    turned _ _ _ _ _ _ _ _ (rw told (ap₂ taking (search needs) (search needs))) (c .before .before .before .before .before .before .take-frame .ensures)
+    turned _ _ _ _ _ _ _ _ (rw told (same-taking (search needs) (search needs))) (c .before .before .before .before .before .before .take-frame .ensures)
     (c .before .before .say-taken .ensures)
 
 same-length-5 : tie.Need-same-length-5

@@ -6,7 +6,7 @@ use lib.Dec.{eqb, ltb, leb}
 use borrow.Author.Tests.{ltb-false, eqb-false, leb-false}
 use Rattle.rules.specs.Limits.{most-weight, ticket-limit}
 use Rattle.theory.specs.Calls.{no-refusal, or-false}
-use Rattle.checks.specs.Tests.{first-of, take-tests, send-tests, mark-tests}
+use Rattle.checks.specs.Tests.{first-of, take-tests, send-tests, mark-tests, list-tests}
 
 pub send-accepted : (t l : ℕ) → first-of (send-tests t l) ≡ 0 → t ≤ l
 send-accepted t l e = ltb-false l t (no-refusal (ltb l t) 4 0 e .0)
@@ -16,6 +16,11 @@ mark-accepted t l s e =
     let a = no-refusal (ltb l t) 4 _ e in
     let b = or-false (ltb s t) (ltb l s) (no-refusal (ltb s t || ltb l s) 6 0 (a .1) .0) in
     (ltb-false l t (a .0), ltb-false s t (b .0), ltb-false l s (b .1))
+
+pub list-accepted : (t l m n : ℕ) → first-of (list-tests t l m n) ≡ 0 → (t ≤ l) × (n ≤ m)
+list-accepted t l m n e =
+    let a = no-refusal (ltb l t) 4 _ e in
+    (ltb-false l t (a .0), ltb-false m n (no-refusal (ltb m n) 11 0 (a .1) .0))
 
 -- a ticket and a row are left
 pub take-accepted : (t l n u k d w : ℕ) → first-of (take-tests t l n u k d w) ≡ 0 → (n ≡ ticket-limit → ⊥) × (u < k)

@@ -45,6 +45,10 @@ mark-tests t l s = over t l ∷ outside t l s ∷ []
 abbrev pub total-tests : (slot last : ℕ) → List Test
 total-tests t l = over t l ∷ []
 
+-- a list of some room, for as many rows as are to be listed
+abbrev pub list-tests : (slot last room count : ℕ) → List Test
+list-tests t l m n = over t l ∷ (ltb m n ⇒ 12) ∷ []
+
 -- THE HEAD's numbers
 abbrev pub head-tests : (slot last next used room : ℕ) → List Bool
 head-tests t l n u k = leb l most-last ∷ leb t (suc l) ∷ leb 1 n ∷ leb n ticket-limit ∷ leb u k ∷ []

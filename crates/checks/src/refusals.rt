@@ -2,7 +2,7 @@
 ghost use mathlib.Core.Path.{_≡_};
 ghost use mathlib.Core.Bool.{_||_, cond};
 ghost use lib.Dec.{ltb, leb};
-ghost use Rattle.checks.specs.Tests.{first-of, open-tests, take-tests, send-tests, mark-tests};
+ghost use Rattle.checks.specs.Tests.{first-of, open-tests, take-tests, send-tests, mark-tests, list-tests};
 use sorts::Round;
 use sorts::Slot;
 use sorts::Weight;
@@ -34,6 +34,13 @@ pub fn marking_refusal(round: Round, slot: Slot) -> u32
     ensures { λ r. ⌜ r ≡ first-of (mark-tests (round .slot .0) (round .last .0) (slot .0)) ⌝ }
 {
     over(round, outside(round, slot, 0))
+}
+
+// Of a listing, into a list of some room, for as many rows as are to be listed.
+pub fn listing_refusal(round: Round, count: usize, room: usize) -> u32
+    ensures { λ r. ⌜ r ≡ first-of (list-tests (round .slot .0) (round .last .0) room count) ⌝ }
+{
+    over(round, first(room < count, 12, 0))
 }
 
 // The round is over.

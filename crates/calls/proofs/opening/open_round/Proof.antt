@@ -68,7 +68,8 @@ returns-3 c =
     let s = c .before .before .before .before .before .before .before .before .before .before .before .before .before .before .before .before in
     let n = c .before .before .before .before .before .before .before .before .new .ensures in
     opened-says (until (s .args .last .0)) (s .args .table .now)
-    (good (c .before .before .before .before .before .before .before .before .before .before .before .before .before)) (free (c .before .before .before .before .before .before .before .before .before .before .before)) _ _ _ _
+    (good (c .before .before .before .before .before .before .before .before .before .before .before .before .before))
+    (free (c .before .before .before .before .before .before .before .before .before .before .before)) _ _ _ _
     (c .before .before .before .before .before .before .clear .last .0) (c .before .before .write-head .last .0)
     (omega (arith, n .0), omega (arith, n .1), omega (arith, n .2), omega (arith, n .3))
     (cc (c .before .before .before .before .before .before .clear .ensures)) (c .before .before .write-head .ensures)

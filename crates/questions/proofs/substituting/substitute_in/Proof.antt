@@ -49,7 +49,8 @@ returns-2 : tie.Need-returns-2
 returns-2 c =
     let s = c .before .before .before .before .before .before in
     let h = subst (Finds (round-in (s .args .table .now)) (s .args .ticket .0)) (c .enum-told .given .1) (c .before .before .find-row .ensures) in (
-      substitute-nowhere (s .args .ticket .0) (s .args .table .now) (s .pre .0) (slot-left-by (s .args .table .now) (s .args .round) (s .pre .0) (s .pre .1) ∙ free (c .before .before .before)) h,
+      substitute-nowhere (s .args .ticket .0) (s .args .table .now) (s .pre .0)
+          (slot-left-by (s .args .table .now) (s .args .round) (s .pre .0) (s .pre .1) ∙ free (c .before .before .before)) h,
       refl,
     )
 
@@ -60,7 +61,8 @@ returns-3 c =
     (c .before .before .before .before .find-row .ensures) in
     let r = ready (s .args .table .now) (s .args .round) (s .pre .0) (s .pre .1) (send-accepted _ _ (free (c .before .before .before .before .before))) in (
       c .substitute-row .ensures
-          ∙ substitute-found (s .args .ticket .0) (s .args .table .now) (s .pre .0) (slot-left-by (s .args .table .now) (s .args .round) (s .pre .0) (s .pre .1) ∙ free (c .before .before .before .before .before))
+          ∙ substitute-found (s .args .ticket .0) (s .args .table .now) (s .pre .0)
+          (slot-left-by (s .args .table .now) (s .args .round) (s .pre .0) (s .pre .1) ∙ free (c .before .before .before .before .before))
           (known (s .args .table .now) (s .args .round) r .fine) _ h,
       refl,
     )

@@ -11,12 +11,12 @@ use Rattle.theory.specs.Tests.{ltb?}
 use Rattle.theory.specs.All.{all-in}
 use Rattle.theory.specs.Full.{Fine}
 use Rattle.theory.specs.Marks.{box-yes}
-use Rattle.theory.specs.Reach.{mark-falls}
+use Rattle.theory.specs.MarksFall.{mark-falls}
 use Rattle.hindsight.specs.Tails.{tail}
-use Rattle.hindsight.specs.Stash.{Entry}
-use Rattle.hindsight.specs.Places.{Chain, Link, Place, Unpaid, Walk, put}
+use Rattle.hindsight.specs.Stash.{Stash-entry}
+use Rattle.hindsight.specs.Places.{Place-chain, Link, Chain-place, Unpaid, Walk, comes-for}
 use Rattle.hindsight.specs.PlaceSteps.{give-up-extra, free-or-held, step-free, step-gone}
-use Rattle.hindsight.specs.ChainWalk.{Present, Walked, further, walk-all}
+use Rattle.hindsight.specs.ChainWalk.{Present, Walked, place-more, walk-all}
 
 -- A MEMBER OF THE STRETCH from b to g, no lighter than the substitute and no heavier than p
 pub record In-stretch (r : Round) (wr g b : ℕ) (p x : Row) : Type 0 where
@@ -29,16 +29,16 @@ pub record In-stretch (r : Round) (wr g b : ℕ) (p x : Row) : Type 0 where
   pub marked : mark r (x .due) ≤ x .weight
   pub under : x .weight ≤ p .weight
 
-module _ (r : Round) (f : Fine r) (wr : ℕ) (ys : List Row) (es : List Entry) (adj : ℕ → ℕ → ℕ) (n : Present r ys es) (g b : ℕ) (p x : Row)
+module _ (r : Round) (f : Fine r) (wr : ℕ) (ys : List Row) (es : List Stash-entry) (adj : ℕ → ℕ → ℕ) (n : Present r ys es) (g b : ℕ) (p x : Row)
     (k : In-stretch r wr g b p x) (wm : (s : ℕ) → r .slot ≤ s → s ≤ g → wr ≤ mark r s) where
   -- where the walk ends, with a row more free up to x's due slot
-  pub record Gives (xs : List Row) (done ds : List Place) : Type 0 where
+  pub record Gives (xs : List Row) (done ds : List Chain-place) : Type 0 where
     pub walked : Walked r f wr ys es adj b p xs done ds
     pub more : (w v : ℕ) → 1 ≤ w → w ≤ wr → suc (r .slot) ≤ v → v ≤ suc (r .last) → v ≤ x .due →
         tail w v (suc (r .last)) xs + 1 ≤ tail w v (suc (r .last)) (walked .xs)
 
   -- x is given up at the place h
-  give-here : (h : Row) (mh : ℕ) (xs : List Row) (zs : List Entry) (done ds : List Place) → Chain r g b p h ds →
+  give-here : (h : Row) (mh : ℕ) (xs : List Row) (zs : List Stash-entry) (done ds : List Chain-place) → Place-chain r g b p h ds →
       (u : Walk r f wr ys es adj h mh [] xs zs done) → In x (u .untouched) → Unpaid r f wr ys es adj u → x .weight ≤ h .weight → h .weight ≤ most-weight →
       mh ≤ mark r (x .due) → Gives xs done ds
   give-here h mh xs zs done ds q u i n0 l hl mm =
@@ -61,14 +61,14 @@ module _ (r : Round) (f : Fine r) (wr : ℕ) (ys : List Row) (es : List Entry) (
       }
 
   -- the row of a place is given up, which is due no earlier than x
-  give-place : (o c h : Row) (mh : ℕ) (xs : List Row) (zs : List Entry) (done ds : List Place) → (l : Link r g o c h) → b ≤ o .due → Chain r g b p o ds →
-      h .due ≤ g → x .due ≤ c .due → (u : Walk r f wr ys es adj h mh [] xs zs done) → In o (u .untouched) → Unpaid r f wr ys es adj u → Gives xs done (put o c ∷ ds)
+  give-place : (o c h : Row) (mh : ℕ) (xs : List Row) (zs : List Stash-entry) (done ds : List Chain-place) → (l : Link r g o c h) → b ≤ o .due → Place-chain r g b p o ds →
+      h .due ≤ g → x .due ≤ c .due → (u : Walk r f wr ys es adj h mh [] xs zs done) → In o (u .untouched) → Unpaid r f wr ys es adj u → Gives xs done (comes-for o c ∷ ds)
   give-place o c h mh xs zs done ds l ob q hg m u j n0 =
       let s = step-gone r f wr ys es adj g o c h mh [] xs zs done l u j
       (omega (arith, n0 .3, wm (c .due) (omega (arith, l .low, l .from)) (omega (arith, l .after)))) in
-      let z = walk-all r f wr ys es adj g b p o (mark r (c .due)) (o ∷ []) (c ∷ xs) (s .0) (put o c ∷ done) ds n q (ob, tt) (s .1) in
+      let z = walk-all r f wr ys es adj g b p o (mark r (c .due)) (o ∷ []) (c ∷ xs) (s .0) (comes-for o c ∷ done) ds n q (ob, tt) (s .1) in
       record {
-        walked = further r f wr ys es adj b p o c xs (c ∷ xs) done ds (λ w v x y z t. omega arith) z;
+        walked = place-more r f wr ys es adj b p o c xs (c ∷ xs) done ds (λ w v x y z t. omega arith) z;
         more = λ w v a i e t y. omega (
           arith,
           z .mono w v a i e t,
@@ -77,7 +77,7 @@ module _ (r : Round) (f : Fine r) (wr : ℕ) (ys : List Row) (es : List Entry) (
       }
 
   -- WITH x THE LATEST ROW HELD by g: it is given up at the place it stands in, or the row of a place before
-  pub walk-gives : (h : Row) (mh : ℕ) (xs : List Row) (zs : List Entry) (done ds : List Place) → Chain r g b p h ds → h .due ≤ g → h .weight ≤ most-weight →
+  pub walk-gives : (h : Row) (mh : ℕ) (xs : List Row) (zs : List Stash-entry) (done ds : List Chain-place) → Place-chain r g b p h ds → h .due ≤ g → h .weight ≤ most-weight →
       mh ≤ mark r (x .due) → (u : Walk r f wr ys es adj h mh [] xs zs done) → In x (u .untouched) → Unpaid r f wr ys es adj u → Gives xs done ds
   walk-gives h mh xs zs done [] q hg hl mm u i n0 =
       give-here h mh xs zs done [] q u i n0 (omega (arith, k .under, ap (λ (z : Row). z .weight) q)) hl mm
@@ -91,11 +91,11 @@ module _ (r : Round) (f : Fine r) (wr : ℕ) (ys : List Row) (es : List Entry) (
         | inr m ↦ elim (free-or-held r f wr ys es adj g o c h mh [] xs zs done l u (n o (l .inside) (l .waits))) [
           | inl j ↦
               let s = step-free r f wr ys es adj g o c h mh [] xs zs done l u j in
-              let z = walk-gives o (mark r (c .due)) (s .0) zs (put o c ∷ done) ds (q .2) (omega (arith, l .from, l .after)) (l .limit)
+              let z = walk-gives o (mark r (c .due)) (s .0) zs (comes-for o c ∷ done) ds (q .2) (omega (arith, l .from, l .after)) (l .limit)
               (mark-falls r f (x .due) (c .due) (k .low) (m .1) (omega (arith, l .after, l .by)))
               (s .1) (subst (λ (t : List Row). In x t) (sym (s .4)) i) (s .3 n0) in
               record {
-                walked = further r f wr ys es adj b p o c xs (s .0) done ds (s .2) (z .walked);
+                walked = place-more r f wr ys es adj b p o c xs (s .0) done ds (s .2) (z .walked);
                 more = λ w v a t e y j. omega (arith, s .2 w v a t e y, z .more w v a t e y j);
               }
           | inr j ↦ give-place o c h mh xs zs done ds l (q .1) (q .2) hg (m .1) u j n0

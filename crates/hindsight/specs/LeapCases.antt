@@ -15,12 +15,12 @@ use Rattle.theory.specs.All.{all-in, all-map}
 use Rattle.theory.specs.Full.{Fine}
 use Rattle.theory.specs.Marks.{box, box-yes, box?}
 use Rattle.theory.specs.Totals.{sum-to-add, sum-to-le}
-use Rattle.theory.specs.Reach.{member-mark}
+use Rattle.theory.specs.MarksFall.{member-mark}
 use Rattle.hindsight.specs.Tails.{Latest-by, latest, tail}
-use Rattle.hindsight.specs.Occurs.{found, like, part-all, part-in}
+use Rattle.hindsight.specs.Occurs.{occurs-in, like, part-all, part-in}
 use Rattle.hindsight.specs.Worth.{rank, rank-ge, worth}
-use Rattle.hindsight.specs.Stash.{Entry, held}
-use Rattle.hindsight.specs.Places.{Place, Walk, news, olds, put, short}
+use Rattle.hindsight.specs.Stash.{Stash-entry, held}
+use Rattle.hindsight.specs.Places.{Chain-place, Walk, news, olds, comes-for, missed-besides}
 use Rattle.hindsight.specs.PlaceSteps.{give-up-extra}
 use Rattle.hindsight.specs.ChainEnd.{start-free, start-gone}
 use Rattle.hindsight.specs.ChainWalk.{Walked, walk-all, walk-none}
@@ -28,21 +28,21 @@ use Rattle.hindsight.specs.ChainGives.{walk-gives}
 use Rattle.hindsight.specs.LeapStage.{Leap-stage, gone-above, gone-above-low, gone-above-sum, rank-none-held, rank-before, rank-above, rank-up-to, Blocked, Useful, blocked?, useful-past}
 
 -- WHAT A LEAP IS WORTH: where the walk ends, and that the free rows then are worth no less than before, up to what was gained and lost
-pub record Leap-worth (r : Round) (f : Fine r) (p s h c : Row) (ds : List Place) (fs ys : List Row) (es : List Entry) : Type 0 where
+pub record Leap-worth (r : Round) (f : Fine r) (p s h c : Row) (ds : List Chain-place) (fs ys : List Row) (es : List Stash-entry) : Type 0 where
   pub mh : ℕ
   pub gs : List Row
   pub xs : List Row
-  pub zs : List Entry
-  pub done : List Place
-  pub walk : Walk r f (s .weight) ys es (short r h c) p mh gs xs zs done
+  pub zs : List Stash-entry
+  pub done : List Chain-place
+  pub walk : Walk r f (s .weight) ys es (missed-besides r h c) p mh gs xs zs done
   pub worthy : worth (suc (r .slot)) (suc (r .last)) fs + sum (λ x. x .weight - s .weight) gs
       ≤ worth (suc (r .slot)) (suc (r .last)) xs + walk .given
   pub olds-are : (μ : Row → ℕ) → olds μ done ≡ μ h + olds μ ds
   pub news-are : (μ : Row → ℕ) → news μ done ≡ μ c + news μ ds
 
-module _ (r : Round) (f : Fine r) (p s h c : Row) (b g : ℕ) (ds : List Place) (fs ys : List Row) (es : List Entry) (k : Leap-stage r f p s h c b g ds fs ys es) where
+module _ (r : Round) (f : Fine r) (p s h c : Row) (b g : ℕ) (ds : List Chain-place) (fs ys : List Row) (es : List Stash-entry) (k : Leap-stage r f p s h c b g ds fs ys es) where
   -- summed over the weights
-  leap-worth-of : (mh : ℕ) (gs xs : List Row) (zs : List Entry) (done : List Place) (u : Walk r f (s .weight) ys es (short r h c) p mh gs xs zs done) →
+  leap-worth-of : (mh : ℕ) (gs xs : List Row) (zs : List Stash-entry) (done : List Chain-place) (u : Walk r f (s .weight) ys es (missed-besides r h c) p mh gs xs zs done) →
       ((w : ℕ) → 1 ≤ w → w ≤ most-weight →
       rank w (suc (r .slot)) (suc (r .last)) fs + gone-above (s .weight) gs w ≤ rank w (suc (r .slot)) (suc (r .last)) xs + u .lost w) →
       ((μ : Row → ℕ) → olds μ done ≡ μ h + olds μ ds) → ((μ : Row → ℕ) → news μ done ≡ μ c + news μ ds) → Leap-worth r f p s h c ds fs ys es
@@ -70,7 +70,7 @@ module _ (r : Round) (f : Fine r) (p s h c : Row) (b g : ℕ) (ds : List Place) 
       }
 
   -- rows gone from the stash are due by the last slot
-  gone-due : (mh : ℕ) (gs xs : List Row) (zs : List Entry) (done : List Place) (u : Walk r f (s .weight) ys es (short r h c) p mh gs xs zs done) →
+  gone-due : (mh : ℕ) (gs xs : List Row) (zs : List Stash-entry) (done : List Chain-place) (u : Walk r f (s .weight) ys es (missed-besides r h c) p mh gs xs zs done) →
       All (λ y. y .due < suc (r .last)) gs
   gone-due mh gs xs zs done u =
       all-map {Q = λ y. y .due < suc (r .last)} (λ y (i : In y (held es)).
@@ -108,7 +108,7 @@ module _ (r : Round) (f : Fine r) (p s h c : Row) (b g : ℕ) (ds : List Place) 
   none-between : (d : ℕ) → d < b → Latest-by g d (held es) → (x : Row) → b ≤ x .due → x .due ≤ g → sum (like x) (held es) ≡ 0
   none-between d db lat x i j =
       elim (leb? 1 (sum (like x) (held es))) [
-        | inl q ↦ absurd (omega (arith, all-in (λ y. y .due ≤ g → y .due ≤ d) x (held es) lat (found x (held es) (q .1)) j))
+        | inl q ↦ absurd (omega (arith, all-in (λ y. y .due ≤ g → y .due ≤ d) x (held es) lat (occurs-in x (held es) (q .1)) j))
         | inr q ↦ omega arith
       ]
 
@@ -119,8 +119,8 @@ module _ (r : Round) (f : Fine r) (p s h c : Row) (b g : ℕ) (ds : List Place) 
       let hn = none-between d db lat in
       elim (leb? 1 (sum (like h) ys)) [
         | inl i ↦
-            let t = start-free r f (s .weight) ys es (short r h c) g h c (k .final) (k .good) (found h ys (i .1)) in
-            let z = walk-none r f (s .weight) ys es (short r h c) g b p h (c .weight) (c ∷ t .0) (put h c ∷ []) ds (k .present) (k .chain) (k .final .by) hn
+            let t = start-free r f (s .weight) ys es (missed-besides r h c) g h c (k .final) (k .good) (occurs-in h ys (i .1)) in
+            let z = walk-none r f (s .weight) ys es (missed-besides r h c) g b p h (c .weight) (c ∷ t .0) (comes-for h c ∷ []) ds (k .present) (k .chain) (k .final .by) hn
             (t .1) (t .3) (t .4) in
             leap-worth-of (z .mh) [] (z .xs) es (z .done) (z .walk)
             (λ w a l. omega (arith, rank-none-held r f p s h c b g ds fs ys es k (z .mh) (z .xs) (z .done) (z .walk) d db lat blk w a))
@@ -139,10 +139,10 @@ module _ (r : Round) (f : Fine r) (p s h c : Row) (b g : ℕ) (ds : List Place) 
       let mx = member-mark r f x ip xe in
       elim (leb? 1 (sum (like h) ys)) [
         | inl i ↦
-            let t = start-free r f (s .weight) ys es (short r h c) g h c (k .final) (k .good) (found h ys (i .1)) in
-            let z = walk-none r f (s .weight) ys es (short r h c) g b p h (c .weight) (c ∷ t .0) (put h c ∷ []) ds (k .present) (k .chain) (k .final .by) hn
+            let t = start-free r f (s .weight) ys es (missed-besides r h c) g h c (k .final) (k .good) (occurs-in h ys (i .1)) in
+            let z = walk-none r f (s .weight) ys es (missed-besides r h c) g b p h (c .weight) (c ∷ t .0) (comes-for h c ∷ []) ds (k .present) (k .chain) (k .final .by) hn
             (t .1) (t .3) (t .4) in
-            let u = give-up-extra r f (s .weight) ys es (short r h c) x p (z .mh) (z .xs) es (z .done) (z .walk)
+            let u = give-up-extra r f (s .weight) ys es (missed-besides r h c) x p (z .mh) (z .xs) es (z .done) (z .walk)
             (subst (λ (l : List Row). In x l) (sym (z .all-held)) ih) (z .unpaid)
             (all-in (λ y. y .due ≤ g → y .weight ≤ p .weight) x (plan r) (k .top) ip xg) (k .p-limit) (omega (arith, wm, mx)) mx
             (z .walk .marks (x .due) xl (omega (arith, k .p-from))) wm xe in
@@ -164,7 +164,7 @@ module _ (r : Round) (f : Fine r) (p s h c : Row) (b g : ℕ) (ds : List Place) 
       ]
 
   -- A WALK along the chain, rows of the stretch given up on it; d is where the latest row held by g is due
-  walk-worth : (d : ℕ) → Latest-by g d (held es) → (xs₀ : List Row) (u : Walked r f (s .weight) ys es (short r h c) b p xs₀ (put h c ∷ []) ds) →
+  walk-worth : (d : ℕ) → Latest-by g d (held es) → (xs₀ : List Row) (u : Walked r f (s .weight) ys es (missed-besides r h c) b p xs₀ (comes-for h c ∷ []) ds) →
       ((w v : ℕ) → 1 ≤ w → w ≤ s .weight → suc (r .slot) ≤ v → v ≤ suc (r .last) →
       tail w v (suc (r .last)) fs ≤ tail w v (suc (r .last)) (u .xs) + one-if (leb v g)) →
       ((w v : ℕ) → 1 ≤ w → w ≤ s .weight → suc (r .slot) ≤ v → v ≤ suc (r .last) → v ≤ d →
@@ -190,8 +190,8 @@ module _ (r : Round) (f : Fine r) (p s h c : Row) (b g : ℕ) (ds : List Place) 
       let xe : x .due ≤ r .last = all-in (λ x. (suc (r .slot) ≤ x .due) × (x .due ≤ r .last)) x (held es) (k .lates) ih .1 in
       let wm : (v : ℕ) → r .slot ≤ v → v ≤ g → s .weight ≤ mark r v = λ v i j. omega (arith, k .final .marks v i j, k .final .under) in
       let mx = member-mark r f x ip xe in
-      let t = start-free r f (s .weight) ys es (short r h c) g h c (k .final) (k .good) i in
-      let z = walk-gives r f (s .weight) ys es (short r h c) (k .present) g b p x (record {
+      let t = start-free r f (s .weight) ys es (missed-besides r h c) g h c (k .final) (k .good) i in
+      let z = walk-gives r f (s .weight) ys es (missed-besides r h c) (k .present) g b p x (record {
         inside = ip;
         low = xl;
         by = xg;
@@ -200,7 +200,7 @@ module _ (r : Round) (f : Fine r) (p s h c : Row) (b g : ℕ) (ds : List Place) 
         over = omega (arith, wm (x .due) xl xg, mx);
         marked = mx;
         under = all-in (λ y. y .due ≤ g → y .weight ≤ p .weight) x (plan r) (k .top) ip xg;
-      }) wm h (c .weight) (c ∷ t .0) es (put h c ∷ []) ds (k .chain) (k .final .by) (k .final .limit) (k .final .marks (x .due) xl xg)
+      }) wm h (c .weight) (c ∷ t .0) es (comes-for h c ∷ []) ds (k .chain) (k .final .by) (k .final .limit) (k .final .marks (x .due) xl xg)
       (t .1) (subst (λ (l : List Row). In x l) (sym (t .4)) ih) (t .3) in
       let base : (w v : ℕ) → 1 ≤ w → w ≤ s .weight → suc (r .slot) ≤ v → v ≤ e → tail w v e fs ≤ tail w v e (c ∷ t .0) + one-if (leb v g) = λ w v a l i j.
       omega (arith, k .less w v a, t .2 (box w v e), same-to-weight w v a l j, last-place-late w v j) in
@@ -212,8 +212,8 @@ module _ (r : Round) (f : Fine r) (p s h c : Row) (b g : ℕ) (ds : List Place) 
   stretch-held : (d : ℕ) → Latest-by g d (held es) → In h (held es) → Leap-worth r f p s h c ds fs ys es
   stretch-held d lat i =
       let e = suc (r .last) in
-      let t = start-gone r f (s .weight) ys es (short r h c) g h c (k .final) (k .good) i in
-      let u = walk-all r f (s .weight) ys es (short r h c) g b p h (c .weight) (h ∷ []) (c ∷ ys) (t .0) (put h c ∷ []) ds (k .present) (k .chain)
+      let t = start-gone r f (s .weight) ys es (missed-besides r h c) g h c (k .final) (k .good) i in
+      let u = walk-all r f (s .weight) ys es (missed-besides r h c) g b p h (c .weight) (h ∷ []) (c ∷ ys) (t .0) (comes-for h c ∷ []) ds (k .present) (k .chain)
       (k .begin, tt) (t .1) in
       let base : (w v : ℕ) → 1 ≤ w → w ≤ s .weight → suc (r .slot) ≤ v → v ≤ e → tail w v e fs ≤ tail w v e (u .xs) = λ w v a l i j.
       omega (arith, k .less w v a, same-to-weight w v a l j, u .mono w v a l i j) in
@@ -224,8 +224,8 @@ module _ (r : Round) (f : Fine r) (p s h c : Row) (b g : ℕ) (ds : List Place) 
       Leap-worth r f p s h c ds fs ys es
   held-in-stretch x ih ip xb xg xl lat =
       elim (leb? 1 (sum (like h) ys)) [
-        | inl i ↦ stretch-free x ih ip xb xg xl lat (found h ys (i .1))
-        | inr i ↦ stretch-held (x .due) lat (found h (held es) (omega (arith, k .present h (k .final .inside) (k .final .waits))))
+        | inl i ↦ stretch-free x ih ip xb xg xl lat (occurs-in h ys (i .1))
+        | inr i ↦ stretch-held (x .due) lat (occurs-in h (held es) (omega (arith, k .present h (k .final .inside) (k .final .waits))))
       ]
 
   -- with nothing held by g the substitute is blocked

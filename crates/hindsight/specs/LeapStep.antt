@@ -14,19 +14,19 @@ use Rattle.theory.specs.Sum.{sum}
 use Rattle.theory.specs.All.{all-in, all-of-in}
 use Rattle.theory.specs.Bounds.{Row-fine}
 use Rattle.theory.specs.Full.{Fine, outside, plan-due, plan-feas, plan-full}
-use Rattle.theory.specs.Marks.{Next, Start, next, start}
-use Rattle.theory.specs.Send.{Stand-in, outside-in}
+use Rattle.theory.specs.Marks.{Next-tight, Start, next, start}
+use Rattle.theory.specs.Send.{Waits-outside, outside-in}
 use Rattle.theory.specs.Leap.{After-leap, outside-heavy}
 use Rattle.theory.specs.Calls.{sent-rows}
 use Rattle.theory.specs.Members.{of-rows-in, planned-rows}
 use Rattle.theory.specs.Substitute.{first-weight, later-is}
 use Rattle.theory.specs.Best.{leap-goes}
 use Rattle.theory.specs.Picks.{best-picked}
-use Rattle.theory.specs.Reach.{mark-falls}
+use Rattle.theory.specs.MarksFall.{mark-falls}
 use Rattle.hindsight.specs.Worth.{worth}
 use Rattle.hindsight.specs.Fibonacci.{fib-50, fib-51, fib-52, fib-53, fib-54, pair-50, pair-52}
 use Rattle.hindsight.specs.Picked.{later-heaviest, no-heavier, picked-first, stand-ins-later, stands-from}
-use Rattle.hindsight.specs.Stash.{Entry, held}
+use Rattle.hindsight.specs.Stash.{Stash-entry, held}
 use Rattle.hindsight.specs.Settling.{State}
 use Rattle.hindsight.specs.Step.{Own-slot, Step-made, after-step, lift, own-slot, worth-time}
 use Rattle.hindsight.specs.OrdinaryStep.{ordinary-step}
@@ -45,7 +45,7 @@ leap-bound v0 v1 v2 v3 v4 c p s m got given cost gain rise pending anchor mh a b
     elim (leb? pending 0) [ inl z ↦ omega arith | inr z ↦ omega arith ]
 
 -- no segment starts between a slot and the next tight one
-pub none-tight : (r : Round) → Fine r → (s y g c : ℕ) → Next r (plan r) s g → Start r (plan r) y c → y ≤ g → r .slot ≤ s → c ≤ s ⊎ (c ≤ r .slot)
+pub none-tight : (r : Round) → Fine r → (s y g c : ℕ) → Next-tight r (plan r) s g → Start r (plan r) y c → y ≤ g → r .slot ≤ s → c ≤ s ⊎ (c ≤ r .slot)
 none-tight r f s y g zero n st h i = inl (omega arith)
 none-tight r f s y g (suc c) n st h i =
     elim (leb? (suc c) s) [
@@ -58,7 +58,7 @@ none-tight r f s y g (suc c) n st h i =
 
 -- the substitute of a later member is the blank at the start of its segment, or a row outside
 pub standing-in : (r : Round) (p : Row) → first-end r (plan r) < p .due →
-    Stand-in r (plan r) (segment-start r (plan r) (p .due)) (r .rows) (blank (segment-start r (plan r) (p .due))) (substitute r (plan r) p)
+    Waits-outside r (plan r) (segment-start r (plan r) (p .due)) (r .rows) (blank (segment-start r (plan r) (p .due))) (substitute r (plan r) p)
 standing-in r p h =
     let b = segment-start r (plan r) (p .due) in
     rw (later-is r p h)
@@ -107,7 +107,7 @@ none-heavier r f o h =
           ]
     ]))
 
-module _ (r : Round) (f : Fine r) (o : r .slot ≤ r .last) (es : List Entry) (fs : List Row) (w : Own-slot r es fs)
+module _ (r : Round) (f : Fine r) (o : r .slot ≤ r .last) (es : List Stash-entry) (fs : List Row) (w : Own-slot r es fs)
     (h : first-end r (plan r) < best r (plan r) .due) where
   -- the rows after the step are those after the leap
   leap-sums : (μ : Row → ℕ) → sum μ (sent-rows r) ≡ sum μ (After-leap r (best r (plan r)) (substitute r (plan r) (best r (plan r))))
@@ -169,7 +169,7 @@ module _ (r : Round) (f : Fine r) (o : r .slot ≤ r .last) (es : List Entry) (f
       leap-waits (of-rows-in r f (planned r) c (best r (plan r)) i)
 
 -- A STEP, ordinary or a leap
-pub step-made : (r : Round) (f : Fine r) → r .slot ≤ r .last → (es : List Entry) (fs : List Row) → State r es fs → Step-made r es fs
+pub step-made : (r : Round) (f : Fine r) → r .slot ≤ r .last → (es : List Stash-entry) (fs : List Row) → State r es fs → Step-made r es fs
 step-made r f o es fs st =
     let w = own-slot r f o es fs st in
     elim (leb? (best r (plan r) .due) (first-end r (plan r))) [

@@ -20,10 +20,10 @@ use Rattle.theory.specs.Change.{changed-sum, rising-first, without-sum}
 use Rattle.theory.specs.Send.{next-by}
 use Rattle.theory.specs.Leap.{After-leap, ends-of, no-shift}
 use Rattle.theory.specs.Totals.{plan-weights, sum-to-le}
-use Rattle.theory.specs.Reach.{reach}
-use Rattle.hindsight.specs.Occurs.{found, like, like-self, like?, pull, seen}
+use Rattle.theory.specs.MarksFall.{mark-reaches}
+use Rattle.hindsight.specs.Occurs.{occurs-in, like, like-self, like?, pull, seen}
 use Rattle.hindsight.specs.Worth.{Split, rank, rank-ge, rank-le, worth}
-use Rattle.hindsight.specs.Stash.{Entry, Good, held}
+use Rattle.hindsight.specs.Stash.{Stash-entry, Good, held}
 use Rattle.hindsight.specs.LeapStage.{Leap-stage}
 use Rattle.hindsight.specs.LeapCases.{leap-worth}
 use Rattle.hindsight.specs.Step.{lift}
@@ -61,7 +61,7 @@ blank-rows r f p b sp =
     (λ a. inl (ltb-true 0 (mark-in r (plan r) b) a, λ μ. changed-sum μ p (blank-row r p b) (r .rows) i))
     (λ a. inr (ltb-false 0 (mark-in r (plan r) b) a, λ μ. without-sum μ p (r .rows) i)))
 
-module _ (r : Round) (f : Fine r) (o : r .slot ≤ r .last) (p : Row) (b : ℕ) (sp : Segment-start r p b) (fs : List Row) (es : List Entry)
+module _ (r : Round) (f : Fine r) (o : r .slot ≤ r .last) (p : Row) (b : ℕ) (sp : Segment-start r p b) (fs : List Row) (es : List Stash-entry)
     (sl : Split r fs (held es)) (gd : Good r (suc (r .slot)) es)
     (out : (w : ℕ) → 1 ≤ w → w ≤ most-weight → 0 < w → All (λ y. w ≤ y .weight → y .due < b) (outside r))
     (top : All (λ y. y .due ≤ tight-after r (plan r) b → y .weight ≤ p .weight) (plan r)) where
@@ -96,7 +96,7 @@ module _ (r : Round) (f : Fine r) (o : r .slot ≤ r .last) (p : Row) (b : ℕ) 
           above = all-in (λ y. y .due ≤ g → mark-in r (plan r) b ≤ y .weight) p (plan r) (mark-all r (plan r) b) (sp .inside) pg;
           limit = all-in (λ x. (x .weight ≤ most-weight) × (x .due < suc (r .last))) p (plan r) (plan-weights r f) (sp .inside) .0;
           under = omega arith;
-          marks = λ v a l. reach r f b v (omega (arith, st .by, sp .by)) a l;
+          marks = λ v a l. mark-reaches r f b v (omega (arith, st .by, sp .by)) a l;
           adjust = λ w v. omega arith;
         };
         chain = refl;
@@ -123,7 +123,7 @@ module _ (r : Round) (f : Fine r) (o : r .slot ≤ r .last) (p : Row) (b : ℕ) 
             (λ μ. omega (arith, q .1 μ, u .swap μ, l .olds-are μ, l .news-are μ, sl .whole μ)) (omega arith)
             (λ κ fx. omega (arith, q .1 (lift κ), u .rises, l .olds-are (λ x. x .weight), l .news-are (λ x. x .weight)))
         | inr q ↦
-            let inx : In c (l .xs) = found c (l .xs) (omega (
+            let inx : In c (l .xs) = occurs-in c (l .xs) (omega (
               arith,
               u .swap (like c),
               l .olds-are (like c),

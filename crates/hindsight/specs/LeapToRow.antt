@@ -15,15 +15,15 @@ use Rattle.theory.specs.All.{all-in, all-map, blank-ticket}
 use Rattle.theory.specs.Bounds.{Row-fine}
 use Rattle.theory.specs.Full.{Fine, outside, plan-member}
 use Rattle.theory.specs.Marks.{box, mark-all}
-use Rattle.theory.specs.Change.{First, changed-first, changed-sum, not-in-plan, rising-above, rising-same, row-outside, without-sum}
-use Rattle.theory.specs.Leap.{After-leap, Ends, Heavy-to, at-its-mark, ends-of, outside-heavy, rows-kept}
+use Rattle.theory.specs.Change.{First-of-ticket, changed-first, changed-sum, not-in-plan, rising-above, rising-same, row-outside, without-sum}
+use Rattle.theory.specs.Leap.{After-leap, Shift-ends, Heavy-to, at-its-mark, ends-of, outside-heavy, rows-kept}
 use Rattle.theory.specs.Totals.{plan-weights}
 use Rattle.theory.specs.Picks.{mark-least}
-use Rattle.theory.specs.Reach.{reach}
+use Rattle.theory.specs.MarksFall.{mark-reaches}
 use Rattle.hindsight.specs.Occurs.{like, like?, part-in, pull, seen}
 use Rattle.hindsight.specs.Worth.{Split}
-use Rattle.hindsight.specs.Stash.{Entry, Good, held}
-use Rattle.hindsight.specs.Places.{Chain, Link, Place, news, olds, short}
+use Rattle.hindsight.specs.Stash.{Stash-entry, Good, held}
+use Rattle.hindsight.specs.Places.{Place-chain, Link, Chain-place, news, olds, missed-besides}
 use Rattle.hindsight.specs.ChainEnd.{Last}
 use Rattle.hindsight.specs.LeapStage.{Leap-stage}
 use Rattle.hindsight.specs.LeapCases.{leap-worth}
@@ -32,8 +32,8 @@ use Rattle.hindsight.specs.Step.{Fixed, split-either, lift}
 use Rattle.hindsight.specs.LeapMade.{Leap-made, Segment-start, held-later, made-from}
 
 -- along a chain no weight above a fixed measure gets lost
-pub chain-lift : (r : Round) (g b : ℕ) (κ : Row → ℕ) → Fixed κ → (p h : Row) (ds : List Place) →
-    Chain r g b p h ds →
+pub chain-lift : (r : Round) (g b : ℕ) (κ : Row → ℕ) → Fixed κ → (p h : Row) (ds : List Chain-place) →
+    Place-chain r g b p h ds →
     news (lift κ) ds + lift κ p + olds (λ x. x .weight) ds + h .weight ≤ olds (lift κ) ds + lift κ h + news (λ x. x .weight) ds + p .weight
 chain-lift r g b κ fx p h [] q = omega (arith, ap (lift κ) q, ap (λ (x : Row). x .weight) q)
 chain-lift r g b κ fx p h (d ∷ ds) q =
@@ -49,7 +49,7 @@ chain-lift r g b κ fx p h (d ∷ ds) q =
     heavier-new : {o c h : Row} → Link r g o c h → h .weight ≤ c .weight
     heavier-new k = omega (arith, k .rises)
 
-module _ (r : Round) (f : Fine r) (o : r .slot ≤ r .last) (p s : Row) (b : ℕ) (sp : Segment-start r p b) (fs : List Row) (es : List Entry)
+module _ (r : Round) (f : Fine r) (o : r .slot ≤ r .last) (p s : Row) (b : ℕ) (sp : Segment-start r p b) (fs : List Row) (es : List Stash-entry)
     (sl : Split r fs (held es)) (gd : Good r (suc (r .slot)) es)
     (out : (w : ℕ) → 1 ≤ w → w ≤ most-weight → s .weight < w → All (λ y. w ≤ y .weight → y .due < b) (outside r))
     (top : All (λ y. y .due ≤ tight-after r (plan r) (s .due) → y .weight ≤ p .weight) (plan r)) where
@@ -63,7 +63,7 @@ module _ (r : Round) (f : Fine r) (o : r .slot ≤ r .last) (p s : Row) (b : ℕ
 
   -- WITH THE CHAIN at hand: e and g end the segments of p and s, ys are the free rows without s, xs the rows after the shifts
   module _ (j : In s (r .rows)) (hs : b ≤ s .due) (n : in-plan s (plan r) ≡ false) (e g : ℕ) (ee : e ≡ tight-after r (plan r) (p .due))
-      (ge : g ≡ tight-after r (plan r) (s .due)) (en : Ends r p s e g) (ys : List Row) (pu : (μ : Row → ℕ) → sum μ ys + μ s ≡ sum μ fs) (xs : List Row)
+      (ge : g ≡ tight-after r (plan r) (s .due)) (en : Shift-ends r p s e g) (ys : List Row) (pu : (μ : Row → ℕ) → sum μ ys + μ s ≡ sum μ fs) (xs : List Row)
       (xe : xs ≡ shifted (suc (r .last)) r (plan r) e g (r .rows)) (q : Shifts-at r f p b g e g xs) where
     -- the substitute is no member
     no-member : (x : Row) → In x (plan r) → like x s ≡ 0
@@ -74,7 +74,7 @@ module _ (r : Round) (f : Fine r) (o : r .slot ≤ r .last) (p s : Row) (b : ℕ
         ]
 
     -- the last place of the chain, to which it comes
-    last-place : Last r (s .weight) (short r (q .hole) (at-its-mark r s)) g (q .hole) (at-its-mark r s)
+    last-place : Last r (s .weight) (missed-besides r (q .hole) (at-its-mark r s)) g (q .hole) (at-its-mark r s)
     unfolding row mark
     last-place =
         record {
@@ -86,7 +86,7 @@ module _ (r : Round) (f : Fine r) (o : r .slot ≤ r .last) (p s : Row) (b : ℕ
           above = mark-least r f (s .due) (q .hole) (q .inside) (omega (arith, q .by));
           limit = all-in (λ x. (x .weight ≤ most-weight) × (x .due < suc (r .last))) (q .hole) (plan r) (plan-weights r f) (q .inside) .0;
           under = outside-heavy r f s j n;
-          marks = λ v a l. reach r f (s .due) v (all-in (Row-fine r) s (r .rows) (f .fine) j .due-by) a (omega arith);
+          marks = λ v a l. mark-reaches r f (s .due) v (all-in (Row-fine r) s (r .rows) (f .fine) j .due-by) a (omega arith);
           adjust = λ w v. omega arith;
         }
 
@@ -123,8 +123,8 @@ module _ (r : Round) (f : Fine r) (o : r .slot ≤ r .last) (p s : Row) (b : ℕ
     unfolding replaced row
     rows-after μ =
         let c = at-its-mark r s in
-        let fs′ : First s xs = q .kept .others s j (λ y a b d. not-in-plan s (plan r) n y a (sym d)) in
-        let fp : First p (changed (s .ticket) c xs) = changed-first (s .ticket) c p (not-in-plan s (plan r) n p (sp .inside)) refl xs
+        let fs′ : First-of-ticket s xs = q .kept .others s j (λ y a b d. not-in-plan s (plan r) n y a (sym d)) in
+        let fp : First-of-ticket p (changed (s .ticket) c xs) = changed-first (s .ticket) c p (not-in-plan s (plan r) n p (sp .inside)) refl xs
         (q .kept .others p (sp .waits) (λ y a t d. omega (arith, en .first .from, t, ap (λ (x : Row). x .due) (same-member y a d)))) in
         let rows-are : shifted (suc (r .last)) r (plan r) (tight-after r (plan r) (p .due)) (tight-after r (plan r) (s .due)) (r .rows) ≡ xs = sym
         (xe ∙ ap (λ (z : ℕ). shifted (suc (r .last)) r (plan r) z g (r .rows)) ee

@@ -53,12 +53,12 @@ abbrev pub best-first : Offer → List Offer → (used : List ℕ) → ℕ
 best-first x xs us = top-of (suc (x .to) - x .from) (x .from) (with-first x xs us)
 
 -- NO CHOICE gains more
-pub none-more : (xs : List Offer) (cs : Choice) (us : List ℕ) → kept-to xs cs us ≡ true → gained xs cs ≤ most xs us
+pub none-gains-more : (xs : List Offer) (cs : Choice) (us : List ℕ) → kept-to xs cs us ≡ true → gained xs cs ≤ most xs us
 unfolding kept-to gained most
-none-more [] cs us v = omega arith
-none-more (x ∷ xs) [] us v = omega arith
-none-more (x ∷ xs) (none ∷ cs) us v = omega (arith, none-more xs cs us v)
-none-more (x ∷ xs) (some s ∷ cs) us v =
+none-gains-more [] cs us v = omega arith
+none-gains-more (x ∷ xs) [] us v = omega arith
+none-gains-more (x ∷ xs) (none ∷ cs) us v = omega (arith, none-gains-more xs cs us v)
+none-gains-more (x ∷ xs) (some s ∷ cs) us v =
     let a = and-true ((leb (x .from) s && leb s (x .to)) && not (member s us)) (kept-to xs cs (s ∷ us)) v in
     let b = and-true (leb (x .from) s && leb s (x .to)) (not (member s us)) (a .0) in
     let g = and-true (leb (x .from) s) (leb s (x .to)) (b .0) in
@@ -66,7 +66,7 @@ none-more (x ∷ xs) (some s ∷ cs) us v =
     let hi = leb-true s (x .to) (g .1) in
     let t = top-above (suc (x .to) - x .from) (x .from) (with-first x xs us) s lo (omega arith) in
     let t′ = rw (not-true′ (member s us) (b .1)) at t in
-    omega (arith, none-more xs cs (s ∷ us) (a .1))
+    omega (arith, none-gains-more xs cs (s ∷ us) (a .1))
 
 -- SOME CHOICE gains it
 abbrev pub Gains-most : List Offer → (used : List ℕ) → Type 0
@@ -105,4 +105,4 @@ some-gains (x ∷ xs) us = first-any x xs us (λ vs. some-gains xs vs)
 
 pub most-reckoned : Most-reckoned
 unfolding Most-reckoned Most
-most-reckoned xs = (some-gains xs [], λ cs v. none-more xs cs [] v)
+most-reckoned xs = (some-gains xs [], λ cs v. none-gains-more xs cs [] v)

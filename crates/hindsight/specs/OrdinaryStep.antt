@@ -19,14 +19,14 @@ use Rattle.theory.specs.Totals.{sum-to-add, sum-to-le}
 use Rattle.theory.specs.Score.{Bounded, plan-bounded}
 use Rattle.theory.specs.Substitute.{first-weight}
 use Rattle.theory.specs.Picks.{best-picked}
-use Rattle.theory.specs.Reach.{first-mark, reach}
+use Rattle.theory.specs.MarksFall.{first-mark, mark-reaches}
 use Rattle.hindsight.specs.Tails.{Latest-by, latest, none-by, none-past}
 use Rattle.hindsight.specs.Occurs.{part-in, pull}
 use Rattle.hindsight.specs.Worth.{rank, up-to, up-to-sum, worth}
 use Rattle.hindsight.specs.Passing.{rank-ordinary, rank-ordinary-held}
 use Rattle.hindsight.specs.Fibonacci.{fib-51, fib-52, fib-53, fib-54}
 use Rattle.hindsight.specs.Picked.{no-heavier}
-use Rattle.hindsight.specs.Stash.{Entry, give-up, held}
+use Rattle.hindsight.specs.Stash.{Stash-entry, give-up, held}
 use Rattle.hindsight.specs.Step.{Own-slot, Step-made, after-step, lift, split-either, worth-time}
 
 -- the sum of such a step, in numbers: v are worths, c what was paid, p, s and m the weights of row, substitute and first mark
@@ -39,7 +39,7 @@ held-bound : (v0 v1 v2 v3 c p s m g : ℕ) → fib-52 * v0 + fib-53 * c ≤ fib-
     m ≤ p → g ≤ p → m ≤ g → fib-52 * v0 + fib-53 * (c + (g - m)) + fib-54 * 0 ≤ fib-52 * v3 + fib-54 * p
 held-bound v0 v1 v2 v3 c p s m g a b d e h i j = omega arith
 
-module _ (r : Round) (f : Fine r) (o : r .slot ≤ r .last) (es : List Entry) (fs : List Row) (w : Own-slot r es fs)
+module _ (r : Round) (f : Fine r) (o : r .slot ≤ r .last) (es : List Stash-entry) (fs : List Row) (w : Own-slot r es fs)
     (h : best r (plan r) .due ≤ first-end r (plan r)) where
   -- the row sent is a member
   sent-in : In (best r (plan r)) (plan r)
@@ -91,7 +91,7 @@ module _ (r : Round) (f : Fine r) (o : r .slot ≤ r .last) (es : List Entry) (f
       let p = best r (plan r) in
       let m = mark r (r .slot) in
       let u = all-in (λ x. (r .slot ≤ x .due) × (x .due ≤ r .last)) p (plan r) (plan-due r f) sent-in in
-      let q = give-up r f p m (reach r f (r .slot) (p .due) o (u .0) h) sent-mark (u .1) (suc (r .slot)) (w .rest) (omega arith) hp (w .good) in
+      let q = give-up r f p m (mark-reaches r f (r .slot) (p .due) o (u .0) h) sent-mark (u .1) (suc (r .slot)) (w .rest) (omega arith) hp (w .good) in
       let z = after-step r f o (q .stash) (w .free) (q .good) (λ μ. omega (arith, w .split .whole μ, q .sums μ, one-gone i μ)) in
       record {
         stash = z .stash;
@@ -150,7 +150,7 @@ module _ (r : Round) (f : Fine r) (o : r .slot ≤ r .last) (es : List Entry) (f
       let gm : m ≤ g .weight = first-mark r f g gp d in
       let gw : g .weight ≤ p .weight = no-heavier r f o g gp (omega (arith, sent-substitute, first-weight r f g gp d)) in
       let u = all-in (λ x. (r .slot ≤ x .due) × (x .due ≤ r .last)) g (plan r) (plan-due r f) gp in
-      let q = give-up r f g m (reach r f t (g .due) o (u .0) d) gm (u .1) (suc t) (w .rest) (omega arith) j (w .good) in
+      let q = give-up r f g m (mark-reaches r f t (g .due) o (u .0) d) gm (u .1) (suc t) (w .rest) (omega arith) j (w .good) in
       let z = after-step r f o (q .stash) (g ∷ xs) (q .good) (λ μ. omega (arith, w .split .whole μ, pu μ, q .sums μ, one-gone i μ)) in
       let pl : p .weight ≤ most-weight = all-in Bounded p (plan r) (plan-bounded r f) sent-in in
       let v : worth t e (w .free) + g .weight ≤ worth (suc t) e (g ∷ xs) + p .weight + m =

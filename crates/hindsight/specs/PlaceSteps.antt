@@ -12,23 +12,23 @@ use Rattle.theory.specs.Sum.{sum}
 use Rattle.theory.specs.Full.{Fine}
 use Rattle.theory.specs.Marks.{box}
 use Rattle.theory.specs.Totals.{sum-to, sum-to-add}
-use Rattle.theory.specs.Reach.{mark-falls}
+use Rattle.theory.specs.MarksFall.{mark-falls}
 use Rattle.hindsight.specs.Tails.{tail}
-use Rattle.hindsight.specs.Occurs.{found, like, like-late, like-some, pull, seen}
+use Rattle.hindsight.specs.Occurs.{occurs-in, like, like-late, like-some, pull, seen}
 use Rattle.hindsight.specs.Worth.{up-to?}
-use Rattle.hindsight.specs.Stash.{Entry, give-up, held, trade}
-use Rattle.hindsight.specs.Places.{Link, Place, Unpaid, Walk, box-fall, fall, fall-sum, olds, put}
+use Rattle.hindsight.specs.Stash.{Stash-entry, give-up, held, trade}
+use Rattle.hindsight.specs.Places.{Link, Chain-place, Unpaid, Walk, box-fall, fall, fall-sum, olds, comes-for}
 
-module _ (r : Round) (f : Fine r) (wr : ℕ) (ys : List Row) (es : List Entry) (adj : ℕ → ℕ → ℕ) where
-  module _ (g : ℕ) (o c h : Row) (mh : ℕ) (gs xs : List Row) (zs : List Entry) (done : List Place) (k : Link r g o c h)
+module _ (r : Round) (f : Fine r) (wr : ℕ) (ys : List Row) (es : List Stash-entry) (adj : ℕ → ℕ → ℕ) where
+  module _ (g : ℕ) (o c h : Row) (mh : ℕ) (gs xs : List Row) (zs : List Stash-entry) (done : List Chain-place) (k : Link r g o c h)
       (u : Walk r f wr ys es adj h mh gs xs zs done) where
     -- a row that waits is free or held
     pub free-or-held : 1 ≤ sum (like o) ys + sum (like o) (held es) → In o xs ⊎ In o (u .untouched)
     free-or-held n =
         let z = u .done-late o (omega (arith, k .from, k .after)) in
         elim (leb? 1 (sum (like o) xs)) [
-          | inl a ↦ inl (found o xs (a .1))
-          | inr a ↦ inr (found o (u .untouched)
+          | inl a ↦ inl (occurs-in o xs (a .1))
+          | inr a ↦ inr (occurs-in o (u .untouched)
               (omega (arith, u .swap (like o), u .kept (like o), u .stayed-late o (omega (arith, k .from, k .after)))))
         ]
 
@@ -70,7 +70,7 @@ module _ (r : Round) (f : Fine r) (wr : ℕ) (ys : List Row) (es : List Entry) (
         ]
 
     -- THE PLACE IS FREE: the row that comes is free
-    pub step-free : In o xs → (xs′ : List Row) × (u′ : Walk r f wr ys es adj o (mark r (c .due)) gs xs′ zs (put o c ∷ done))
+    pub step-free : In o xs → (xs′ : List Row) × (u′ : Walk r f wr ys es adj o (mark r (c .due)) gs xs′ zs (comes-for o c ∷ done))
         × ((w v : ℕ) → 1 ≤ w → w ≤ wr → suc (r .slot) ≤ v → v ≤ suc (r .last) → tail w v (suc (r .last)) xs ≤ tail w v (suc (r .last)) xs′)
         × (Unpaid r f wr ys es adj u → Unpaid r f wr ys es adj u′) × (u′ .untouched ≡ u .untouched)
     step-free i =
@@ -114,10 +114,10 @@ module _ (r : Round) (f : Fine r) (wr : ℕ) (ys : List Row) (es : List Entry) (
         )
 
     -- HELD, and the mark is below the anchor: its entry takes the row that comes
-    pub step-stay : In o (u .untouched) → mark r (c .due) < u .anchor → (zs′ : List Entry) × Walk r f wr ys es adj o (mark r (c .due)) gs xs zs′ (put o c ∷ done)
+    pub step-stay : In o (u .untouched) → mark r (c .due) < u .anchor → (zs′ : List Stash-entry) × Walk r f wr ys es adj o (mark r (c .due)) gs xs zs′ (comes-for o c ∷ done)
     step-stay i n =
         let q = pull o (u .untouched) i in
-        let inz : In o (held zs) = found o (held zs) (omega (arith, u .kept (like o), seen o (u .untouched) i)) in
+        let inz : In o (held zs) = occurs-in o (held zs) (omega (arith, u .kept (like o), seen o (u .untouched) i)) in
         let z = trade r o c (k .from) (omega (arith, k .rises, k .falls, k .above)) (suc (r .slot)) zs (omega arith) inz (u .good) in
         let same : c .weight ≡ h .weight = omega (arith, k .rises, u .under) in (
           z .stash,
@@ -156,10 +156,10 @@ module _ (r : Round) (f : Fine r) (wr : ℕ) (ys : List Row) (es : List Entry) (
 
     -- HELD, and the mark is the anchor or more: its entry is owed the mark, the row that comes is free
     pub step-gone : In o (u .untouched) → u .anchor ≤ mark r (c .due) →
-        (zs′ : List Entry) × Walk r f wr ys es adj o (mark r (c .due)) (o ∷ gs) (c ∷ xs) zs′ (put o c ∷ done)
+        (zs′ : List Stash-entry) × Walk r f wr ys es adj o (mark r (c .due)) (o ∷ gs) (c ∷ xs) zs′ (comes-for o c ∷ done)
     step-gone i n =
         let q = pull o (u .untouched) i in
-        let inz : In o (held zs) = found o (held zs) (omega (arith, u .kept (like o), seen o (u .untouched) i)) in
+        let inz : In o (held zs) = occurs-in o (held zs) (omega (arith, u .kept (like o), seen o (u .untouched) i)) in
         let z = give-up r f o (mark r (c .due)) (marks-back (o .due) (k .low) (omega arith)) (k .above) (omega (arith, k .from, k .after, k .by))
         (suc (r .slot)) zs (omega arith) inz (u .good) in (
           z .stash,
@@ -197,13 +197,13 @@ module _ (r : Round) (f : Fine r) (wr : ℕ) (ys : List Row) (es : List Entry) (
         )
 
   -- A HELD ROW that is no place, x, given up for its mark at the place h
-  pub give-up-extra : (x h : Row) (mh : ℕ) (xs : List Row) (zs : List Entry) (done : List Place) (u : Walk r f wr ys es adj h mh [] xs zs done) → In x (u .untouched) →
+  pub give-up-extra : (x h : Row) (mh : ℕ) (xs : List Row) (zs : List Stash-entry) (done : List Chain-place) (u : Walk r f wr ys es adj h mh [] xs zs done) → In x (u .untouched) →
       Unpaid r f wr ys es adj u → x .weight ≤ h .weight → h .weight ≤ most-weight → wr ≤ x .weight → mark r (x .due) ≤ x .weight →
       mh ≤ mark r (x .due) → wr ≤ mark r (x .due) → x .due ≤ r .last →
-      (zs′ : List Entry) × Walk r f wr ys es adj h mh (x ∷ []) (x ∷ xs) zs′ done
+      (zs′ : List Stash-entry) × Walk r f wr ys es adj h mh (x ∷ []) (x ∷ xs) zs′ done
   give-up-extra x h mh xs zs done u i (c0, g0, r0, a0) l lim wx mx mm wm dl =
       let q = pull x (u .untouched) i in
-      let inz : In x (held zs) = found x (held zs) (omega (arith, u .kept (like x), seen x (u .untouched) i)) in
+      let inz : In x (held zs) = occurs-in x (held zs) (omega (arith, u .kept (like x), seen x (u .untouched) i)) in
       let z = give-up r f x (mark r (x .due)) (omega arith) mx dl (suc (r .slot)) zs (omega arith) inz (u .good) in (
         z .stash,
         record {

@@ -27,7 +27,7 @@ use Rattle.theory.specs.Back.{rising-le}
 use Rattle.theory.specs.Marks.{box-empty}
 use Rattle.hindsight.specs.Worth.{rank, rank-le, worth, worth-more}
 use Rattle.hindsight.specs.Fibonacci.{fib-52, fib-53, fib-54}
-use Rattle.hindsight.specs.Stash.{Entry, Good, Idle, claims, good-stays, held, hold, idle, owe}
+use Rattle.hindsight.specs.Stash.{Stash-entry, Good, Idle, claims, good-stays, held, hold, idle, owe}
 use Rattle.hindsight.specs.Settling.{State, settle}
 use Rattle.hindsight.specs.Step.{Fixed, from-on, lift, still-sum}
 use Rattle.hindsight.specs.LeapStep.{step-made}
@@ -44,7 +44,7 @@ counted-fixed f x y a b = rw (a, b) refl
 
 -- HOW IT STANDS: the rival has booked the slots us for frames of weight o in all, and s has been sent
 pub record Account (r : Round) (f : ℕ → ℕ) (us : List ℕ) (s o : ℕ) : Type 0 where
-  pub stash : List Entry
+  pub stash : List Stash-entry
   pub free : List Row
   pub state : State r stash free
   pub idles : Idle us (r .slot) stash
@@ -185,14 +185,14 @@ at-end r f h g us s o y =
     let q : worth (r .slot) (suc (r .last)) (y .free) ≡ worth (suc (r .last)) (suc (r .last)) (y .free) = ap (λ (t : ℕ). worth t (suc (r .last)) (y .free)) e in
     omega (arith, y .potential, y .budget, y .covers, nothing (r .slot) (y .stash) (y .state .good) h)
   where
-    nothing : (t : ℕ) (es : List Entry) → Good r t es → r .last < t → claims es ≡ 0
+    nothing : (t : ℕ) (es : List Stash-entry) → Good r t es → r .last < t → claims es ≡ 0
     nothing t [] g l = refl
     nothing t (idle ∷ es) g l = absurd (omega (arith, g .0))
     nothing t (owe m ∷ es) g l = absurd (omega (arith, g .0))
     nothing t (hold x m ∷ es) g l = absurd (omega (arith, g .0))
 
 -- an empty stash, of n slots
-abbrev pub all-idle : ℕ → List Entry
+abbrev pub all-idle : ℕ → List Stash-entry
 all-idle zero = []
 all-idle (suc n) = idle ∷ all-idle n
 

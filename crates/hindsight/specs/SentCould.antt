@@ -19,7 +19,7 @@ use Rattle.theory.specs.Full.{Fine}
 use Rattle.theory.specs.Third.{opened-sane}
 use Rattle.hindsight.specs.OverCalls.{opened-replies, over-calls, tale}
 use Rattle.hindsight.specs.Most.{most-reckoned}
-use Rattle.hindsight.specs.Waiting.{Each, Goes, Kept-from, Some, Waits, before, before-more, can-keep, each-map, each-more, each-without, kept-sooner, leaves-all, with-it, with-gains, with-kept, some-each, some-more, some-without, without-it}
+use Rattle.hindsight.specs.Waiting.{Each-waiting, Frame-goes, Kept-from, Some, Waits, offers-with, before-more, can-keep, each-map, each-more, each-without, kept-sooner, leaves-all, with-it, with-gains, with-kept, some-each, some-more, some-without, without-it}
 use Rattle.hindsight.specs.FramesLeft.{counts?, was}
 
 -- a row waits as it was offered: due no later than then
@@ -35,24 +35,24 @@ abbrev pub Known : Round → (worth : ℕ → ℕ) → Waits → Type 0
 Known r g e = (e .ticket < r .next) × (e .offered .from ≤ r .slot) × (g (e .ticket) ≡ e .offered .weight)
 
 -- HOW IT STANDS
-pub record Stands (r : Round) (g : ℕ → ℕ) (es : List Waits) : Type 0 where
-  pub each : Each (Known r g) es
+pub record Books-stand (r : Round) (g : ℕ → ℕ) (es : List Waits) : Type 0 where
+  pub each : Each-waiting (Known r g) es
   pub rows : All (Waits-in es) (r .rows)
 
 -- SOME CHOICE from now on gains what goes out from now on
 pub record Gains (r : Round) (g : ℕ → ℕ) (es : List Waits) (u : ℕ) (ts : List Told) : Type 0 where
   pub choice : Choice
-  pub keeps : Kept-from (r .slot) (before es (offers ts (r .slot))) choice []
-  pub enough : earned ts g u ≤ u + gained (before es (offers ts (r .slot))) choice
+  pub keeps : Kept-from (r .slot) (offers-with es (offers ts (r .slot))) choice []
+  pub enough : earned ts g u ≤ u + gained (offers-with es (offers ts (r .slot))) choice
 
 -- however it stands
 abbrev pub Could : (r end : Round) → List Told → Type 0
-Could r z ts = (g : ℕ → ℕ) (es : List Waits) (u : ℕ) → Stands r g es → Gains r g es u ts
+Could r z ts = (g : ℕ → ℕ) (es : List Waits) (u : ℕ) → Books-stand r g es → Gains r g es u ts
 
 -- NO CALL is left: a choice that leaves all
 pub could-end : (r : Round) → Fine r → Could r r []
 unfolding offers earned
-could-end r f g es u s = record { choice = []; keeps = leaves-all (r .slot) (before es []) []; enough = omega arith }
+could-end r f g es u s = record { choice = []; keeps = leaves-all (r .slot) (offers-with es []) []; enough = omega arith }
 
 -- NOTHING is told
 pub could-untold : (r z : Round) (ts : List Told) → Could r z ts → Could r z (nothing ∷ ts)
@@ -61,31 +61,31 @@ could-untold r z ts c g es u s = let q = c g es u s in record { choice = q .choi
 
 -- A FRAME IS TAKEN: one more waits
 module _ (r : Round) (n : Frame) where
-  abbrev pub newcomer : Waits
-  newcomer = record { ticket = r .next; offered = offer (r .slot) (n .due) (n .weight) }
+  abbrev pub newly-waiting : Waits
+  newly-waiting = record { ticket = r .next; offered = offer (r .slot) (n .due) (n .weight) }
 
   -- it stands so with the newcomer
-  pub taken-stands : (g : ℕ → ℕ) (es : List Waits) → Stands r g es → Stands (taken r n) (noted (r .next) (n .weight) g) (es ++ (newcomer ∷ []))
+  pub taken-stands : (g : ℕ → ℕ) (es : List Waits) → Books-stand r g es → Books-stand (taken r n) (noted (r .next) (n .weight) g) (es ++ (newly-waiting ∷ []))
   unfolding taken round row noted offer
   taken-stands g es s =
       let x = taken-row (r .next) n in
-      let fs = es ++ (newcomer ∷ []) in
+      let fs = es ++ (newly-waiting ∷ []) in
       record {
-        each = each-more (Known (taken r n) (noted (r .next) (n .weight) g)) es newcomer
+        each = each-more (Known (taken r n) (noted (r .next) (n .weight) g)) es newly-waiting
             (each-map {Q = Known (taken r n) (noted (r .next) (n .weight) g)}
             (λ e (a : Known r g e). (omega (arith, a .0), a .1, rw (ne-eqb (e .ticket) (r .next) (λ z. omega (arith, z, a .0))) (a .2))) es (s .each))
             (omega arith, omega arith, rw (eq-eqb (r .next) (r .next) refl));
         rows = all-append (Waits-in fs) (r .rows) (x ∷ [])
-            (all-map {Q = Waits-in fs} (λ y (a : Waits-in es y) z. some-more (Offered y) es newcomer (inl (a z))) (r .rows) (s .rows))
-            (λ z. some-more (Offered x) es newcomer (inr (refl, omega arith)), tt);
+            (all-map {Q = Waits-in fs} (λ y (a : Waits-in es y) z. some-more (Offered y) es newly-waiting (inl (a z))) (r .rows) (s .rows))
+            (λ z. some-more (Offered x) es newly-waiting (inr (refl, omega arith)), tt);
       }
 
   -- the newcomer's offer is the first of those to come
   pub could-taken : (z : Round) (ts : List Told) → Could (taken r n) z ts → Could r z (took (r .next) (n .due) (n .weight) ∷ ts)
   unfolding taken round offers earned offer
   could-taken z ts c g es u s =
-      let q = c (noted (r .next) (n .weight) g) (es ++ (newcomer ∷ [])) u (taken-stands g es s) in
-      let b = before-more es newcomer (offers ts (r .slot)) in
+      let q = c (noted (r .next) (n .weight) g) (es ++ (newly-waiting ∷ [])) u (taken-stands g es s) in
+      let b = before-more es newly-waiting (offers ts (r .slot)) in
       record {
         choice = q .choice;
         keeps = rw b at (q .keeps);
@@ -93,7 +93,7 @@ module _ (r : Round) (n : Frame) where
       }
 
 -- A SLOT IS SENT: a frame goes out that waits, or nothing that counts
-module _ (r : Round) (f : Fine r) (o : r .slot ≤ r .last) (g : ℕ → ℕ) (es : List Waits) (s : Stands r g es) where
+module _ (r : Round) (f : Fine r) (o : r .slot ≤ r .last) (g : ℕ → ℕ) (es : List Waits) (s : Books-stand r g es) where
   -- a frame that waits after it waited before, and is not what goes out
   still-offered : (y : Row) → In y (sent r .rows) → y .tail .kind ≡ 0 → Some (Offered y) es × Other y (goes r)
   still-offered y i k =
@@ -105,7 +105,7 @@ module _ (r : Round) (f : Fine r) (o : r .slot ≤ r .last) (g : ℕ → ℕ) (e
       )
 
   -- what is known stays so
-  still-known : Each (Known (sent r) g) es
+  still-known : Each-waiting (Known (sent r) g) es
   unfolding sent round
   still-known = each-map {Q = Known (sent r) g} (λ e (a : Known r g e). (a .0, omega (arith, a .1), a .2)) es (s .each)
 
@@ -118,7 +118,7 @@ module _ (r : Round) (f : Fine r) (o : r .slot ≤ r .last) (g : ℕ → ℕ) (e
       (record { each = still-known; rows = all-of-in (Waits-in es) (sent r .rows) (λ y i k. still-offered y i k .0) }) in
       record {
         choice = q .choice;
-        keeps = kept-sooner (r .slot) (before es (offers ts (suc (r .slot)))) (q .choice) [] [] (λ v i e. e) (q .keeps);
+        keeps = kept-sooner (r .slot) (offers-with es (offers ts (suc (r .slot)))) (q .choice) [] [] (λ v i e. e) (q .keeps);
         enough = omega (arith, q .enough, n);
       }
 
@@ -131,7 +131,7 @@ module _ (r : Round) (f : Fine r) (o : r .slot ≤ r .last) (g : ℕ → ℕ) (e
       let t = r .slot in
       let w = g (p .ticket) in
       let due = all-in (Row-fine r) p (r .rows) (f .fine) i .due-from in
-      let h = some-each {R = Goes t (p .ticket) w}
+      let h = some-each {R = Frame-goes t (p .ticket) w}
       (λ e (a : Known r g e) (b : Offered p e). (b .0, a .1, omega (arith, due, b .1), sym (a .2) ∙ ap g (b .0))) es (s .each)
       (all-in (Waits-in es) p (r .rows) (s .rows) i k) in
       let fs = without-it t (p .ticket) w es h in

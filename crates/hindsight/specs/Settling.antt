@@ -16,10 +16,10 @@ use Rattle.theory.specs.Full.{Fine, outside, plan-sum}
 use Rattle.theory.specs.Change.{rising-above}
 use Rattle.theory.specs.Leap.{outside-heavy}
 use Rattle.theory.specs.Same.{of-outside, of-plan, of-yes, sum-none}
-use Rattle.theory.specs.Reach.{mark-falls}
-use Rattle.hindsight.specs.Occurs.{Part, part-all}
+use Rattle.theory.specs.MarksFall.{mark-falls}
+use Rattle.hindsight.specs.Occurs.{Among, part-all}
 use Rattle.hindsight.specs.Worth.{Split}
-use Rattle.hindsight.specs.Stash.{Entry, Good, Keeps, claims, held, hold, hold-idle, idle, owe}
+use Rattle.hindsight.specs.Stash.{Stash-entry, Good, Keeps, claims, held, hold, hold-idle, idle, owe}
 
 -- a measure of the plan's rows alone is at most the measure
 of-less : (ps : List Row) (μ : Row → ℕ) (x : Row) → of-plan ps μ x ≤ μ x
@@ -36,7 +36,7 @@ of-inside ps μ [] a = refl
 of-inside ps μ (x ∷ xs) a = omega (arith, of-yes ps μ x (a .0 .0) (a .0 .1), of-inside ps μ xs (a .1))
 
 -- waiting rows that the plan has are part of it
-pub inside-plan : (r : Round) → Fine r → (xs : List Row) → All (λ x. (1 ≤ x .ticket) × (in-plan x (plan r) ≡ true)) xs → Part xs (r .rows) → Part xs (plan r)
+pub inside-plan : (r : Round) → Fine r → (xs : List Row) → All (λ x. (1 ≤ x .ticket) × (in-plan x (plan r) ≡ true)) xs → Among xs (r .rows) → Among xs (plan r)
 inside-plan r f xs a h μ =
     omega (
       arith,
@@ -48,21 +48,21 @@ inside-plan r f xs a h μ =
     )
 
 -- SETTLING: a held row that the plan does not have becomes a number owed, what it counts for
-unfoldable pub settled : List Row → List Entry → List Entry
+unfoldable pub settled : List Row → List Stash-entry → List Stash-entry
 settled ps [] = []
 settled ps (idle ∷ es) = idle ∷ settled ps es
 settled ps (owe m ∷ es) = owe m ∷ settled ps es
 settled ps (hold x m ∷ es) = cond (in-plan x ps) (hold x m) (owe m) ∷ settled ps es
 
 -- the rows that become free by it
-unfoldable pub dropped : List Row → List Entry → List Row
+unfoldable pub dropped : List Row → List Stash-entry → List Row
 dropped ps [] = []
 dropped ps (idle ∷ es) = dropped ps es
 dropped ps (owe m ∷ es) = dropped ps es
 dropped ps (hold x m ∷ es) = cond (in-plan x ps) (dropped ps es) (x ∷ dropped ps es)
 
 -- rows held before are held still or free now
-pub settled-sum : (ps : List Row) (μ : Row → ℕ) (es : List Entry) → sum μ (held (settled ps es)) + sum μ (dropped ps es) ≡ sum μ (held es)
+pub settled-sum : (ps : List Row) (μ : Row → ℕ) (es : List Stash-entry) → sum μ (held (settled ps es)) + sum μ (dropped ps es) ≡ sum μ (held es)
 unfolding settled dropped
 settled-sum ps μ [] = refl
 settled-sum ps μ (idle ∷ es) = settled-sum ps μ es
@@ -71,7 +71,7 @@ settled-sum ps μ (hold x m ∷ es) =
     elim (either (in-plan x ps)) [ inl e ↦ rw e (omega (arith, settled-sum ps μ es)) | inr e ↦ rw e (omega (arith, settled-sum ps μ es)) ]
 
 -- it counts for as much
-pub settled-claims : (ps : List Row) (es : List Entry) → claims (settled ps es) ≡ claims es
+pub settled-claims : (ps : List Row) (es : List Stash-entry) → claims (settled ps es) ≡ claims es
 unfolding settled
 settled-claims ps [] = refl
 settled-claims ps (idle ∷ es) = settled-claims ps es
@@ -80,7 +80,7 @@ settled-claims ps (hold x m ∷ es) =
     elim (either (in-plan x ps)) [ inl e ↦ rw e (omega (arith, settled-claims ps es)) | inr e ↦ rw e (omega (arith, settled-claims ps es)) ]
 
 -- every row held then is in the plan
-pub settled-all : (ps : List Row) (es : List Entry) → All (λ x. 1 ≤ x .ticket) (held es) →
+pub settled-all : (ps : List Row) (es : List Stash-entry) → All (λ x. 1 ≤ x .ticket) (held es) →
     All (λ x. (1 ≤ x .ticket) × (in-plan x ps ≡ true)) (held (settled ps es))
 unfolding settled
 settled-all ps [] a = tt
@@ -90,7 +90,7 @@ settled-all ps (hold x m ∷ es) a =
     elim (either (in-plan x ps)) [ inl e ↦ rw e ((a .0, e), settled-all ps es (a .1)) | inr e ↦ rw e (settled-all ps es (a .1)) ]
 
 -- a good stash stays good: a row outside weighs at most the mark of its due slot
-pub settled-good : (r : Round) → Fine r → (s : ℕ) (es : List Entry) → r .slot ≤ s → All (λ x. In x (r .rows)) (held es) → Good r s es →
+pub settled-good : (r : Round) → Fine r → (s : ℕ) (es : List Stash-entry) → r .slot ≤ s → All (λ x. In x (r .rows)) (held es) → Good r s es →
     Good r s (settled (plan r) es)
 unfolding settled mark
 settled-good r f s [] t a g = g
@@ -112,7 +112,7 @@ settled-good r f s (hold x m ∷ es) t a g =
     ]
 
 -- and idle slots idle
-pub settled-keeps : (ps : List Row) (s : ℕ) (es : List Entry) → Keeps s es (settled ps es)
+pub settled-keeps : (ps : List Row) (s : ℕ) (es : List Stash-entry) → Keeps s es (settled ps es)
 unfolding settled
 settled-keeps ps s [] us d = tt
 settled-keeps ps s (idle ∷ es) us d = (d .0, settled-keeps ps (suc s) es us (d .1))
@@ -121,21 +121,21 @@ settled-keeps ps s (hold x m ∷ es) us d =
     (λ b. hold-idle x m (cond (in-plan x ps) (hold x m) (owe m)) (d .0 b), settled-keeps ps (suc s) es us (d .1))
 
 -- A STATE of the analysis: a good stash, and the rows that it does not hold
-pub record State (r : Round) (es : List Entry) (fs : List Row) : Type 0 where
+pub record State (r : Round) (es : List Stash-entry) (fs : List Row) : Type 0 where
   pub good : Good r (r .slot) es
   pub split : Split r fs (held es)
 
 -- WHAT SETTLING LEAVES
-pub record Settled (r : Round) (es : List Entry) (fs : List Row) : Type 0 where
-  pub stash : List Entry
+pub record Settled (r : Round) (es : List Stash-entry) (fs : List Row) : Type 0 where
+  pub stash : List Stash-entry
   pub free : List Row
   pub state : State r stash free
   pub counts : claims stash ≡ claims es
-  pub more : Part fs free
+  pub more : Among fs free
   pub keeps : Keeps (r .slot) es stash
 
 -- every good stash settles
-pub settle : (r : Round) → Fine r → (es : List Entry) (fs : List Row) → Good r (r .slot) es →
+pub settle : (r : Round) → Fine r → (es : List Stash-entry) (fs : List Row) → Good r (r .slot) es →
     ((μ : Row → ℕ) → sum μ fs + sum μ (held es) ≡ sum μ (r .rows)) → Settled r es fs
 settle r f es fs g w =
     let ps = plan r in

@@ -19,9 +19,9 @@ pub record Waits : Type 0 where
   pub offered : Offer
 
 -- a fact of each that waits
-abbrev pub Each : (Waits → Type 0) → List Waits → Type 0
-Each P [] = Unit {0}
-Each P (e ∷ es) = P e × Each P es
+abbrev pub Each-waiting : (Waits → Type 0) → List Waits → Type 0
+Each-waiting P [] = Unit {0}
+Each-waiting P (e ∷ es) = P e × Each-waiting P es
 
 -- a fact of some
 abbrev pub Some : (Waits → Type 0) → List Waits → Type 0
@@ -29,18 +29,18 @@ Some P [] = ⊥
 Some P (e ∷ es) = P e ⊎ Some P es
 
 -- what a fact of each brings to each
-pub each-map : {P Q : Waits → Type 0} → ((e : Waits) → P e → Q e) → (es : List Waits) → Each P es → Each Q es
+pub each-map : {P Q : Waits → Type 0} → ((e : Waits) → P e → Q e) → (es : List Waits) → Each-waiting P es → Each-waiting Q es
 each-map h [] a = tt
 each-map h (e ∷ es) a = (h e (a .0), each-map h es (a .1))
 
 -- and to some
-pub some-each : {P Q R : Waits → Type 0} → ((e : Waits) → P e → Q e → R e) → (es : List Waits) → Each P es → Some Q es → Some R es
+pub some-each : {P Q R : Waits → Type 0} → ((e : Waits) → P e → Q e → R e) → (es : List Waits) → Each-waiting P es → Some Q es → Some R es
 some-each h [] a b = b
 some-each h (e ∷ es) a (inl q) = inl (h e (a .0) q)
 some-each h (e ∷ es) a (inr b) = inr (some-each h es (a .1) b)
 
 -- ONE MORE waits: what each has, it has too
-pub each-more : (P : Waits → Type 0) (es : List Waits) (e : Waits) → Each P es → P e → Each P (es ++ (e ∷ []))
+pub each-more : (P : Waits → Type 0) (es : List Waits) (e : Waits) → Each-waiting P es → P e → Each-waiting P (es ++ (e ∷ []))
 each-more P [] e a p = (p, tt)
 each-more P (x ∷ es) e a p = (a .0, each-more P es e (a .1) p)
 
@@ -53,12 +53,12 @@ some-more P (x ∷ es) e (inl (inr b)) = inr (some-more P es e (inl b))
 some-more P (x ∷ es) e (inr p) = inr (some-more P es e (inr p))
 
 -- OFFERS of those that wait, before the offers to come
-abbrev pub before : List Waits → List Offer → List Offer
-before [] ys = ys
-before (e ∷ es) ys = e .offered ∷ before es ys
+abbrev pub offers-with : List Waits → List Offer → List Offer
+offers-with [] ys = ys
+offers-with (e ∷ es) ys = e .offered ∷ offers-with es ys
 
 -- one more that waits is the first of those to come
-pub before-more : (es : List Waits) (e : Waits) (ys : List Offer) → before (es ++ (e ∷ [])) ys ≡ before es (e .offered ∷ ys)
+pub before-more : (es : List Waits) (e : Waits) (ys : List Offer) → offers-with (es ++ (e ∷ [])) ys ≡ offers-with es (e .offered ∷ ys)
 before-more [] e ys = refl
 before-more (x ∷ es) e ys = ap (λ (zs : List Offer). x .offered ∷ zs) (before-more es e ys)
 
@@ -106,31 +106,31 @@ kept-sooner s (x ∷ xs) (some v ∷ cs) us vs h k =
     (k .0, k .1, omega (arith, k .2), h v (k .2) (k .3), kept-sooner s xs cs (v ∷ us) (v ∷ vs) (free-more (suc s) v us vs h) (k .4))
 
 -- A FRAME GOES in slot s: the frame of ticket k and weight w, within its time
-abbrev pub Goes : (s k w : ℕ) → Waits → Type 0
-Goes s k w e = (e .ticket ≡ k) × (e .offered .from ≤ s) × (s ≤ e .offered .to) × (e .offered .weight ≡ w)
+abbrev pub Frame-goes : (s k w : ℕ) → Waits → Type 0
+Frame-goes s k w e = (e .ticket ≡ k) × (e .offered .from ≤ s) × (s ≤ e .offered .to) × (e .offered .weight ≡ w)
 
 module _ (s k w : ℕ) where
   -- those that still wait
-  abbrev pub without-it : (es : List Waits) → Some (Goes s k w) es → List Waits
+  abbrev pub without-it : (es : List Waits) → Some (Frame-goes s k w) es → List Waits
   without-it [] h = []
   without-it (e ∷ es) (inl g) = es
   without-it (e ∷ es) (inr h) = e ∷ without-it es h
 
   -- the choice with slot s for it
-  abbrev pub with-it : (es : List Waits) → Some (Goes s k w) es → Choice → Choice
+  abbrev pub with-it : (es : List Waits) → Some (Frame-goes s k w) es → Choice → Choice
   with-it [] h cs = []
   with-it (e ∷ es) (inl g) cs = some s ∷ cs
   with-it (e ∷ es) (inr h) [] = none ∷ with-it es h []
   with-it (e ∷ es) (inr h) (c ∷ cs) = c ∷ with-it es h cs
 
   -- what each has, each that still waits has
-  pub each-without : (P : Waits → Type 0) (es : List Waits) (h : Some (Goes s k w) es) → Each P es → Each P (without-it es h)
+  pub each-without : (P : Waits → Type 0) (es : List Waits) (h : Some (Frame-goes s k w) es) → Each-waiting P es → Each-waiting P (without-it es h)
   each-without P [] h a = absurd h
   each-without P (e ∷ es) (inl g) a = a .1
   each-without P (e ∷ es) (inr h) a = (a .0, each-without P es h (a .1))
 
   -- one that is not it still waits
-  pub some-without : (P : Waits → Type 0) → ((e : Waits) → P e → e .ticket ≡ k → ⊥) → (es : List Waits) (h : Some (Goes s k w) es) →
+  pub some-without : (P : Waits → Type 0) → ((e : Waits) → P e → e .ticket ≡ k → ⊥) → (es : List Waits) (h : Some (Frame-goes s k w) es) →
       Some P es → Some P (without-it es h)
   some-without P n [] h b = absurd h
   some-without P n (e ∷ es) (inl g) (inl p) = absurd (n e p (g .0))
@@ -139,23 +139,23 @@ module _ (s k w : ℕ) where
   some-without P n (e ∷ es) (inr h) (inr b) = inr (some-without P n es h b)
 
   -- it gains the frame's weight
-  pub with-gains : (es : List Waits) (h : Some (Goes s k w) es) (ys : List Offer) (cs : Choice) →
-      gained (before es ys) (with-it es h cs) ≡ w + gained (before (without-it es h) ys) cs
+  pub with-gains : (es : List Waits) (h : Some (Frame-goes s k w) es) (ys : List Offer) (cs : Choice) →
+      gained (offers-with es ys) (with-it es h cs) ≡ w + gained (offers-with (without-it es h) ys) cs
   unfolding gained
   with-gains [] h ys cs = absurd h
   with-gains (e ∷ es) (inl g) ys cs = omega (arith, g .3)
-  with-gains (e ∷ es) (inr h) ys [] = omega (arith, with-gains es h ys [], none-gained (before (without-it es h) ys))
+  with-gains (e ∷ es) (inr h) ys [] = omega (arith, with-gains es h ys [], none-gained (offers-with (without-it es h) ys))
   with-gains (e ∷ es) (inr h) ys (none ∷ cs) = with-gains es h ys cs
   with-gains (e ∷ es) (inr h) ys (some v ∷ cs) = omega (arith, with-gains es h ys cs)
 
   -- IT IS KEPT, where the choice of the rest is kept from the next slot on
-  pub with-kept : (es : List Waits) (h : Some (Goes s k w) es) (ys : List Offer) (cs : Choice) (us : List ℕ) → member s us ≡ false →
-      Kept-from (suc s) (before (without-it es h) ys) cs us → Kept-from s (before es ys) (with-it es h cs) us
+  pub with-kept : (es : List Waits) (h : Some (Frame-goes s k w) es) (ys : List Offer) (cs : Choice) (us : List ℕ) → member s us ≡ false →
+      Kept-from (suc s) (offers-with (without-it es h) ys) cs us → Kept-from s (offers-with es ys) (with-it es h cs) us
   unfolding member
   with-kept [] h ys cs us n d = absurd h
   with-kept (e ∷ es) (inl g) ys cs us n d =
-      (g .1, g .2, omega arith, n, kept-sooner s (before es ys) cs us (s ∷ us) (free-next s us) d)
-  with-kept (e ∷ es) (inr h) ys [] us n d = with-kept es h ys [] us n (leaves-all (suc s) (before (without-it es h) ys) us)
+      (g .1, g .2, omega arith, n, kept-sooner s (offers-with es ys) cs us (s ∷ us) (free-next s us) d)
+  with-kept (e ∷ es) (inr h) ys [] us n d = with-kept es h ys [] us n (leaves-all (suc s) (offers-with (without-it es h) ys) us)
   with-kept (e ∷ es) (inr h) ys (none ∷ cs) us n d = with-kept es h ys cs us n d
   with-kept (e ∷ es) (inr h) ys (some v ∷ cs) us n d = (
     d .0,

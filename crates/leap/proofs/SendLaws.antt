@@ -14,7 +14,7 @@ use Rattle.rules.specs.Conditions.{row-at}
 use Rattle.rules.specs.Table.{low, field, table, round-in}
 use Rattle.theory.specs.Flags.{with-flag, raised-at}
 use Rattle.theory.specs.Keys.{key, key-index}
-use Rattle.theory.specs.Members.{Rows, planned-rows, of-rows-fine}
+use Rattle.theory.specs.Members.{Rows-of-plan, planned-rows, of-rows-fine}
 use Rattle.theory.specs.Sane.{sound}
 use Rattle.theory.specs.Whole.{Sends, sends-silence, sends-first, sends-far, sends-kept}
 use Rattle.numbers.proofs.NumberLaws.{field-suc, field-zero}
@@ -109,7 +109,7 @@ module _ {t : List ℕ} {h : Head} {fs : List ℕ} {x : Reach} {pk : Pick} (w : 
   pub going-scene : Scene (round-in t) fs x
   going-scene = scene t h fs x (w .ready) (w .chosen) (w .reach)
 
-  pub going-rows : Rows (round-in t) (with-flag (round-in t) fs)
+  pub going-rows : Rows-of-plan (round-in t) (with-flag (round-in t) fs)
   going-rows = plan-rows (round-in t) fs x going-scene
 
   -- AN ORDINARY STEP, or a leap from afar

@@ -20,11 +20,11 @@ use Rattle.theory.specs.Bounds.{Tail-fine}
 use Rattle.theory.specs.Clauses.{rows-count}
 use Rattle.theory.specs.Sane.{Sane, sound}
 use Rattle.theory.specs.Marks.{mark-limit}
-use Rattle.theory.specs.Members.{Rows, of-rows-fine, of-rows-in}
-use Rattle.theory.specs.Chain.{Chain, moved-to, moves, end-of}
+use Rattle.theory.specs.Members.{Rows-of-plan, of-rows-fine, of-rows-in}
+use Rattle.theory.specs.Chain.{Linked, shifted-to-end, moves, link-end}
 use Rattle.theory.specs.Close.{closed, after-slot}
 use Rattle.theory.specs.Whole.{Sends, sends-answer}
-use Rattle.theory.specs.Sender.{left-sent}
+use Rattle.theory.specs.Sender.{sending-leaves}
 use Rattle.round.specs.Head.{Head-of}
 use Rattle.sorts.specs.declared.Round.{Round as Head}
 use Rattle.tally.proofs.RowLaws.{known}
@@ -106,7 +106,7 @@ unfolding went-step went-out out-of row
 sent-says t h k p leaps g xs v w s e d =
     let o : round-in t .slot ≤ round-in t .last = omega (arith, k .time, known t h k .slot, known t h k .last) in
     record {
-      leaves = e ∙ sym (ap table (s .leaves)) ∙ sym (left-sent t (k .sound) o);
+      leaves = e ∙ sym (ap table (s .leaves)) ∙ sym (sending-leaves t (k .sound) o);
       answers = sends-answer t p (not leaps) g xs (k .sound) o s ∙ ap step (flipped leaps (ordinary (out-of p)) (leap (out-of p))
           ∙ (rw (d .leap, d .ticket, d .kind)));
     }
@@ -124,17 +124,17 @@ fit-changed r xs k y f e a b =
       long = length-changed k y xs ∙ f .long;
     }
 
-pub fit-moves : (r : Round) (z : Sane r) (rs : List Row) (c : Rows r rs) (e g : ℕ) (hs xs : List Row) → Chain r rs e g hs → r .slot ≤ e →
+pub fit-moves : (r : Round) (z : Sane r) (rs : List Row) (c : Rows-of-plan r rs) (e g : ℕ) (hs xs : List Row) → Linked r rs e g hs → r .slot ≤ e →
     e ≤ r .last → Rows-fit r xs →
     Rows-fit r (moves r e hs xs)
-unfolding moves moved-to row mark
+unfolding moves shifted-to-end row mark
 fit-moves r z rs c e g [] xs k a b f = f
 fit-moves r z rs c e g (h ∷ hs) xs k a b f =
     let i = k .0 .inside in
     let w = of-rows-fine r (z .fine) rs c h i in
-    let n = end-of r (z .fine) rs c h i in
-    fit-moves r z rs c (tight-after r (plan r) (h .due)) g hs (changed (h .ticket) (moved-to r e h) xs) (k .1) (omega (arith, w .due-from, n .from)) (n .by)
-    (fit-changed r xs (h .ticket) (moved-to r e h) f refl (record {
+    let n = link-end r (z .fine) rs c h i in
+    fit-moves r z rs c (tight-after r (plan r) (h .due)) g hs (changed (h .ticket) (shifted-to-end r e h) xs) (k .1) (omega (arith, w .due-from, n .from)) (n .by)
+    (fit-changed r xs (h .ticket) (shifted-to-end r e h) f refl (record {
       due-from = a;
       due-by = b;
       some = omega (arith, w .some);

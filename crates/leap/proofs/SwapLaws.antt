@@ -20,7 +20,7 @@ use Rattle.theory.specs.Bounds.{Tail-fine}
 use Rattle.theory.specs.Change.{rising-same}
 use Rattle.theory.specs.Flags.{with-flag}
 use Rattle.theory.specs.Keys.{key, key-due, getD-in}
-use Rattle.theory.specs.Members.{Rows, of-rows-fine, of-rows-in, not-found}
+use Rattle.theory.specs.Members.{Rows-of-plan, of-rows-fine, of-rows-in, not-found}
 use Rattle.theory.specs.Sane.{sound}
 use Rattle.theory.specs.Chain.{moves, chain-after}
 use Rattle.theory.specs.Leaping.{rising-moves}
@@ -74,7 +74,7 @@ module _ {t : List ℕ} {h : Head} {fs : List ℕ} {x : Reach} {cs ks : List ℕ
   sc : Scene r fs x
   sc = going-scene (nt .goes)
 
-  the-rows : Rows r rs
+  the-rows : Rows-of-plan r rs
   the-rows = going-rows (nt .goes)
 
   abbrev y : Row

@@ -16,7 +16,7 @@ use Rattle.theory.specs.Full.{Fine}
 use Rattle.theory.specs.Feas.{num}
 use Rattle.theory.specs.Count.{kept-counts}
 use Rattle.theory.specs.Near.{Near, rows-feas, near-edge, far-mark, near-next, near-after, near-mark-least}
-use Rattle.theory.specs.Members.{Rows, planned-rows}
+use Rattle.theory.specs.Members.{Rows-of-plan, planned-rows}
 use Rattle.theory.specs.Flags.{with-flag, Chosen, chosen-rows}
 use Rattle.sorts.specs.declared.Round.{Round as Head}
 use Rattle.tally.specs.Rows.{Ready, top-of}
@@ -38,7 +38,7 @@ far-is t h x s far k w a b d e =
     far-mark r (n .fine) (planned r) (planned-rows r (n .fine)) (r .slot + x .free) (w .near) s (omega (arith, l, a, n .slot)) (omega (arith, b, n .last))
 
 -- A NEAR ONE: some row is due by the next tight slot, so the least weight is a row's
-pub near-some : (r : Round) (f : Fine r) (rs : List Row) → Rows r rs → (z : ℕ) → Near r z → (s : ℕ) → r .slot ≤ s → s < z →
+pub near-some : (r : Round) (f : Fine r) (rs : List Row) → Rows-of-plan r rs → (z : ℕ) → Near r z → (s : ℕ) → r .slot ≤ s → s < z →
     (y : Row) × (In y rs) × (r .slot ≤ y .due) × (y .due < suc (tight-after r (plan r) s))
 near-some r f rs c z k s h l =
     let n = near-after r f rs c z k s h l .1 in

@@ -17,7 +17,7 @@ use Rattle.theory.specs.Full.{Fine, plan-feas, plan-full}
 use Rattle.theory.specs.Marks.{Tight-in, tight?, next, start}
 use Rattle.theory.specs.Send.{next-by}
 use Rattle.theory.specs.Slack.{slack-is, tight-least, least-tight}
-use Rattle.theory.specs.Members.{Rows, of-rows-fine}
+use Rattle.theory.specs.Members.{Rows-of-plan, of-rows-fine}
 use Rattle.theory.specs.Near.{rows-le, rows-feas, start-same}
 use Rattle.theory.specs.Flags.{with-flag, Chosen, chosen-rows}
 use Rattle.sorts.specs.declared.Round.{Round as Head}
@@ -33,7 +33,7 @@ use Rattle.marks.proofs.WindowLaws.{upto-in}
 abbrev pub Level : List Row → (b : ℕ) → Type 0
 Level rs b = (e : ℕ) → b ≤ e → num 0 e rs ≤ num 0 b rs + (e - b)
 
-module _ (r : Round) (f : Fine r) (rs : List Row) (c : Rows r rs) where
+module _ (r : Round) (f : Fine r) (rs : List Row) (c : Rows-of-plan r rs) where
   -- no row is due past the last slot
   pub num-past : (e : ℕ) → suc (r .last) ≤ e → num 0 e rs ≡ num 0 (suc (r .last)) rs
   num-past e h =
@@ -105,7 +105,7 @@ bounds-of t n s w h e =
       side = elim (leb? (s - t) n) [ inl a ↦ inl (omega (arith, a .1)) | inr a ↦ inr (omega (arith, a .1)) ];
     })
 
-module _ (r : Round) (f : Fine r) (rs : List Row) (c : Rows r rs) (s : ℕ) (from : r .slot ≤ s) (by : s ≤ r .last)
+module _ (r : Round) (f : Fine r) (rs : List Row) (c : Rows-of-plan r rs) (s : ℕ) (from : r .slot ≤ s) (by : s ≤ r .last)
     (w : Window) (is : w ≡ window-at (r .slot) (length (r .rows)) s) (cs : List ℕ) (k : Counted-in rs w cs) where
   pub bounds : Bounds (r .slot) (length (r .rows)) s w
   bounds = bounds-of (r .slot) (length (r .rows)) s w from is

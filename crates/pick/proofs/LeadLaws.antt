@@ -13,10 +13,10 @@ use Rattle.theory.specs.Tests.{either, ltb?, eqb?}
 use Rattle.theory.specs.Keys.{key, getD-in}
 use Rattle.theory.specs.Score.{score-of}
 use Rattle.theory.specs.Near.{far-score}
-use Rattle.theory.specs.Segments.{Segment, segment-some, segment-row, segment-none, segment-score-row, segment-score-none}
+use Rattle.theory.specs.Segments.{Segment, segment-has-row, segment-row, segment-none, segment-score-row, segment-score-none}
 use Rattle.theory.specs.Lead.{Leads, Champion, lead-first, lead-takes, lead-keeps, lead-far, segment-champion}
 use Rattle.theory.specs.Index.{chosen-index, each-chosen}
-use Rattle.theory.specs.Members.{Rows}
+use Rattle.theory.specs.Members.{Rows-of-plan}
 use Rattle.theory.specs.Flags.{raised, with-flag}
 use Rattle.tally.specs.Rows.{at, key-at, top-of, place}
 use Rattle.tally.specs.Tally.{kept-key, left-key}
@@ -148,7 +148,7 @@ module _ (r : Round) (fs : List ℕ) (x : Reach) (s : Scene r fs x) where
   pub segment-key : (b e k : ℕ) → b < e → e ≤ x .free → Segment r (with-flag r fs) (r .slot + b) (r .slot + (e - 1)) →
       Peak (place r) (kept-key r fs) (length (r .rows)) b e k → 1 ≤ k
   segment-key b e k h m g p =
-      let y = segment-some r (s .fine) (s .time) (with-flag r fs) (plan-rows r fs x s) (r .slot + x .free) (s .reach .near) (r .slot + b)
+      let y = segment-has-row r (s .fine) (s .time) (with-flag r fs) (plan-rows r fs x s) (r .slot + x .free) (s .reach .near) (r .slot + b)
       (r .slot + (e - 1)) (omega (arith, h, m)) g in
       let q = chosen-index (blank 0) (y .0) (raised fs) (r .rows) (y .1) in
       let d = ap (λ (v : Row). v .due) (q .3) in
@@ -183,7 +183,7 @@ module _ (r : Round) (fs : List ℕ) (x : Reach) (s : Scene r fs x) where
       Other r (with-flag r fs) (r .slot + b) o → score-of r (at r i) ≡ score (k / 4194304) (o / 4194304)
   later-score b e k i o a h m g w other = by-other other
     where
-      c : Rows r (with-flag r fs)
+      c : Rows-of-plan r (with-flag r fs)
       c = plan-rows r fs x s
 
       from : r .slot + b ≤ at r i .due

@@ -16,7 +16,7 @@ use Rattle.theory.specs.Full.{Fine}
 use Rattle.theory.specs.Keys.{key, key-weight, key-bound, getD-in}
 use Rattle.theory.specs.Count.{bucket, counts-all, kept-counts}
 use Rattle.theory.specs.Index.{flag-in, each-chosen, each-row, at-flag, not-heavier-at}
-use Rattle.theory.specs.Members.{Rows}
+use Rattle.theory.specs.Members.{Rows-of-plan}
 use Rattle.theory.specs.Near.{near-out, near-edge}
 use Rattle.theory.specs.Flags.{raised, with-flag, Chosen, chosen-rows}
 use Rattle.sorts.specs.declared.Round.{Round as Head}
@@ -53,7 +53,7 @@ pub record Heaviest (r : Round) (fs : List ℕ) (a e k i : ℕ) : Type 0 where
   pub most : (j : ℕ) → j < length (r .rows) → getD (raised fs) j false ≡ true → a ≤ place r j → place r j < e → key-at r j ≤ k
 
 module _ (r : Round) (fs : List ℕ) (x : Reach) (s : Scene r fs x) where
-  pub plan-rows : Rows r (with-flag r fs)
+  pub plan-rows : Rows-of-plan r (with-flag r fs)
   plan-rows = chosen-rows r (s .fine) fs (s .chosen)
 
   pub fine-at : (i : ℕ) → i < length (r .rows) → Row-fine r (at r i)

@@ -16,7 +16,7 @@ use Rattle.theory.specs.Keys.{key, key-due}
 use Rattle.theory.specs.All.{blank-weight, blank-is}
 use Rattle.theory.specs.Substitute.{later-none, score-none}
 use Rattle.theory.specs.Best.{heaviest-beats}
-use Rattle.theory.specs.Near.{chosen-all}
+use Rattle.theory.specs.Near.{all-true-chosen}
 use Rattle.theory.specs.Segments.{Segment, first-segment}
 use Rattle.theory.specs.Index.{each-row, each-chosen, flag-in}
 use Rattle.theory.specs.Flags.{raised, with-flag, raised-at, raised-all, all-chosen}
@@ -86,7 +86,7 @@ whole-scene t h x k w e =
     record { fine = n .fine; time = n .time; small = n .small; cap = n .cap; chosen = all-chosen (round-in t) (w .fits e); reach = w }
 
 pub every-row : (r : Round) → with-flag r (every r) ≡ r .rows
-every-row r = rw (raised-all (length (r .rows))) (chosen-all (r .rows) .0)
+every-row r = rw (raised-all (length (r .rows))) (all-true-chosen (r .rows) .0)
 
 module _ (r : Round) (x : Reach) (s : Scene r (every r) x) where
   pub flag-all : (i : ℕ) → i < length (r .rows) → getD (raised (every r)) i false ≡ true

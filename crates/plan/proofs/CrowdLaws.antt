@@ -12,7 +12,7 @@ use Rattle.rules.specs.Table.{round-in}
 use Rattle.theory.specs.Tests.{leb?}
 use Rattle.theory.specs.Sum.{sum}
 use Rattle.theory.specs.Count.{bucket, under, counts-none}
-use Rattle.theory.specs.Near.{chosen-all}
+use Rattle.theory.specs.Near.{all-true-chosen}
 use Rattle.theory.specs.Flags.{raised, raised-all}
 use Rattle.sorts.specs.declared.Round.{Round as Head}
 use Rattle.tally.specs.Rows.{Ready, at, top-of, place}
@@ -54,7 +54,7 @@ module _ (t : List ℕ) (h : Head) (x : Reach) (k : Ready t h) (w : Reaches (rou
   unfolding under before
   counted-is e =
       let ones = replicate {A = ℕ} (length (round-in t .rows)) 1 in
-      let all : chosen (raised ones) (round-in t .rows) ≡ round-in t .rows = rw (raised-all (length (round-in t .rows))) (chosen-all (round-in t .rows) .0) in
+      let all : chosen (raised ones) (round-in t .rows) ≡ round-in t .rows = rw (raised-all (length (round-in t .rows))) (all-true-chosen (round-in t .rows) .0) in
       tally-same (before (ahead-in t) e) (λ j. under (r .slot) (top-of r) e (at r j)) ones (length (round-in t .rows)) (λ j l.
       ap (λ (v : ℕ). cond (ltb v e) 1 0) (sym (place-is j l)))
       ∙ sym (chosen-tally (under (r .slot) (top-of r) e) (blank 0) ones (round-in t .rows) (length-replicate (length (round-in t .rows)) 1))

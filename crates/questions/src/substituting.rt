@@ -8,7 +8,7 @@ ghost use Rattle.round.specs.Head.{Head-of};
 ghost use Rattle.tally.specs.Rows.{Ready, at};
 ghost use Rattle.tally.specs.Near.{Counted, Reaches};
 ghost use Rattle.replies.specs.Replies.{of-substituted};
-ghost use Rattle.questions.specs.Finding.{Finds, Stands};
+ghost use Rattle.questions.specs.Finding.{Finds, Stood-in};
 use checks::refusals::sending_refusal;
 use marks::substitute::Sub;
 use marks::substitute::substitute_at;
@@ -72,7 +72,7 @@ fn find_row(table: &[u8], round: Round, ticket: Ticket) -> Found
 // Of a row: its substitute, or refusal 11 where it is not in the plan.
 fn substitute_row(table: &[u8], round: Round, row: usize) -> Substituted
     requires { ⌜ Ready (now table) round × (row < round .used) ⌝ }
-    ensures { λ r. ⌜ Stands (round-in (now (table .entry))) row (of-substituted r) ⌝ }
+    ensures { λ r. ⌜ Stood-in (round-in (now (table .entry))) row (of-substituted r) ⌝ }
 {
     let used = round.used;
     let mut counts = [0u16; 1025];
@@ -93,7 +93,7 @@ fn substitute_flagged(
 ) -> Substituted
     requires { ⌜ Ready (now table) round × Chosen (round-in (now table)) (now flags) × Reaches (round-in (now table)) reach
         × Counted (round-in (now table)) (round-in (now table) .rows) (now counts) × (row < round .used) ⌝ }
-    ensures { λ r. ⌜ Stands (round-in (now (table .entry))) row (of-substituted r) ⌝ }
+    ensures { λ r. ⌜ Stood-in (round-in (now (table .entry))) row (of-substituted r) ⌝ }
 {
     if flags[row] != 1 {
         return Substituted::Refused(11);

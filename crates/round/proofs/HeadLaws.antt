@@ -15,13 +15,13 @@ use Rattle.theory.specs.Clauses.{rows-count}
 use Rattle.theory.specs.Sane.{sound}
 use Rattle.sorts.specs.declared.Round.{Round}
 use Rattle.round.specs.Head.{Head-of}
-use Rattle.round.proofs.ZeroLaws.{zeros-split, zeros-field}
+use Rattle.round.proofs.ZeroLaws.{zeros-split, zeros-by-number}
 
 -- THE JUDGE of a head
 pub head-is : (t : List ℕ) (h : Round) → Head-of t h →
     every (head-tests (h .slot .0) (h .last .0) (h .next .0) (h .used) (h .room)) && (eqb (field 10 2 t) 0 && eqb (field 12 4 t) 0) ≡ head-judged t
 unfolding head-judged
-head-is t h d = rw (d .slot, d .last, d .next, d .used, d .room, zeros-split t 10 2 4, zeros-field t 12 4)
+head-is t h d = rw (d .slot, d .last, d .next, d .used, d .room, zeros-split t 10 2 4, zeros-by-number t 12 4)
 
 -- THE HEAD OF A SOUND TABLE
 pub record Sound-head (t : List ℕ) (h : Round) : Type 0 where

@@ -29,7 +29,7 @@ good-long n h =
     (omega (arith, leb-true (head-size + row-size) n (a .0)), eqb-true ((n - head-size) % row-size) 0 (b .0), leb-true ((n - head-size) / row-size) most-rows (b .1))
 
 -- A TABLE READ: bytes of a good length, and the head that they hold
-pub record Read (t : List ℕ) (h : Round) : Type 0 where
+pub record Table-read (t : List ℕ) (h : Round) : Type 0 where
   pub bytes : Bytes t
   pub good : length-good (length t) ≡ true
   pub head : Head-of t h
@@ -40,7 +40,7 @@ pub record Rows-fit (t : List ℕ) (u : ℕ) : Type 0 where
   pub within : row-at u ≤ length t
   pub whole : (length t - row-at u) % row-size ≡ 0
 
-pub rows-fit : {t : List ℕ} {h : Round} → Read t h → head-judged t ≡ true → Rows-fit t (h .used)
+pub rows-fit : {t : List ℕ} {h : Round} → Table-read t h → head-judged t ≡ true → Rows-fit t (h .used)
 unfolding head-judged rows-of
 rows-fit {t} k e =
     let l = good-long (length t) (k .good) in
@@ -65,8 +65,8 @@ judged-is t h d = rw (d .used, d .slot, d .last, d .next)
 pub refused-2 : (t : List ℕ) → length-good (length t) ≡ false → Judge-says t (Refused 2)
 refused-2 t g = (sym (refusal-two t g), λ e. omega arith)
 
-pub refused-3 : {t : List ℕ} {h : Round} → Read t h → judged-by t h ≡ false → Judge-says t (Refused 3)
+pub refused-3 : {t : List ℕ} {h : Round} → Table-read t h → judged-by t h ≡ false → Judge-says t (Refused 3)
 refused-3 {t} {h} k e = (sym (judged-refusal t (k .bytes) (k .good) ∙ (rw (judged-is t h (k .head) ∙ e))), λ f. omega arith)
 
-pub accepted : {t : List ℕ} {h : Round} → Read t h → judged-by t h ≡ true → Judge-says t (Sound h)
-accepted {t} {h} k e = (judged-refusal t (k .bytes) (k .good) ∙ (rw (judged-is t h (k .head) ∙ e)), k .head)
+pub judge-accepts : {t : List ℕ} {h : Round} → Table-read t h → judged-by t h ≡ true → Judge-says t (Sound h)
+judge-accepts {t} {h} k e = (judged-refusal t (k .bytes) (k .good) ∙ (rw (judged-is t h (k .head) ∙ e)), k .head)

@@ -15,12 +15,12 @@ use Rattle.rules.specs.Conditions.{row-at}
 use Rattle.theory.specs.Judge.{zeros, row-judged, rows-judged}
 use Rattle.theory.specs.Fields.{zeros-at}
 use Rattle.numbers.proofs.NumberLaws.{field-suc, field-zero}
-use Rattle.round.proofs.ZeroLaws.{value-small, zeros-rest}
+use Rattle.round.proofs.ZeroLaws.{word-at-most-one, zeros-rest}
 
 -- eight bytes are at most 1 as a number when the first is and the others are zero
 pub word-small : (xs : List ℕ) (a : ℕ) → a < length xs → leb (field a 8 xs) 1 ≡ leb (getD xs a 0) 1 && zeros (take 7 (drop (a + 1) xs))
 unfolding field
-word-small xs a h = rw (add-one, drop-cons xs a 0) (value-small (getD xs a 0) (take 7 (drop (suc a) xs)))
+word-small xs a h = rw (add-one, drop-cons xs a 0) (word-at-most-one (getD xs a 0) (take 7 (drop (suc a) xs)))
 
 -- two such words that overlap: the first makes sure of the second's first bytes
 overlap : (l q r : Bool) (z y : ℕ) → (q ≡ true → (z ≡ 0) × (y ≡ 0)) → (l && q) && (leb z 1 && (eqb y 0 && r)) ≡ l && (q && r)

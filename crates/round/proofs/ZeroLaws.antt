@@ -27,16 +27,16 @@ zeros-append [] ys = refl
 zeros-append (x ∷ xs) ys =
     ap (λ (t : Bool). eqb x 0 && t) (zeros-append xs ys) ∙ sym (and-assoc (eqb x 0) (zeros xs) (zeros ys))
 
-pub zeros-field : (bs : List ℕ) (a n : ℕ) → zeros (take n (drop a bs)) ≡ eqb (field a n bs) 0
+pub zeros-by-number : (bs : List ℕ) (a n : ℕ) → zeros (take n (drop a bs)) ≡ eqb (field a n bs) 0
 unfolding field
-zeros-field bs a n = zeros-value (take n (drop a bs))
+zeros-by-number bs a n = zeros-value (take n (drop a bs))
 
 -- the first m of m + n bytes, as a number, and the rest
 pub zeros-split : (bs : List ℕ) (a m n : ℕ) → zeros (take (m + n) (drop a bs)) ≡ eqb (field a m bs) 0 && zeros (take n (drop (a + m) bs))
 zeros-split bs a m n =
     ap zeros (take-add m n (drop a bs))
     ∙ zeros-append (take m (drop a bs)) (take n (drop m (drop a bs)))
-    ∙ rw (zeros-field bs a m, drop-drop m a bs)
+    ∙ rw (zeros-by-number bs a m, drop-drop m a bs)
 
 -- A WORD that is 0 exactly when its eight bytes are
 abbrev pub Word : (at word : ℕ) → List ℕ → Type 0
@@ -101,9 +101,9 @@ cleared-more t z f i h k inv =
     ∙ ap (λ (m : ℕ). take f t ++ replicate m 0) (sym e)
 
 -- A WORD IS AT MOST 1 when its first byte is and the others are zero
-pub value-small : (b : ℕ) (bs : List ℕ) → leb (value (b ∷ bs)) 1 ≡ leb b 1 && zeros bs
+pub word-at-most-one : (b : ℕ) (bs : List ℕ) → leb (value (b ∷ bs)) 1 ≡ leb b 1 && zeros bs
 unfolding value
-value-small b bs = small b (value bs) ∙ ap (λ (t : Bool). leb b 1 && t) (sym (zeros-value bs))
+word-at-most-one b bs = small b (value bs) ∙ ap (λ (t : Bool). leb b 1 && t) (sym (zeros-value bs))
   where
     small : (b v : ℕ) → leb (b + 256 * v) 1 ≡ leb b 1 && eqb v 0
     small b v =

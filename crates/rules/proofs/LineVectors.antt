@@ -9,7 +9,7 @@ use Rattle.rules.specs.Lines.{forms, found, front-size, payload-fits, ha
 use Rattle.rules.specs.Lines.{front, text, stands, Reading, command, broken, body, command-of, read-digits, read, read-refusal, Place, place-of, payload-place, payload, write-refusal, write-answer, write-left}
 
 -- A LINE BY HAND: what it is read as, the refusal's number, the payload's place, and the payload
-pub record Read : Type 0 where
+pub record Line-read : Type 0 where
   pub line : List ℕ
   pub reading : Reading
   pub number : ℕ
@@ -17,11 +17,11 @@ pub record Read : Type 0 where
   pub end : ℕ
   pub digits : List ℕ
 
-abbrev pub reads : List ℕ → Reading → (number start end : ℕ) → List ℕ → Read
+abbrev pub reads : List ℕ → Reading → (number start end : ℕ) → List ℕ → Line-read
 reads l r n s e ds = record { line = l; reading = r; number = n; start = s; end = e; digits = ds }
 
 -- the same by the definitions
-abbrev pub read-by : List Read → List Read
+abbrev pub read-by : List Line-read → List Line-read
 read-by [] = []
 read-by (x ∷ xs) =
     let l = x .line in
@@ -41,7 +41,7 @@ taking-front =
 abbrev pub the-taking : Reading
 the-taking = command (take-line 258 168496141)
 
-abbrev pub lines-read : List Read
+abbrev pub lines-read : List Line-read
 lines-read =
     -- no payload
     reads (taking-front ++ (10 ∷ [])) the-taking 0 0 0 [] ∷

@@ -15,7 +15,7 @@ use Rattle.rules.specs.Reads.{complete-from, begun-from, asked, calls-of
 use Rattle.rules.proofs.Text.{zeroed}
 
 -- READS BY HAND: the bytes written for each that is made, then the line held, whether it is over, and the waiting rows
-pub record Reads : Type 0 where
+pub record Reads-by-hand : Type 0 where
   pub reads : List (List ℕ)
   pub writes : List (List ℕ)
   pub held : List ℕ
@@ -28,7 +28,7 @@ each-written t h [] = []
 each-written t h (x ∷ xs) =
     let s = served t h x in written t h x ∷ cond (s .over) [] (each-written (s .table) (s .held) xs)
 
-abbrev pub made : List Reads → List Reads
+abbrev pub made : List Reads-by-hand → List Reads-by-hand
 made [] = []
 made (x ∷ xs) =
     let s = between-after zeroed [] (x .reads) in
@@ -41,7 +41,7 @@ made (x ∷ xs) =
     }
     ∷ made xs
 
-abbrev pub reads : List Reads
+abbrev pub reads : List Reads-by-hand
 reads =
     -- document 01's sample in four reads, cut inside its lines; a read of no bytes is the end
     record {

@@ -16,7 +16,7 @@ use Rattle.lines.proofs.ReadLines.{short}
 use Rattle.lines.proofs.Cuts.{cut, uncut}
 use Rattle.serving.specs.declared.answering.Progress.{Progress}
 use Rattle.serving.specs.Answering.{lines, bytes-read, Answers}
-use Rattle.serving.proofs.Put.{Put, reply-long, refusal-long}
+use Rattle.serving.proofs.Put.{Line-put, reply-long, refusal-long}
 
 -- A LINE and those behind it: a command's, and one that is broken
 record Told (c : Command) (line : List ℕ) (more : List (List ℕ)) (t : List ℕ) : Type 0 where
@@ -98,7 +98,7 @@ module _ {input t z before after : List ℕ} {from wrote : ℕ} (s : Answering i
     -- a command's line more
     pub answering-more : (c : Command) {z′ : List ℕ} {next put : ℕ} → command c ≡ read (take (at + 1 - from) (drop from input)) →
         (next ≡ at + 1) × (put ≡ wrote + r) → z′ ≡ left (call-of c) z →
-        Put (reply-text (answer (call-of c) z)) after o wrote r → Answering input t z′ before o next put
+        Line-put (reply-text (answer (call-of c) z)) after o wrote r → Answering input t z′ before o next put
     answering-more c {z′} {next} {put} e q f p =
         let n = at + 1 - from in
         let line = take n (drop from input) in
@@ -126,7 +126,7 @@ module _ {input t z before after : List ℕ} {from wrote : ℕ} (s : Answering i
     -- a broken line, which nothing follows
     pub answered-broken : {p : Progress} → broken ≡ read (take (at + 1 - from) (drop from input)) →
         (p .read ≡ at + 1) × (p .wrote ≡ wrote + r) × (p .stopped ≡ true) →
-        Put (reply-text (refused 1)) after o wrote r → Answers input t before z o p
+        Line-put (reply-text (refused 1)) after o wrote r → Answers input t before z o p
     answered-broken {p} e q l =
         let n = at + 1 - from in
         let line = take n (drop from input) in

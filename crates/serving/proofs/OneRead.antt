@@ -16,8 +16,8 @@ use Rattle.lines.specs.Writing.{Replies}
 use Rattle.serving.specs.declared.answering.Progress.{Progress}
 use Rattle.serving.specs.declared.Served.{Served}
 use Rattle.serving.specs.Answering.{lines, Answers}
-use Rattle.serving.specs.Serving.{after-read, to-write, Serves, Ending, Behind, moved-front}
-use Rattle.serving.proofs.Put.{Put}
+use Rattle.serving.specs.Serving.{after-read, to-write, Serves, Ending, Refused-behind, moved-front}
+use Rattle.serving.proofs.Put.{Line-put}
 
 -- A READ OF SOME BYTES, by all the bytes that are there then
 record Some (t h x there : List ℕ) : Type 0 where
@@ -57,7 +57,7 @@ pub ending-refused : {held r : ℕ} {out out′ : List ℕ} → (held ≡ 0 → 
 ending-refused {held} f p = rw (ne-eqb held 0 f) p
 
 -- REFUSAL 1 behind the replies
-pub behind : {o o′ : List ℕ} {w r : ℕ} → Put (reply-text (refused 1)) o o′ w r → Behind w o o′ (w + r)
+pub behind : {o o′ : List ℕ} {w r : ℕ} → Line-put (reply-text (refused 1)) o o′ w r → Refused-behind w o o′ (w + r)
 behind {o} {o′} {w} {r} p =
     let rf = reply-text (refused 1) in
     record {
@@ -119,7 +119,7 @@ module _ (held got : ℕ) (input : List ℕ) {t out t′ out′ : List ℕ} {p :
     begun-long = ap length (sym (a .rest e)) ∙ length-drop (p .read) (take (held + got) input) ∙ rw (length-take-le (held + got) input h)
 
     -- of which is longer than any command's
-    pub serves-overlong : {w : ℕ} {out″ : List ℕ} {r : Served} → 63 < held + got - p .read → Behind (p .wrote) out′ out″ w → Over w r →
+    pub serves-overlong : {w : ℕ} {out″ : List ℕ} {r : Served} → 63 < held + got - p .read → Refused-behind (p .wrote) out′ out″ w → Over w r →
         Serves held got input t out input t′ out″ r
     unfolding overlong
     serves-overlong {w} {out″} {r} k b q =

@@ -31,7 +31,7 @@ unfolding reply-text reply-digits
 refusal-long = simp (length-append, length-digits)
 
 -- BYTES PUT behind those written: a line at the start of the buffer's part from w on
-pub record Put (line o o′ : List ℕ) (w r : ℕ) : Type 0 where
+pub record Line-put (line o o′ : List ℕ) (w r : ℕ) : Type 0 where
   pub size : r ≡ length line
   pub room : w + r ≤ length o
   pub long : length o′ ≡ length o
@@ -39,7 +39,7 @@ pub record Put (line o o′ : List ℕ) (w r : ℕ) : Type 0 where
   pub kept : drop (w + r) o′ ≡ drop (w + r) o
 
 pub put-line : {line o part : List ℕ} {w r : ℕ} → w ≤ length o → Replies line (take (length o - w) (drop w o)) part r →
-    length part ≡ length (take (length o - w) (drop w o)) → Put line o (putMid w (length o - w) o part) w r
+    length part ≡ length (take (length o - w) (drop w o)) → Line-put line o (putMid w (length o - w) o part) w r
 put-line {line} {o} {part} {w} {r} h p e =
     let n = length o - w in
     let d = length-drop w o in

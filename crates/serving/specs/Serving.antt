@@ -33,7 +33,7 @@ abbrev pub Ending : (held : ℕ) (out out′ : List ℕ) → ℕ → Type 0
 Ending held out out′ r = Replies (cond (eqb held 0) [] (reply-text (refused 1))) out out′ r
 
 -- refusal 1 behind the bytes written
-pub record Behind (wrote : ℕ) (out out′ : List ℕ) (r : ℕ) : Type 0 where
+pub record Refused-behind (wrote : ℕ) (out out′ : List ℕ) (r : ℕ) : Type 0 where
   pub long : r ≡ wrote + length (reply-text (refused 1))
   pub left : out′ ≡ take wrote out ++ at-front (reply-text (refused 1)) (drop wrote out)
 

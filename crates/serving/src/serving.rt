@@ -4,7 +4,7 @@ ghost use mathlib.Core.Bool.{true};
 ghost use Prim.Native.Nat.{_+_, _*_, _≤_};
 ghost use lib.ListN.{length};
 ghost use Rattle.rules.specs.Lines.{reply-ratio, reply-room};
-ghost use Rattle.serving.specs.Serving.{Serves, Ending, Behind, moved-front};
+ghost use Rattle.serving.specs.Serving.{Serves, Ending, Refused-behind, moved-front};
 use crate::LONGEST_LINE;
 use crate::Served;
 use crate::answering::answer_lines_in_room;
@@ -68,7 +68,7 @@ fn end_input(held: usize, out: &mut [u8]) -> usize
 // A line begun that is longer than any command's: refusal 1 behind the replies. It answers how many bytes are written then.
 fn refuse_behind(wrote: usize, out: &mut [u8]) -> usize
     requires { ⌜ wrote + reply-room ≤ length (now out) ⌝ }
-    ensures { λ r. ⌜ Behind wrote (now (out .entry)) (now (out .exit)) r ⌝ }
+    ensures { λ r. ⌜ Refused-behind wrote (now (out .entry)) (now (out .exit)) r ⌝ }
 {
     wrote + write_refusal_in_room(1, &mut out[wrote..])
 }

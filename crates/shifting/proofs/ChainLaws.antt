@@ -18,9 +18,9 @@ use Rattle.theory.specs.Feas.{num}
 use Rattle.theory.specs.Back.{length-table}
 use Rattle.theory.specs.Flags.{with-flag}
 use Rattle.theory.specs.Keys.{key, key-index}
-use Rattle.theory.specs.Chain.{Heaviest-in, Chain, moved-to, moves, chain-other}
+use Rattle.theory.specs.Chain.{Heaviest-in, Linked, shifted-to-end, moves, chain-other}
 use Rattle.theory.specs.Leaping.{rising-moves, moved-ticket}
-use Rattle.theory.specs.Segments.{Segment, segment-made, segment-end, segment-some, segment-mark}
+use Rattle.theory.specs.Segments.{Segment, segment-made, segment-end, segment-has-row, segment-mark}
 use Rattle.theory.specs.Whole.{length-moves}
 use Rattle.theory.specs.Count.{counts-next, kept-counts}
 use Rattle.tally.specs.Rows.{at, key-at, place, top-of}
@@ -42,7 +42,7 @@ pub record Link (r : Round) (fs : List ℕ) (to end k : ℕ) (t : List ℕ) : Ty
   pub row : ℕ
   pub heaviest : Heaviest r fs (suc end) (suc to) k row
   pub links : List Row
-  pub chain : Chain r (with-flag r fs) (tight-after r (plan r) (at r row .due)) (r .slot + to) links
+  pub chain : Linked r (with-flag r fs) (tight-after r (plan r) (at r row .due)) (r .slot + to) links
   pub bytes : t ≡ table (having r (moves r (tight-after r (plan r) (at r row .due)) links (r .rows)))
 
 -- or none waits, as no end is passed
@@ -73,7 +73,7 @@ module _ (r : Round) (fs : List ℕ) (x : Reach) (z : Scene r fs x) (to : ℕ) (
         most = λ y j a b. heaviest-over r fs x z (suc e) (suc to) k i (omega (arith, near, h)) w y j (omega (arith, a)) (omega (arith, b));
       }
 
-  link-chain : (e k : ℕ) (t : List ℕ) → e ≤ to → (l : Link r fs to e k t) → Chain r rs (r .slot + e) (r .slot + to) (at r (l .row) ∷ l .links)
+  link-chain : (e k : ℕ) (t : List ℕ) → e ≤ to → (l : Link r fs to e k t) → Linked r rs (r .slot + e) (r .slot + to) (at r (l .row) ∷ l .links)
   link-chain e k t h l = (heaviest-slots e k (l .row) h (l .heaviest), l .chain)
 
   -- the key names its row and weight
@@ -84,7 +84,7 @@ module _ (r : Round) (fs : List ℕ) (x : Reach) (z : Scene r fs x) (to : ℕ) (
   -- A LINK MOVES to an end with the mark m
   pub link-moved : (e k m : ℕ) (t : List ℕ) → e ≤ to → (l : Link r fs to e k t) → mark r (r .slot + e) ≡ m →
       linked (r .slot) k e m t ≡ table (having r (moves r (r .slot + e) (at r (l .row) ∷ l .links) (r .rows)))
-  unfolding moves moved-to
+  unfolding moves shifted-to-end
   link-moved e k m t h l q =
       let i = l .row in
       let w = l .heaviest in
@@ -106,11 +106,11 @@ module _ (r : Round) (fs : List ℕ) (x : Reach) (z : Scene r fs x) (to : ℕ) (
       ∙ sym shift
       ∙ ap₂ (λ (y : Row) (v : ℕ). table (having r (changed (y .ticket) (row (y .ticket) d (max (at r i .weight) v) (y .tail)) xs))) same (sym q)
       ∙ ap (λ (ys : List Row). table (having r ys))
-      (moves-changed r (at r i .ticket) (moved-to r d (at r i)) (moved-ticket r d (at r i)) e1 (l .links) (r .rows) o)
+      (moves-changed r (at r i .ticket) (shifted-to-end r d (at r i)) (moved-ticket r d (at r i)) e1 (l .links) (r .rows) o)
 
   -- the chain from an end on, with the link that waits moved there
   from-end : (e k m : ℕ) (t : List ℕ) → e ≤ to → mark r (r .slot + e) ≡ m → Waiting r fs to e k t → (v : ℕ) → v ≡ r .slot + e →
-      (hs : List Row) × Chain r rs v (r .slot + to) hs × (linked (r .slot) k e m t ≡ table (having r (moves r v hs (r .rows))))
+      (hs : List Row) × Linked r rs v (r .slot + to) hs × (linked (r .slot) k e m t ≡ table (having r (moves r v hs (r .rows))))
   unfolding moves round
   from-end e k m t j q (inl a) v d = ([], omega (arith, d, a .1), rw (eq-eqb k 0 (a .0)) (a .2))
   from-end e k m t j q (inr a) v d = rw d (at r (a .row) ∷ a .links, link-chain e k t j a, link-moved e k m t j a q)
@@ -127,7 +127,7 @@ module _ (r : Round) (fs : List ℕ) (x : Reach) (z : Scene r fs x) (to : ℕ) (
   stretch-mark ms m b e h g =
       let c = plan-rows r fs x z in
       let n : r .slot + e < r .slot + x .free = omega (arith, h, near) in
-      let y = segment-some r (z .fine) (z .time) rs c (r .slot + x .free) (z .reach .near) b (r .slot + e) n g in
+      let y = segment-has-row r (z .fine) (z .time) rs c (r .slot + x .free) (z .reach .near) b (r .slot + e) n g in
       let w = m .mark e h .found (y .0) (y .1) (y .3) in
       segment-mark r (z .fine) (z .time) rs c (r .slot + x .free) (z .reach .near) b (r .slot + e) n g (r .slot + e) (g .by) (omega arith) (w .row)
       (w .inside) (w .due) (w .least)

@@ -17,8 +17,8 @@ use Rattle.rules.specs.Table.{low, head-bytes, rows-bytes, table}
 use Rattle.theory.specs.Tests.{eqb?}
 use Rattle.theory.specs.Full.{Fine, Rising}
 use Rattle.theory.specs.Back.{length-changed, length-head, table-is, length-table}
-use Rattle.theory.specs.Members.{Rows}
-use Rattle.theory.specs.Chain.{Chain, moved-to, moves}
+use Rattle.theory.specs.Members.{Rows-of-plan}
+use Rattle.theory.specs.Chain.{Linked, shifted-to-end, moves}
 use Rattle.theory.specs.Leaping.{final-row, final-other, moves-each, each-at, moved-ticket}
 use Rattle.theory.specs.Write.{shift-bytes, weight-bytes, kept-bytes}
 use Rattle.shifting.specs.Chain.{having}
@@ -46,11 +46,11 @@ pub moves-changed : (r : Round) (k : ℕ) (y : Row) → y .ticket ≡ k → (e :
 unfolding moves
 moves-changed r k y q e [] xs a = refl
 moves-changed r k y q e (h ∷ hs) xs a =
-    moves-changed r k y q (tight-after r (plan r) (h .due)) hs (changed (h .ticket) (moved-to r e h) xs) (a .1)
-    ∙ ap (moves r (tight-after r (plan r) (h .due)) hs) (changed-comm k (h .ticket) y (moved-to r e h) (a .0) q (moved-ticket r e h) xs)
+    moves-changed r k y q (tight-after r (plan r) (h .due)) hs (changed (h .ticket) (shifted-to-end r e h) xs) (a .1)
+    ∙ ap (moves r (tight-after r (plan r) (h .due)) hs) (changed-comm k (h .ticket) y (shifted-to-end r e h) (a .0) q (moved-ticket r e h) xs)
 
 -- the row of another ticket stays
-pub moves-other : (r : Round) (f : Fine r) (rs : List Row) (c : Rows r rs) (e g : ℕ) (hs : List Row) (i : ℕ) → Chain r rs e g hs → i < length (r .rows) →
+pub moves-other : (r : Round) (f : Fine r) (rs : List Row) (c : Rows-of-plan r rs) (e g : ℕ) (hs : List Row) (i : ℕ) → Linked r rs e g hs → i < length (r .rows) →
     All (λ h. h .ticket ≢ getD (r .rows) i (blank 0) .ticket) hs → getD (moves r e hs (r .rows)) i (blank 0) ≡ getD (r .rows) i (blank 0)
 moves-other r f rs c e g hs i k h a =
     ap (λ (xs : List Row). getD xs i (blank 0)) (moves-each r f rs c 1 (r .next) e g hs (r .rows) (f .rising) k)

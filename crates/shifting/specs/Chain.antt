@@ -12,7 +12,7 @@ use Rattle.rules.specs.Conditions.{row-at}
 use Rattle.rules.specs.Table.{low, table, round-in}
 use Rattle.theory.specs.Feas.{num}
 use Rattle.theory.specs.Flags.{Chosen, with-flag}
-use Rattle.theory.specs.Chain.{Chain, moves}
+use Rattle.theory.specs.Chain.{Linked, moves}
 use Rattle.theory.specs.Segments.{Segment}
 use Rattle.sorts.specs.declared.Round.{Round as Head}
 use Rattle.tally.specs.Rows.{Ready, place}
@@ -82,5 +82,5 @@ having r xs = going-on (r .slot) (r .next) xs r
 -- THE SHIFTS: every link of the chain between two ends moved
 pub record Shifts (r : Round) (rs : List Row) (e g : ℕ) (t : List ℕ) : Type 0 where
   pub links : List Row
-  pub chain : Chain r rs e g links
+  pub chain : Linked r rs e g links
   pub bytes : t ≡ table (having r (moves r e links (r .rows)))

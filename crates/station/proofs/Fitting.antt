@@ -77,9 +77,9 @@ pub accepted-question : (q : Question) (t : List ℕ) → refusal (asking q) t �
 unfolding refusal table-first
 accepted-question q t e = sound t (first-none (table-refusal t) (round-refusal (asking q) (round-in t)) e .0) .sane
 
-pub opening-answers : (u : Setup) → Answers-fit (opening u)
+pub opening-answers-fit : (u : Setup) → Answers-fit (opening u)
 unfolding Answers-fit says deed
-opening-answers u t = answers-fit (opening u) t (λ e. opening-fits)
+opening-answers-fit u t = answers-fit (opening u) t (λ e. opening-fits)
 
 -- a ticket given is below the limit
 pub taking-answers : (f : Frame) → Answers-fit (acting (taking f))

@@ -225,41 +225,41 @@ outside-all P a ps (y ∷ ys) x p q =
     (λ _. q .0) (λ _. p)) (q .1)
 
 -- as many rows, each with a good tail
-abbrev pub Small : ℕ → List Row → Type 0
-Small n xs = (length xs ≤ n) × All Tail-fine xs
+abbrev pub In-room : ℕ → List Row → Type 0
+In-room n xs = (length xs ≤ n) × All Tail-fine xs
 
-pub small-changed : (n k : ℕ) (y : Row) (xs : List Row) → Tail-fine y → Small n xs → Small n (changed k y xs)
-small-changed n k y xs h s = (omega (arith, length-changed k y xs, s .0), all-changed Tail-fine k y h xs (s .1))
+pub in-room-changed : (n k : ℕ) (y : Row) (xs : List Row) → Tail-fine y → In-room n xs → In-room n (changed k y xs)
+in-room-changed n k y xs h s = (omega (arith, length-changed k y xs, s .0), all-changed Tail-fine k y h xs (s .1))
 
-pub small-without : (n k : ℕ) (xs : List Row) → Small n xs → Small n (without k xs)
-small-without n k xs s = (omega (arith, length-without k xs, s .0), all-without Tail-fine k xs (s .1))
+pub in-room-without : (n k : ℕ) (xs : List Row) → In-room n xs → In-room n (without k xs)
+in-room-without n k xs s = (omega (arith, length-without k xs, s .0), all-without Tail-fine k xs (s .1))
 
-pub small-still : (n t : ℕ) (xs : List Row) → Small n xs → Small n (still-due t xs)
-small-still n t xs s = (
+pub in-room-still : (n t : ℕ) (xs : List Row) → In-room n xs → In-room n (still-due t xs)
+in-room-still n t xs s = (
   omega (arith, length-still t xs, s .0),
   all-map {Q = Tail-fine} (λ x (h : (t ≤ x .due) × Tail-fine x). h .1) (still-due t xs) (all-still Tail-fine t xs (s .1)),
 )
 
-pub small-shifted : (n m : ℕ) (r : Round) (ps : List Row) (e g : ℕ) (xs : List Row) → All Tail-fine ps → Small n xs → Small n (shifted m r ps e g xs)
+pub in-room-shifted : (n m : ℕ) (r : Round) (ps : List Row) (e g : ℕ) (xs : List Row) → All Tail-fine ps → In-room n xs → In-room n (shifted m r ps e g xs)
 unfolding shifted row blank
-small-shifted n zero r ps e g xs k s = s
-small-shifted n (suc m) r ps e g xs k s =
+in-room-shifted n zero r ps e g xs k s = s
+in-room-shifted n (suc m) r ps e g xs k s =
     let h = heaviest-between e g ps (blank (suc g)) in
     let y = row (h .ticket) e (max (h .weight) (mark-in r ps e)) (h .tail) in
-    both-ways (Small n) (ltb e g) (shifted m r ps (tight-after r ps (h .due)) g (changed (h .ticket) y xs)) xs
-    (λ _. small-shifted n m r ps (tight-after r ps (h .due)) g (changed (h .ticket) y xs) k
-    (small-changed n (h .ticket) y xs (between-all Tail-fine e g ps (blank (suc g)) (blank-right (suc g)) k) s))
+    both-ways (In-room n) (ltb e g) (shifted m r ps (tight-after r ps (h .due)) g (changed (h .ticket) y xs)) xs
+    (λ _. in-room-shifted n m r ps (tight-after r ps (h .due)) g (changed (h .ticket) y xs) k
+    (in-room-changed n (h .ticket) y xs (between-all Tail-fine e g ps (blank (suc g)) (blank-right (suc g)) k) s))
     (λ _. s)
 
-pub small-replaced : (n : ℕ) (r : Round) (ps : List Row) (p s : Row) (xs : List Row) → Tail-fine s → Small n xs → Small n (replaced r ps p s xs)
+pub in-room-replaced : (n : ℕ) (r : Round) (ps : List Row) (p s : Row) (xs : List Row) → Tail-fine s → In-room n xs → In-room n (replaced r ps p s xs)
 unfolding replaced row
-small-replaced n r ps p s xs k q =
-    both-ways (Small n) (eqb (s .ticket) 0) _ _
-    (λ _. both-ways (Small n) (ltb 0 (mark-in r ps (s .due))) _ _
-    (λ _. small-changed n (p .ticket) (row (p .ticket) (s .due) (mark-in r ps (s .due)) blank-tail) xs kept-right q)
-    (λ _. small-without n (p .ticket) xs q))
-    (λ _. small-without n (p .ticket) _
-    (small-changed n (s .ticket) (row (s .ticket) (s .due) (mark-in r ps (s .due)) (s .tail)) xs k q))
+in-room-replaced n r ps p s xs k q =
+    both-ways (In-room n) (eqb (s .ticket) 0) _ _
+    (λ _. both-ways (In-room n) (ltb 0 (mark-in r ps (s .due))) _ _
+    (λ _. in-room-changed n (p .ticket) (row (p .ticket) (s .due) (mark-in r ps (s .due)) blank-tail) xs kept-right q)
+    (λ _. in-room-without n (p .ticket) xs q))
+    (λ _. in-room-without n (p .ticket) _
+    (in-room-changed n (s .ticket) (row (s .ticket) (s .due) (mark-in r ps (s .due)) (s .tail)) xs k q))
 
 pub plan-tails : (r : Round) → All Tail-fine (r .rows) → All Tail-fine (plan r)
 plan-tails r a = plan-all Tail-fine r a (λ s h k. blank-right s)
@@ -287,18 +287,18 @@ sub-tail r p k a =
     both-ways Tail-fine (leb (p .due) (first-end r (plan r))) _ _ (λ _. lightest-all Tail-fine (first-end r (plan r)) (plan r) p k (plan-tails r a))
     (λ _. outside-all Tail-fine (segment-start r (plan r) (p .due)) (plan r) (r .rows) (blank (segment-start r (plan r) (p .due))) (blank-right _) a)
 
-pub small-leapt : (n : ℕ) (r : Round) (p : Row) → Tail-fine p → Small n (r .rows) → Small n (leapt r (plan r) p)
+pub in-room-leapt : (n : ℕ) (r : Round) (p : Row) → Tail-fine p → In-room n (r .rows) → In-room n (leapt r (plan r) p)
 unfolding leapt
-small-leapt n r p k s =
-    small-replaced n r (plan r) p (substitute r (plan r) p) _ (sub-tail r p k (s .1)) (small-shifted n (suc (r .last)) r (plan r) _ _ (r .rows)
+in-room-leapt n r p k s =
+    in-room-replaced n r (plan r) p (substitute r (plan r) p) _ (sub-tail r p k (s .1)) (in-room-shifted n (suc (r .last)) r (plan r) _ _ (r .rows)
     (plan-tails r (s .1)) s)
 
-pub small-sent : (n : ℕ) (r : Round) → Small n (r .rows) → Small n (sent r .rows)
+pub in-room-sent : (n : ℕ) (r : Round) → In-room n (r .rows) → In-room n (sent r .rows)
 unfolding sent round
-small-sent n r s =
-    small-still n (suc (r .slot)) _
-    (both-ways (Small n) (leb (best r (plan r) .due) (first-end r (plan r))) _ _ (λ _. small-without n (best r (plan r) .ticket) (r .rows) s)
-    (λ _. small-leapt n r (best r (plan r)) (best-tail r (plan r) (plan-tails r (s .1))) s))
+in-room-sent n r s =
+    in-room-still n (suc (r .slot)) _
+    (both-ways (In-room n) (leb (best r (plan r) .due) (first-end r (plan r))) _ _ (λ _. in-room-without n (best r (plan r) .ticket) (r .rows) s)
+    (λ _. in-room-leapt n r (best r (plan r)) (best-tail r (plan r) (plan-tails r (s .1))) s))
 
 pub sized-opened : (u : Setup) (k : ℕ) → u .last ≤ most-last → k ≤ most-rows → Sized (opened u k)
 unfolding opened round
@@ -319,7 +319,7 @@ sized-taken r f k z =
 pub sized-sent : (r : Round) → Sized r → Sized (sent r)
 unfolding sent round
 sized-sent r z =
-    let s = small-sent (r .room) r (z .long, z .tails) in
+    let s = in-room-sent (r .room) r (z .long, z .tails) in
     record { last = z .last; room = z .room; next = z .next; long = s .0; tails = s .1 }
 
 -- SIZES KEPT by every call

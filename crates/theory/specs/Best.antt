@@ -21,7 +21,7 @@ use Rattle.theory.specs.Same.{in-plan?, row-ticket}
 use Rattle.theory.specs.Score.{score-of, sends-by-score}
 use Rattle.theory.specs.Unique.{plan-out}
 use Rattle.theory.specs.Slack.{idlers-is, with-blank, slack, slack-some}
-use Rattle.theory.specs.Members.{Rows, planned-rows, of-rows-in, of-rows-ticket, member-found, found-member, member?}
+use Rattle.theory.specs.Members.{Rows-of-plan, planned-rows, of-rows-in, of-rows-ticket, member-found, found-member, member?}
 use Rattle.theory.specs.Top.{Top, top-pick}
 use Rattle.theory.specs.Substitute.{first-end-from, first-weight, first-blank, later-is, score-blank, score-row}
 
@@ -80,15 +80,15 @@ best-from-top r f (y ∷ ys) b i a =
     chosen-in false = i
 
 -- THE BEST is a member, and no member goes before it
-pub record Goes (r : Round) (p : Row) : Type 0 where
+pub record Is-best (r : Round) (p : Row) : Type 0 where
   pub inside : In p (plan r)
   pub first : (q : Row) → In q (plan r) → Beaten r q p
 
-pub best-goes : (r : Round) → Fine r → r .slot ≤ r .last → Goes r (best r (plan r))
+pub best-goes : (r : Round) → Fine r → r .slot ≤ r .last → Is-best r (best r (plan r))
 unfolding slots-left best
 best-goes r f o = of-list (plan r) refl
   where
-    of-list : (ps : List Row) → plan r ≡ ps → Goes r (best r ps)
+    of-list : (ps : List Row) → plan r ≡ ps → Is-best r (best r ps)
     of-list [] e = absurd (omega (arith, o, plan-length r f .0, ap length e))
     of-list (p ∷ ps) e =
         let all : All (λ x. In x (plan r)) (p ∷ ps) =
@@ -96,7 +96,7 @@ best-goes r f o = of-list (plan r) refl
         goes p ps e all (subst (λ (zs : List Row). Top Any (Beaten r) p ps (best-from r zs ps p)) e (best-from-top r f ps p (all .0) (all .1)))
       where
         goes : (p : Row) (ps : List Row) → plan r ≡ (p ∷ ps) → All (λ x. In x (plan r)) (p ∷ ps) → Top Any (Beaten r) p ps (best-from r (p ∷ ps) ps p) →
-            Goes r (best-from r (p ∷ ps) ps p)
+            Is-best r (best-from r (p ∷ ps) ps p)
         goes p ps e all t =
             record {
               inside = elim (t .found) [
@@ -136,7 +136,7 @@ some-planned r f x i = of-list (planned r) refl
         here y j q = subst (λ (z : Row). In z (plan r)) (rising-same 1 (r .next) y x (r .rows) (f .rising)
             (of-rows-in r f (planned r) (planned-rows r f) y (member-found r f (planned r) (planned-rows r f) y j (omega (arith, q, ticket-of i)))) i q) j
 
-module _ (r : Round) (f : Fine r) (o : r .slot ≤ r .last) (rs : List Row) (c : Rows r rs) where
+module _ (r : Round) (f : Fine r) (o : r .slot ≤ r .last) (rs : List Row) (c : Rows-of-plan r rs) where
   pub some-row : (x : Row) → In x (r .rows) → (y : Row) × In y rs
   some-row x i =
       let z = some-planned r f x i in
@@ -147,7 +147,7 @@ module _ (r : Round) (f : Fine r) (o : r .slot ≤ r .last) (rs : List Row) (c :
   pub silent-best : r .rows ≡ [] → best r (plan r) ≡ blank (r .slot)
   silent-best e =
       let p = best r (plan r) in
-      let g : Goes r p = best-goes r f o in
+      let g : Is-best r p = best-goes r f o in
       let none : (x : Row) → In x (plan r) → Is-blank x = λ x i. elim (member? r f rs c x i) [
         | inl a ↦ a
         | inr a ↦ absurd (subst (λ (zs : List Row). In x zs) e (of-rows-in r f rs c x a))
@@ -178,7 +178,7 @@ module _ (r : Round) (f : Fine r) (o : r .slot ≤ r .last) (rs : List Row) (c :
   pub best-row : (x : Row) → In x (r .rows) → In (best r (plan r)) rs
   best-row x i =
       let p = best r (plan r) in
-      let g : Goes r p = best-goes r f o in
+      let g : Is-best r p = best-goes r f o in
       let y = some-row x i in
       elim (member? r f rs c p (g .inside)) [
         | inr a ↦ a
@@ -193,7 +193,7 @@ module _ (r : Round) (f : Fine r) (o : r .slot ≤ r .last) (rs : List Row) (c :
       best r (plan r) ≡ p
   best-is p i h =
       let b = best r (plan r) in
-      let g : Goes r b = best-goes r f o in
+      let g : Is-best r b = best-goes r f o in
       let j = best-row p (of-rows-in r f rs c p i) in
       rising-same 1 (r .next) b p (r .rows) (f .rising) (of-rows-in r f rs c b j) (of-rows-in r f rs c p i)
       (beaten-both r b p (beaten b (h b j)) (g .first p (found-member r f rs c p i)))

@@ -22,7 +22,7 @@ use Rattle.theory.specs.Full.{Fine, Rising, plan-length}
 use Rattle.theory.specs.Marks.{box, mark-stays}
 use Rattle.theory.specs.Change.{all-still, all-without, rising-still, rising-without, still-box}
 use Rattle.theory.specs.Send.{best-in, ordinary-fills}
-use Rattle.theory.specs.Leap.{Row-ok, Left, leapt-left, plain, rows-kept}
+use Rattle.theory.specs.Leap.{Row-ok, Left, leapt-left, fills-alone, rows-kept}
 
 -- what no refusal says
 pub no-refusal : (c : Bool) (n z : ℕ) → cond c (suc n) z ≡ 0 → (c ≡ false) × (z ≡ 0)
@@ -34,9 +34,9 @@ or-false true b e = absurd (true≢false e)
 or-false false b e = (refl, e)
 
 -- of a list of tests, each with a number above 0: none holds
-abbrev pub None : List Test → Type 0
-None [] = Unit {0}
-None (x ∷ xs) = (x .holds ≡ false) × None xs
+abbrev pub None-holds : List Test → Type 0
+None-holds [] = Unit {0}
+None-holds (x ∷ xs) = (x .holds ≡ false) × None-holds xs
 
 abbrev pub numbered : List Test → Bool
 numbered [] = true
@@ -46,7 +46,7 @@ pub none-first : (b : Bool) (n z : ℕ) → 1 ≤ n → cond b n z ≡ 0 → (b 
 none-first true n z h e = absurd (omega (arith, h, e))
 none-first false n z h e = (refl, e)
 
-pub none-holds : (xs : List Test) → numbered xs ≡ true → first-of xs ≡ 0 → None xs
+pub none-holds : (xs : List Test) → numbered xs ≡ true → first-of xs ≡ 0 → None-holds xs
 none-holds [] n e = tt
 none-holds (x ∷ xs) n e =
     let p = and-true (leb 1 (x .number)) (numbered xs) n in
@@ -191,7 +191,7 @@ taken-stays s r g f k = (
   refl,
   omega arith,
   λ h i. mark-stays r (taken r f) g (taken-fine r g f k) (omega arith) refl s h i
-      (λ u e m v a b. omega (arith, plain r g u s e v m a b, sum-append (box u v (suc e)) (r .rows) (taken-row (r .next) f ∷ []))),
+      (λ u e m v a b. omega (arith, fills-alone r g u s e v m a b, sum-append (box u v (suc e)) (r .rows) (taken-row (r .next) f ∷ []))),
 )
 
 pub sent-stays : (s : ℕ) (r : Round) → Fine r → r .slot ≤ r .last → Stays s r (sent r)

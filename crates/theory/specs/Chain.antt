@@ -1,4 +1,4 @@
--- A leap's shifts as one chain, each link the heaviest of what is left: Chain, moves, chain-is, chain-other, chain-falls, some-chain.
+-- A leap's shifts as one chain, each link the heaviest of what is left: Linked, moves, chain-is, chain-other, chain-falls, some-chain.
 use mathlib.Core.Path.{_≡_, sym, ap, _∙_, subst}
 use mathlib.Core.Logic.{inl, inr, _≢_}
 use mathlib.Core.Bool.{true, false}
@@ -16,13 +16,13 @@ use Rattle.theory.specs.Order.{Not-over, over-absurd, over-not, over-ove
 use Rattle.theory.specs.Feas.{below, num, below-yes, below-late, below-mono, num-mono}
 use Rattle.theory.specs.Bounds.{Row-fine}
 use Rattle.theory.specs.Full.{Fine, plan-full}
-use Rattle.theory.specs.Marks.{Tight-in, Next, next}
+use Rattle.theory.specs.Marks.{Tight-in, Next-tight, next}
 use Rattle.theory.specs.Change.{rising-same}
 use Rattle.theory.specs.Send.{between-count, next-by}
 use Rattle.theory.specs.Leap.{no-shift}
 use Rattle.theory.specs.Times.{sum-less}
 use Rattle.theory.specs.Select.{plan-selection}
-use Rattle.theory.specs.Members.{Rows, of-rows-in, of-rows-fine, found-member, member?, in-plan-is}
+use Rattle.theory.specs.Members.{Rows-of-plan, of-rows-in, of-rows-fine, found-member, member?, in-plan-is}
 use Rattle.theory.specs.Top.{heaviest}
 
 -- THE HEAVIEST of the rows due after e and by g
@@ -33,19 +33,19 @@ pub record Heaviest-in (rs : List Row) (e g : ℕ) (h : Row) : Type 0 where
   pub most : (y : Row) → In y rs → e < y .due → y .due ≤ g → heavier y h ≡ false
 
 -- THE CHAIN from e to g
-abbrev pub Chain : Round → (rs : List Row) → (e g : ℕ) → List Row → Type 0
-Chain r rs e g [] = g ≤ e
-Chain r rs e g (h ∷ hs) = Heaviest-in rs e g h × Chain r rs (tight-after r (plan r) (h .due)) g hs
+abbrev pub Linked : Round → (rs : List Row) → (e g : ℕ) → List Row → Type 0
+Linked r rs e g [] = g ≤ e
+Linked r rs e g (h ∷ hs) = Heaviest-in rs e g h × Linked r rs (tight-after r (plan r) (h .due)) g hs
 
 -- a link moved to the end before it
-unfoldable pub moved-to : Round → (e : ℕ) → Row → Row
-moved-to r e h = row (h .ticket) e (max (h .weight) (mark r e)) (h .tail)
+unfoldable pub shifted-to-end : Round → (e : ℕ) → Row → Row
+shifted-to-end r e h = row (h .ticket) e (max (h .weight) (mark r e)) (h .tail)
 
 unfoldable pub moves : Round → (e : ℕ) → (hs xs : List Row) → List Row
 moves r e [] xs = xs
-moves r e (h ∷ hs) xs = moves r (tight-after r (plan r) (h .due)) hs (changed (h .ticket) (moved-to r e h) xs)
+moves r e (h ∷ hs) xs = moves r (tight-after r (plan r) (h .due)) hs (changed (h .ticket) (shifted-to-end r e h) xs)
 
-module _ (r : Round) (f : Fine r) (rs : List Row) (c : Rows r rs) where
+module _ (r : Round) (f : Fine r) (rs : List Row) (c : Rows-of-plan r rs) where
   pub heaviest-found : (e g : ℕ) (h : Row) → Heaviest-in rs e g h → heaviest-between e g (plan r) (blank (suc g)) ≡ h
   heaviest-found e g h p =
       let z = heaviest-between e g (plan r) (blank (suc g)) in
@@ -70,44 +70,44 @@ module _ (r : Round) (f : Fine r) (rs : List Row) (c : Rows r rs) where
 
   -- ONE TURN of the loop
   pub shifted-step : (n e g : ℕ) (h : Row) (xs : List Row) → Heaviest-in rs e g h →
-      shifted (suc n) r (plan r) e g xs ≡ shifted n r (plan r) (tight-after r (plan r) (h .due)) g (changed (h .ticket) (moved-to r e h) xs)
-  unfolding shifted moved-to mark
+      shifted (suc n) r (plan r) e g xs ≡ shifted n r (plan r) (tight-after r (plan r) (h .due)) g (changed (h .ticket) (shifted-to-end r e h) xs)
+  unfolding shifted shifted-to-end mark
   shifted-step n e g h xs p = rw (heaviest-found e g h p, lt-ltb e g (omega (arith, p .after, p .by)))
 
-  pub chain-shifted : (n e g : ℕ) (hs xs : List Row) → Chain r rs e g hs → length hs ≤ n → shifted n r (plan r) e g xs ≡ moves r e hs xs
+  pub chain-shifted : (n e g : ℕ) (hs xs : List Row) → Linked r rs e g hs → length hs ≤ n → shifted n r (plan r) e g xs ≡ moves r e hs xs
   unfolding moves
   chain-shifted n e g [] xs k l = no-shift n r e g xs k
   chain-shifted zero e g (h ∷ hs) xs k l = absurd (omega arith)
   chain-shifted (suc n) e g (h ∷ hs) xs k l =
       shifted-step n e g h xs (k .0)
-      ∙ chain-shifted n (tight-after r (plan r) (h .due)) g hs (changed (h .ticket) (moved-to r e h) xs) (k .1) (omega arith)
+      ∙ chain-shifted n (tight-after r (plan r) (h .due)) g hs (changed (h .ticket) (shifted-to-end r e h) xs) (k .1) (omega arith)
 
-  pub end-of : (h : Row) → In h rs → Next r (plan r) (h .due) (tight-after r (plan r) (h .due))
-  end-of h i = next r (plan r) (h .due) (of-rows-fine r f rs c h i .due-by) (plan-full r f)
+  pub link-end : (h : Row) → In h rs → Next-tight r (plan r) (h .due) (tight-after r (plan r) (h .due))
+  link-end h i = next r (plan r) (h .due) (of-rows-fine r f rs c h i .due-by) (plan-full r f)
 
-  pub chain-length : (e g : ℕ) (hs : List Row) → Chain r rs e g hs → length hs ≤ g - e
+  pub chain-length : (e g : ℕ) (hs : List Row) → Linked r rs e g hs → length hs ≤ g - e
   chain-length e g [] k = omega arith
   chain-length e g (h ∷ hs) k =
       omega (
         arith,
         k .0 .after,
         k .0 .by,
-        end-of h (k .0 .inside) .from,
+        link-end h (k .0 .inside) .from,
         chain-length (tight-after r (plan r) (h .due)) g hs (k .1),
       )
 
   -- ALL TURNS: enough fuel is the slots between
-  pub chain-is : (n e g : ℕ) (hs xs : List Row) → g ≤ n → Chain r rs e g hs → shifted n r (plan r) e g xs ≡ moves r e hs xs
+  pub chain-is : (n e g : ℕ) (hs xs : List Row) → g ≤ n → Linked r rs e g hs → shifted n r (plan r) e g xs ≡ moves r e hs xs
   chain-is n e g hs xs l k = chain-shifted n e g hs xs k (omega (arith, l, chain-length e g hs k))
 
   -- each link is due after the ends before it
-  pub chain-after : (e g : ℕ) (hs : List Row) → Chain r rs e g hs → All (λ z. (In z rs) × (e < z .due) × (z .due ≤ g)) hs
+  pub chain-after : (e g : ℕ) (hs : List Row) → Linked r rs e g hs → All (λ z. (In z rs) × (e < z .due) × (z .due ≤ g)) hs
   chain-after e g [] k = tt
   chain-after e g (h ∷ hs) k = (
     (k .0 .inside, k .0 .after, k .0 .by),
     all-map {Q = λ z. (In z rs) × (e < z .due) × (z .due ≤ g)}
         (λ z (u : (In z rs) × (tight-after r (plan r) (h .due) < z .due) × (z .due ≤ g)).
-        (u .0, omega (arith, u .1, k .0 .after, end-of h (k .0 .inside) .from), u .2)) hs
+        (u .0, omega (arith, u .1, k .0 .after, link-end h (k .0 .inside) .from), u .2)) hs
         (chain-after (tight-after r (plan r) (h .due)) g hs (k .1)),
   )
 
@@ -115,16 +115,16 @@ module _ (r : Round) (f : Fine r) (rs : List Row) (c : Rows r rs) where
   same-row-due x y i j e =
       ap (λ (z : Row). z .due) (rising-same 1 (r .next) x y (r .rows) (f .rising) (of-rows-in r f rs c x i) (of-rows-in r f rs c y j) e)
 
-  pub chain-other : (e g : ℕ) (h : Row) (hs : List Row) → Chain r rs e g (h ∷ hs) → All (λ z. h .ticket ≢ z .ticket) hs
+  pub chain-other : (e g : ℕ) (h : Row) (hs : List Row) → Linked r rs e g (h ∷ hs) → All (λ z. h .ticket ≢ z .ticket) hs
   chain-other e g h hs k =
       all-map {Q = λ z. h .ticket ≢ z .ticket}
       (λ z (u : (In z rs) × (tight-after r (plan r) (h .due) < z .due) × (z .due ≤ g)) (q : h .ticket ≡ z .ticket).
-      absurd (omega (arith, u .1, end-of h (k .0 .inside) .from, same-row-due h z (k .0 .inside) (u .0) q))) hs
+      absurd (omega (arith, u .1, link-end h (k .0 .inside) .from, same-row-due h z (k .0 .inside) (u .0) q))) hs
       (chain-after (tight-after r (plan r) (h .due)) g hs (k .1))
 
   -- A NEW STRETCH: the rows lighter than its heaviest leave the chain's end, and it is added
-  pub chain-extend : (e g g2 : ℕ) (ks ls : List Row) (m : Row) → e ≤ g → Tight-in r (plan r) g → Chain r rs e g (ks ++ ls) → Heaviest-in rs g g2 m →
-      tight-after r (plan r) (m .due) ≡ g2 → All (λ h. heavier h m ≡ true) ks → All (λ h. heavier m h ≡ true) ls → Chain r rs e g2 (ks ++ (m ∷ []))
+  pub chain-extend : (e g g2 : ℕ) (ks ls : List Row) (m : Row) → e ≤ g → Tight-in r (plan r) g → Linked r rs e g (ks ++ ls) → Heaviest-in rs g g2 m →
+      tight-after r (plan r) (m .due) ≡ g2 → All (λ h. heavier h m ≡ true) ks → All (λ h. heavier m h ≡ true) ls → Linked r rs e g2 (ks ++ (m ∷ []))
   chain-extend e g g2 [] [] m l t k p q a b = (
     record {
       inside = p .inside;
@@ -157,15 +157,15 @@ module _ (r : Round) (f : Fine r) (rs : List Row) (c : Rows r rs) where
       ];
     },
     chain-extend (tight-after r (plan r) (h .due)) g g2 ks ls m
-        (next-by r (plan r) (h .due) (tight-after r (plan r) (h .due)) g (end-of h (k .0 .inside)) (k .0 .by) t) t (k .1) p q (a .1) b,
+        (next-by r (plan r) (h .due) (tight-after r (plan r) (h .due)) g (link-end h (k .0 .inside)) (k .0 .by) t) t (k .1) p q (a .1) b,
   )
 
   -- its links fall, so where one is heavier than m all before it are
-  pub chain-falls : (e g : ℕ) (h : Row) (hs : List Row) → Chain r rs e g (h ∷ hs) → All (λ x. heavier h x ≡ true) hs
+  pub chain-falls : (e g : ℕ) (h : Row) (hs : List Row) → Linked r rs e g (h ∷ hs) → All (λ x. heavier h x ≡ true) hs
   chain-falls e g h hs k =
       all-map {Q = λ x. heavier h x ≡ true}
       (λ x (u : (In x rs) × (tight-after r (plan r) (h .due) < x .due) × (x .due ≤ g)). falls x (u .0)
-      (omega (arith, u .1, end-of h (k .0 .inside) .from)) (u .2)) hs
+      (omega (arith, u .1, link-end h (k .0 .inside) .from)) (u .2)) hs
       (chain-after (tight-after r (plan r) (h .due)) g hs (k .1))
     where
       falls : (x : Row) → In x rs → h .due < x .due → x .due ≤ g → heavier h x ≡ true
@@ -178,7 +178,7 @@ module _ (r : Round) (f : Fine r) (rs : List Row) (c : Rows r rs) where
         ))
       ]
 
-  pub chain-over : (e g : ℕ) (ks ls : List Row) (h m : Row) → Chain r rs e g (ks ++ (h ∷ ls)) → heavier h m ≡ true → All (λ x. heavier x m ≡ true) ks
+  pub chain-over : (e g : ℕ) (ks ls : List Row) (h m : Row) → Linked r rs e g (ks ++ (h ∷ ls)) → heavier h m ≡ true → All (λ x. heavier x m ≡ true) ks
   chain-over e g [] ls h m k q = tt
   chain-over e g (x ∷ ks) ls h m k q = (
     over-heavier x m (over-over x h m (heavier-yes x h (all-in (λ y. heavier x y ≡ true) h (ks ++ (h ∷ ls)) (chain-falls e g x (ks ++ (h ∷ ls)) k)
@@ -220,7 +220,7 @@ module _ (r : Round) (f : Fine r) (rs : List Row) (c : Rows r rs) where
   -- THERE IS A CHAIN
   pub some-chain : (s : Row) → In s (r .rows) → in-plan s rs ≡ false → (n e : ℕ) → r .slot ≤ e → Tight-in r (plan r) e →
       tight-after r (plan r) (s .due) ≤ e + n →
-      (hs : List Row) × Chain r rs e (tight-after r (plan r) (s .due)) hs
+      (hs : List Row) × Linked r rs e (tight-after r (plan r) (s .due)) hs
   some-chain s i k zero e l t h = ([], omega arith)
   some-chain s i k (suc n) e l t h =
       let g = tight-after r (plan r) (s .due) in
@@ -229,7 +229,7 @@ module _ (r : Round) (f : Fine r) (rs : List Row) (c : Rows r rs) where
         | inl a ↦
             let y = stretch-row s i k e g l (a .1) (omega arith) t (u .tight) in
             let z = some-heaviest e g (y .0) (y .1) (y .2) (y .3) in
-            let m = end-of (z .0) (z .1 .inside) in
+            let m = link-end (z .0) (z .1 .inside) in
             let q = some-chain s i k n (tight-after r (plan r) (z .0 .due)) (omega (arith, l, z .1 .after, m .from)) (m .tight)
             (omega (arith, h, z .1 .after, m .from)) in
             (z .0 ∷ q .0, (z .1, q .1))
@@ -237,11 +237,11 @@ module _ (r : Round) (f : Fine r) (rs : List Row) (c : Rows r rs) where
       ]
 
   -- HOW MANY SHIFTS
-  pub chain-count : (e g : ℕ) (hs : List Row) → e ≤ g → Tight-in r (plan r) g → Chain r rs e g hs → num 0 (suc e) rs + length hs ≤ num 0 (suc g) rs
+  pub chain-count : (e g : ℕ) (hs : List Row) → e ≤ g → Tight-in r (plan r) g → Linked r rs e g hs → num 0 (suc e) rs + length hs ≤ num 0 (suc g) rs
   chain-count e g [] l t k = omega (arith, num-mono 0 (suc e) (suc g) (omega arith) rs)
   chain-count e g (h ∷ hs) l t k =
       let m = tight-after r (plan r) (h .due) in
-      let n = end-of h (k .0 .inside) in
+      let n = link-end h (k .0 .inside) in
       omega (
         arith,
         chain-count m g hs (next-by r (plan r) (h .due) m g n (k .0 .by) t) t (k .1),

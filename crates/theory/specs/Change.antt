@@ -16,34 +16,34 @@ use Rattle.theory.specs.Full.{Rising, blanks, pool, outside}
 use Rattle.theory.specs.Marks.{box, box?}
 
 -- the first row with its ticket
-abbrev pub First : Row → List Row → Type 0
-First x [] = ⊥
-First x (y ∷ ys) = (x ≡ y) ⊎ ((y .ticket ≡ x .ticket → ⊥) × First x ys)
+abbrev pub First-of-ticket : Row → List Row → Type 0
+First-of-ticket x [] = ⊥
+First-of-ticket x (y ∷ ys) = (x ≡ y) ⊎ ((y .ticket ≡ x .ticket → ⊥) × First-of-ticket x ys)
 
-pub changed-sum : (μ : Row → ℕ) (x y : Row) (xs : List Row) → First x xs → sum μ (changed (x .ticket) y xs) + μ x ≡ sum μ xs + μ y
+pub changed-sum : (μ : Row → ℕ) (x y : Row) (xs : List Row) → First-of-ticket x xs → sum μ (changed (x .ticket) y xs) + μ x ≡ sum μ xs + μ y
 unfolding changed
 changed-sum μ x y [] f = absurd f
 changed-sum μ x y (z ∷ zs) (inl e) =
     rw (eq-eqb (z .ticket) (x .ticket) (ap (λ (a : Row). a .ticket) (sym e))) (omega (arith, ap μ e))
 changed-sum μ x y (z ∷ zs) (inr h) = rw (ne-eqb (z .ticket) (x .ticket) (h .0)) (omega (arith, changed-sum μ x y zs (h .1)))
 
-pub without-sum : (μ : Row → ℕ) (x : Row) (xs : List Row) → First x xs → sum μ (without (x .ticket) xs) + μ x ≡ sum μ xs
+pub without-sum : (μ : Row → ℕ) (x : Row) (xs : List Row) → First-of-ticket x xs → sum μ (without (x .ticket) xs) + μ x ≡ sum μ xs
 unfolding without
 without-sum μ x [] f = absurd f
 without-sum μ x (z ∷ zs) (inl e) =
     rw (eq-eqb (z .ticket) (x .ticket) (ap (λ (a : Row). a .ticket) (sym e))) (omega (arith, ap μ e))
 without-sum μ x (z ∷ zs) (inr h) = rw (ne-eqb (z .ticket) (x .ticket) (h .0)) (omega (arith, without-sum μ x zs (h .1)))
 
-pub changed-first : (k : ℕ) (y z : Row) → (k ≡ z .ticket → ⊥) → y .ticket ≡ k → (xs : List Row) → First z xs → First z (changed k y xs)
+pub changed-first : (k : ℕ) (y z : Row) → (k ≡ z .ticket → ⊥) → y .ticket ≡ k → (xs : List Row) → First-of-ticket z xs → First-of-ticket z (changed k y xs)
 unfolding changed
 changed-first k y z n q [] f = absurd f
 changed-first k y z n q (x ∷ xs) f =
     elim (eqb? (x .ticket) k) [
-      | inl h ↦ rw (h .0) (elim f as (λ _. First z (y ∷ xs)) [
+      | inl h ↦ rw (h .0) (elim f as (λ _. First-of-ticket z (y ∷ xs)) [
         | inl e ↦ absurd (n (sym (h .1) ∙ ap (λ (a : Row). a .ticket) (sym e)))
         | inr g ↦ inr (λ c. n (sym q ∙ c), g .1)
       ])
-      | inr h ↦ rw (h .0) (elim f as (λ _. First z (x ∷ changed k y xs)) [
+      | inr h ↦ rw (h .0) (elim f as (λ _. First-of-ticket z (x ∷ changed k y xs)) [
         | inl e ↦ inl e
         | inr g ↦ inr (g .0, changed-first k y z n q xs (g .1))
       ])
@@ -55,7 +55,7 @@ rising-above a b x [] s i = absurd i
 rising-above a b x (y ∷ ys) s (inl e) = omega (arith, s .0, ap (λ (a : Row). a .ticket) e)
 rising-above a b x (y ∷ ys) s (inr i) = omega (arith, s .0, rising-above (suc (y .ticket)) b x ys (s .1) i)
 
-pub rising-first : (a b : ℕ) (x : Row) (xs : List Row) → Rising a b xs → In x xs → First x xs
+pub rising-first : (a b : ℕ) (x : Row) (xs : List Row) → Rising a b xs → In x xs → First-of-ticket x xs
 rising-first a b x [] s i = absurd i
 rising-first a b x (y ∷ ys) s (inl e) = inl e
 rising-first a b x (y ∷ ys) s (inr i) =

@@ -107,22 +107,22 @@ full? t e =
     ]
 
 -- THE GROUNDS, of the round in an accepted table
-abbrev pub Of : List ℕ → Type 1
-Of t = Ground (table-refusal t ≡ 0)
+abbrev pub Ground-of : List ℕ → Type 1
+Ground-of t = Ground (table-refusal t ≡ 0)
 
-abbrev pub past : (t : List ℕ) → Of t
+abbrev pub past : (t : List ℕ) → Ground-of t
 past t = ground 5 (over (round-in t .slot) (round-in t .last) .holds) (Past t) (λ e. past? t)
 
-abbrev pub bad-slot : (s : ℕ) (t : List ℕ) → Of t
+abbrev pub bad-slot : (s : ℕ) (t : List ℕ) → Ground-of t
 bad-slot s t = ground 7 (not-ahead (round-in t .slot) (round-in t .last) s .holds) (Slot-bad s t) (λ e. slot? s t)
 
-abbrev pub bad-weight : (w : ℕ) (t : List ℕ) → Of t
+abbrev pub bad-weight : (w : ℕ) (t : List ℕ) → Ground-of t
 bad-weight w t = ground 6 (eqb w 0 || ltb most-weight w) (Weight-bad w) (λ e. weight? w)
 
-abbrev pub no-ticket : (t : List ℕ) → Of t
+abbrev pub no-ticket : (t : List ℕ) → Ground-of t
 no-ticket t = ground 8 (eqb (round-in t .next) ticket-limit) (next-in t ≡ ticket-limit) (λ e. last-ticket? t)
 
-abbrev pub no-row-free : (t : List ℕ) → Of t
+abbrev pub no-row-free : (t : List ℕ) → Ground-of t
 no-row-free t = ground 9 (leb (round-in t .room) (length (round-in t .rows))) (used-in t ≡ rows-of t) (full? t)
 
 -- THE CALLS

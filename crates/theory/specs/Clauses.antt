@@ -84,10 +84,10 @@ rows-count zero bs = refl
 rows-count (suc k) bs = ap suc (rows-count k (drop row-size bs))
 
 -- the whole, of a length of a head and rows
-abbrev pub Long : List ℕ → Type 0
-Long t = (length t ≡ head-size + row-size * rows-of t) × (1 ≤ rows-of t) × (rows-of t ≤ most-rows)
+abbrev pub Table-long : List ℕ → Type 0
+Table-long t = (length t ≡ head-size + row-size * rows-of t) × (1 ≤ rows-of t) × (rows-of t ≤ most-rows)
 
-pub length-long : (t : List ℕ) → length-good (length t) ≡ true → Long t
+pub length-long : (t : List ℕ) → length-good (length t) ≡ true → Table-long t
 unfolding length-good rows-of
 length-long t e =
     let a = and-true (leb (head-size + row-size) (length t)) (eqb ((length t - head-size) % row-size) 0 && leb ((length t - head-size) / row-size) most-rows) e in
@@ -96,7 +96,7 @@ length-long t e =
     let m = eqb-true ((length t - head-size) % row-size) 0 (b .0) in
     (omega arith, omega arith, leb-true ((length t - head-size) / row-size) most-rows (b .1))
 
-pub rest-bytes-are : (t : List ℕ) → Long t → Clauses t →
+pub rest-bytes-are : (t : List ℕ) → Table-long t → Clauses t →
     drop (head-size + row-size * used-in t) t ≡ replicate (row-size * (rows-of t - used-in t)) 0
 rest-bytes-are t h c =
     let m = head-size + row-size * used-in t in
@@ -116,7 +116,7 @@ head-bytes-are t h l z =
     ∙ ap (λ (cs : List ℕ). put head-widths vs ++ cs) (zeros-bytes head-zeros-at n t z l)
     ∙ sym (append-assoc (put head-widths vs) (replicate n 0) (drop head-size t))
 
-pub bytes-are : (t : List ℕ) → Bytes t → Long t → Clauses t → table (round-in t) ≡ t
+pub bytes-are : (t : List ℕ) → Bytes t → Table-long t → Clauses t → table (round-in t) ≡ t
 unfolding table round-in round
 bytes-are t h g c =
     let u = used-in t in
@@ -129,7 +129,7 @@ bytes-are t h g c =
     ∙ ap (λ (cs : List ℕ). rows-bytes xs ++ cs) (drop-drop (row-size * u) head-size t ∙ rest-bytes-are t g c))))
 
 -- every clause holds: accepted
-pub clauses-good : (t : List ℕ) → Long t → Clauses t → round-good (round-in t) ≡ true
+pub clauses-good : (t : List ℕ) → Table-long t → Clauses t → round-good (round-in t) ≡ true
 unfolding round-in round
 clauses-good t h c =
     let q = rows-stand (round-in t) (used-in t) 0 (drop head-size t) (c .next-least) (c .rows) in

@@ -21,8 +21,8 @@ use Rattle.theory.specs.Full.{Fine, Rising}
 use Rattle.theory.specs.Change.{rising-changed, rising-above}
 use Rattle.theory.specs.Back.{length-row, length-rows}
 use Rattle.theory.specs.Unique.{rising-other}
-use Rattle.theory.specs.Members.{Rows}
-use Rattle.theory.specs.Chain.{Chain, moves}
+use Rattle.theory.specs.Members.{Rows-of-plan}
+use Rattle.theory.specs.Chain.{Linked, moves}
 use Rattle.theory.specs.Leaping.{rising-moves, leapt-row, leapt-blank}
 
 -- THE ROWS KEPT: those due from a slot on, but for one ticket; 0 is no row's
@@ -95,7 +95,7 @@ length-closed t k (x ∷ xs) = elim (either (stays t k x)) [
 abbrev pub after-slot : Round → List Row → Round
 after-slot r xs = going-on (suc (r .slot)) (r .next) xs r
 
-module _ (r : Round) (f : Fine r) (rs : List Row) (c : Rows r rs) where
+module _ (r : Round) (f : Fine r) (rs : List Row) (c : Rows-of-plan r rs) where
   pub sent-none : r .rows ≡ [] → (p : Row) → best r (plan r) ≡ p → p .due ≤ first-end r (plan r) → sent r ≡ after-slot r []
   unfolding sent without still-due
   sent-none e p b h = rw (b, le-leb (p .due) (first-end r (plan r)) h, e)
@@ -106,7 +106,7 @@ module _ (r : Round) (f : Fine r) (rs : List Row) (c : Rows r rs) where
 
   -- a leap onto a row
   pub sent-row : (p s : Row) (hs : List Row) → best r (plan r) ≡ p → first-end r (plan r) < p .due → substitute r (plan r) p ≡ s → In s (r .rows) →
-      Chain r rs (tight-after r (plan r) (p .due)) (tight-after r (plan r) (s .due)) hs →
+      Linked r rs (tight-after r (plan r) (p .due)) (tight-after r (plan r) (s .due)) hs →
       sent r ≡ after-slot r (closed (suc (r .slot)) (p .ticket)
       (changed (s .ticket) (set-to (s .due) (mark r (s .due)) s) (moves r (tight-after r (plan r) (p .due)) hs (r .rows))))
   unfolding sent row

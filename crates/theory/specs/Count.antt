@@ -17,7 +17,7 @@ use Rattle.theory.specs.Feas.{below, num, below-yes, below-late, below-1
 use Rattle.theory.specs.Bounds.{Row-fine}
 use Rattle.theory.specs.Full.{Fine, num-length}
 use Rattle.theory.specs.Same.{of-plan, of-yes, of-chosen, row-ticket, planned-same, in-plan?}
-use Rattle.theory.specs.Members.{Rows, of-rows-fine, in-plan-is}
+use Rattle.theory.specs.Members.{Rows-of-plan, of-rows-fine, in-plan-is}
 use Rattle.theory.specs.Near.{Near, near-all, near-edge, near-out}
 
 -- BUCKETS: due slots from t on, the last bucket for all further ones
@@ -209,7 +209,7 @@ module _ (r : Round) (f : Fine r) (top q z : ℕ) (span : r .slot + top ≤ r .l
       }
 
   -- counts of the plan's rows, up to where it ends
-  pub kept-counts : (rs : List Row) → Rows r rs → (s : ℕ) → s ≤ z → sum (under (r .slot) top s) rs ≡ num 0 (r .slot + s) rs
+  pub kept-counts : (rs : List Row) → Rows-of-plan r rs → (s : ℕ) → s ≤ z → sum (under (r .slot) top s) rs ≡ num 0 (r .slot + s) rs
   kept-counts rs c s h = elim (leb? s top) [
     | inl a ↦ counts-below (r .slot) top s rs (a .1) (all-of-in (λ x. r .slot ≤ x .due) rs (λ x i. of-rows-fine r f rs c x i .due-from))
     | inr a ↦
@@ -233,7 +233,7 @@ module _ (r : Round) (f : Fine r) (top q z : ℕ) (span : r .slot + top ≤ r .l
   sweep-none e = near-all r (r .slot + z) sweep-near (omega (arith, sweep-left, e))
 
   -- are the rows outside the plan
-  pub sweep-out : (rs : List Row) → Rows r rs → length rs + q ≡ length (r .rows)
+  pub sweep-out : (rs : List Row) → Rows-of-plan r rs → length rs + q ≡ length (r .rows)
   unfolding planned
   sweep-out rs c =
       let e = r .slot + z in

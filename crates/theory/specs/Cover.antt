@@ -14,10 +14,10 @@ use Rattle.theory.specs.Feas.{num}
 use Rattle.theory.specs.Bounds.{Row-fine}
 use Rattle.theory.specs.Full.{Fine, plan-feas, plan-full}
 use Rattle.theory.specs.Marks.{Tight-in, next, Start, start}
-use Rattle.theory.specs.Members.{Rows, of-rows-fine, found-member, in-plan-is}
+use Rattle.theory.specs.Members.{Rows-of-plan, of-rows-fine, found-member, in-plan-is}
 use Rattle.theory.specs.Top.{lightest, Left-from, outside-top}
 use Rattle.theory.specs.Substitute.{later-is, later?, Later-sub}
-use Rattle.theory.specs.Best.{Beaten, Goes, best-goes, best-row}
+use Rattle.theory.specs.Best.{Beaten, Is-best, best-goes, best-row}
 use Rattle.theory.specs.Chain.{some-chain}
 use Rattle.theory.specs.Near.{Near, near-out, near-after, near-tight-is, near-is-tight, rows-feas}
 use Rattle.theory.specs.Count.{Sweep, sweep-start, sweep-more, sweep-idle}
@@ -36,11 +36,11 @@ some-sweep F h m (suc n) s e =
       | inr a ↦ (0, s, sweep-idle F m s (w .0) (w .1) (F (suc s) - F s) (w .2) g (omega (arith, a .1)))
     ]
 
-module _ (r : Round) (f : Fine r) (o : r .slot ≤ r .last) (rs : List Row) (c : Rows r rs) where
+module _ (r : Round) (f : Fine r) (o : r .slot ≤ r .last) (rs : List Row) (c : Rows-of-plan r rs) where
   -- a leader
   pub some-lead : (x : Row) → In x (r .rows) → Leads r rs (r .slot) (best r (plan r))
   some-lead x i =
-      let g : Goes r (best r (plan r)) = best-goes r f o in
+      let g : Is-best r (best r (plan r)) = best-goes r f o in
       let j = best-row r f o rs c x i in
       record {
         inside = j;

@@ -89,8 +89,8 @@ bytes-zeros a n bs cs e i h k =
     ∙ getD-replicate n (i - a) 0 0 q
 
 -- as a test of a part
-abbrev pub Part : (from end : ℕ) → (whole part : List ℕ) → Type 0
-Part a e bs cs = (i : ℕ) → a + i < e → getD cs i 0 ≡ getD bs (a + i) 0
+abbrev pub Is-part : (from end : ℕ) → (whole part : List ℕ) → Type 0
+Is-part a e bs cs = (i : ℕ) → a + i < e → getD cs i 0 ≡ getD bs (a + i) 0
 
 pub zeros-at : (cs : List ℕ) → zeros cs ≡ true → (i : ℕ) → getD cs i 0 ≡ 0
 unfolding zeros
@@ -104,12 +104,12 @@ zeros-all [] z = refl
 zeros-all (c ∷ cs) z =
     rw (eq-eqb c 0 (z 0 (omega arith) (omega arith))) (zeros-all cs (λ i h k. z (suc i) (omega arith) (omega arith)))
 
-pub test-zeros : (a e : ℕ) (bs cs : List ℕ) → Part a e bs cs → zeros cs ≡ true → Zeros a e bs
+pub test-zeros : (a e : ℕ) (bs cs : List ℕ) → Is-part a e bs cs → zeros cs ≡ true → Zeros a e bs
 test-zeros a e bs cs p z i h k =
     let q : a + (i - a) ≡ i = omega arith in
     ap (λ (j : ℕ). getD bs j 0) (sym q) ∙ sym (p (i - a) (omega arith)) ∙ zeros-at cs z (i - a)
 
-pub zeros-test : (a e : ℕ) (bs cs : List ℕ) → Part a e bs cs → length cs + a ≤ e → Zeros a e bs → zeros cs ≡ true
+pub zeros-test : (a e : ℕ) (bs cs : List ℕ) → Is-part a e bs cs → length cs + a ≤ e → Zeros a e bs → zeros cs ≡ true
 zeros-test a e bs cs p l z = zeros-all cs (λ i h k. p i (omega arith) ∙ z (a + i) (omega arith) (omega arith))
 
 -- so many bytes from a place on
@@ -120,7 +120,7 @@ taken-zeros a n bs =
       zeros-test a (a + n) bs ws part (omega (arith, length-take n (drop a bs))),
     )
   where
-    part : Part a (a + n) bs (take n (drop a bs))
+    part : Is-part a (a + n) bs (take n (drop a bs))
     part i h = getD-take n (drop a bs) i 0 (omega arith) ∙ getD-drop a bs i 0
 
 -- A WORD is 0 exactly when all its bytes are, however many it has

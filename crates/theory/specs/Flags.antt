@@ -10,7 +10,7 @@ use Rattle.rules.specs.Rows.{Row, Round, chosen}
 use Rattle.rules.specs.Plan.{feasible}
 use Rattle.theory.specs.Full.{Fine}
 use Rattle.theory.specs.Unique.{Certified}
-use Rattle.theory.specs.Members.{Rows, certified-found}
+use Rattle.theory.specs.Members.{Rows-of-plan, certified-found}
 use Rattle.theory.specs.Near.{all-certified}
 
 unfoldable pub raised : List ℕ → List Bool
@@ -26,7 +26,7 @@ pub record Chosen (r : Round) (fs : List ℕ) : Type 0 where
 abbrev pub with-flag : Round → List ℕ → List Row
 with-flag r fs = chosen (raised fs) (r .rows)
 
-pub chosen-rows : (r : Round) → Fine r → (fs : List ℕ) → Chosen r fs → Rows r (with-flag r fs)
+pub chosen-rows : (r : Round) → Fine r → (fs : List ℕ) → Chosen r fs → Rows-of-plan r (with-flag r fs)
 chosen-rows r f fs c = certified-found r f (raised fs) (c .certified)
 
 pub length-raised : (fs : List ℕ) → length (raised fs) ≡ length fs

@@ -74,15 +74,15 @@ module _ (r : Round) (f : Fine r) (fs : List Bool) (w : Certified r fs) (small :
   abbrev pub key-at : ℕ → ℕ
   key-at i = key (at i .weight) (at i .due) i
 
-  abbrev pub found : List Row
-  found = chosen fs (r .rows)
+  abbrev pub found-rows : List Row
+  found-rows = chosen fs (r .rows)
 
   pub at-fine : (i : ℕ) → i < length (r .rows) → Row-fine r (at i)
   at-fine i h = all-in (Row-fine r) (at i) (r .rows) (f .fine) (getD-in (r .rows) z i h)
 
-  pub at-flag : (i : ℕ) → i < length (r .rows) → in-plan (at i) found ≡ getD fs i false
+  pub at-flag : (i : ℕ) → i < length (r .rows) → in-plan (at i) found-rows ≡ getD fs i false
   at-flag i h =
-      flag-at found (r .rows) z i h ∙ ap (λ (bs : List Bool). getD bs i false) (flags-chosen 1 (r .next) fs (r .rows) (f .rising) (w .long))
+      flag-at found-rows (r .rows) z i h ∙ ap (λ (bs : List Bool). getD bs i false) (flags-chosen 1 (r .next) fs (r .rows) (f .rising) (w .long))
 
   pub heavier-at : (i j : ℕ) → i < length (r .rows) → j < length (r .rows) → heavier (at i) (at j) ≡ ltb (key-at j) (key-at i)
   heavier-at i j h k =
@@ -97,7 +97,7 @@ module _ (r : Round) (f : Fine r) (fs : List Bool) (w : Certified r fs) (small :
       ((j : ℕ) → j < length (r .rows) → getD fs j false ≡ true → at j .due ≤ first-end r (plan r) → key-at i ≤ key-at j) →
       substitute r (plan r) p ≡ at i
   first-at o p a d i h b k m =
-      first-row r f found (certified-found r f fs w) o p a d (at i) (flag-in z fs (r .rows) i h b) k
+      first-row r f found-rows (certified-found r f fs w) o p a d (at i) (flag-in z fs (r .rows) i h b) k
       (each-chosen (λ y. y .due ≤ first-end r (plan r) → heavier (at i) y ≡ false) z fs (r .rows) (λ j l n u. not-heavier-at i j h l (m j l n u)))
 
   -- a later row's substitute, by the greatest key of the rows left out
@@ -106,13 +106,13 @@ module _ (r : Round) (f : Fine r) (fs : List Bool) (w : Certified r fs) (small :
       ((j : ℕ) → j < length (r .rows) → getD fs j false ≡ false → segment-start r (plan r) (p .due) ≤ at j .due → key-at j ≤ key-at i) →
       substitute r (plan r) p ≡ at i
   later-at p a i h b k m =
-      later-row r f found (certified-found r f fs w) p a (at i) (getD-in (r .rows) z i h) (at-flag i h ∙ b) k
-      (each-row (λ y. in-plan y found ≡ false → segment-start r (plan r) (p .due) ≤ y .due → heavier y (at i) ≡ false) z (r .rows)
+      later-row r f found-rows (certified-found r f fs w) p a (at i) (getD-in (r .rows) z i h) (at-flag i h ∙ b) k
+      (each-row (λ y. in-plan y found-rows ≡ false → segment-start r (plan r) (p .due) ≤ y .due → heavier y (at i) ≡ false) z (r .rows)
       (λ j l n u. not-heavier-at j i l h (m j l (sym (at-flag j l) ∙ n) u)))
 
   pub later-none-at : (p : Row) → first-end r (plan r) < p .due →
       ((j : ℕ) → j < length (r .rows) → getD fs j false ≡ false → at j .due < segment-start r (plan r) (p .due)) →
       substitute r (plan r) p ≡ blank (segment-start r (plan r) (p .due))
   later-none-at p a m =
-      later-none r f found (certified-found r f fs w) p a
-      (each-row (λ y. in-plan y found ≡ false → y .due < segment-start r (plan r) (p .due)) z (r .rows) (λ j l n. m j l (sym (at-flag j l) ∙ n)))
+      later-none r f found-rows (certified-found r f fs w) p a
+      (each-row (λ y. in-plan y found-rows ≡ false → y .due < segment-start r (plan r) (p .due)) z (r .rows) (λ j l n. m j l (sym (at-flag j l) ∙ n)))

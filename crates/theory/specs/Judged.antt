@@ -14,7 +14,7 @@ use Rattle.rules.specs.Table.{field, every, front-row, tail-in, row-tests, head
 use Rattle.rules.specs.Conditions.{Bytes, row-at, slot-in, last-in, next-in, used-in}
 use Rattle.theory.specs.Tests.{either, and-true}
 use Rattle.theory.specs.Judge.{zeros, row-judged, rows-judged, head-judged, judged}
-use Rattle.theory.specs.Fields.{Part, field-take, test-zeros, zeros-test, taken-zeros}
+use Rattle.theory.specs.Fields.{Is-part, field-take, test-zeros, zeros-test, taken-zeros}
 use Rattle.theory.specs.Bounds.{tests-head, head-tested, Row-right, tests-right, right-tests}
 use Rattle.theory.specs.Clauses.{Rows-right, Clauses, length-long, clauses-accepted, accepted-length, accepted-clauses, refusal-three}
 
@@ -30,7 +30,7 @@ own-row bs i =
     own-tail : tail-in (take row-size bs) ≡ tail-in bs
     own-tail i = record { kind = field-take kind-at kind-bytes row-size bs (omega arith) i }
 
-pub own-part : (bs : List ℕ) → Part row-zeros-at row-size bs (drop row-zeros-at (take row-size bs))
+pub own-part : (bs : List ℕ) → Is-part row-zeros-at row-size bs (drop row-zeros-at (take row-size bs))
 own-part bs i h = getD-drop row-zeros-at (take row-size bs) i 0 ∙ getD-take row-size bs (row-zeros-at + i) 0 h
 
 pub row-true : (s l n b : ℕ) (xs : List ℕ) → row-judged s l n b xs ≡ true → Row-right s l n b (front-row xs) × (zeros (drop row-zeros-at xs) ≡ true)

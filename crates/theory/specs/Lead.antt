@@ -10,7 +10,7 @@ use Rattle.rules.specs.Plan.{plan, best}
 use Rattle.theory.specs.Tests.{ltb?}
 use Rattle.theory.specs.Full.{Fine}
 use Rattle.theory.specs.Score.{score-of}
-use Rattle.theory.specs.Members.{Rows, of-rows-fine}
+use Rattle.theory.specs.Members.{Rows-of-plan, of-rows-fine}
 use Rattle.theory.specs.Best.{best-is, earlier-beats, beats-trans}
 use Rattle.theory.specs.Near.{Near, far-beats}
 use Rattle.theory.specs.Segments.{Segment, segment-beats}
@@ -32,7 +32,7 @@ pub record Champion (r : Round) (rs : List Row) (b d : ℕ) (m : Row) : Type 0 w
   pub before : m .due < d
   pub ahead : (q : Row) → In q rs → b ≤ q .due → q .due < d → Behind r q m
 
-module _ (r : Round) (f : Fine r) (o : r .slot ≤ r .last) (rs : List Row) (c : Rows r rs) where
+module _ (r : Round) (f : Fine r) (o : r .slot ≤ r .last) (rs : List Row) (c : Rows-of-plan r rs) where
   -- no row is due from d on
   pub lead-first : (b d : ℕ) (m : Row) → ((q : Row) → In q rs → q .due < d) → Champion r rs b d m → Leads r rs b m
   lead-first b d m n h = record { inside = h .inside; from = h .from; ahead = λ q i a. h .ahead q i a (n q i) }

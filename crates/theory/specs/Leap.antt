@@ -17,9 +17,9 @@ use Rattle.theory.specs.All.{blank-weight, blank-ticket, all-map, all-in
 use Rattle.theory.specs.Feas.{num}
 use Rattle.theory.specs.Bounds.{Row-fine, In-bounds}
 use Rattle.theory.specs.Full.{plan-member, Fine, Rising, outside, plan-feas, plan-edge, plan-full, plan-due}
-use Rattle.theory.specs.Marks.{Tight-in, Next, next, Start, start, box, box?, box-yes, filled, Marked, mark-above, mark-all, mark-limit}
-use Rattle.theory.specs.Change.{First, changed-sum, without-sum, changed-first, rising-above, rising-first, rising-same, in-sum, not-in-plan, row-outside, without-none, changed-none, all-changed, all-without, rising-changed, rising-without}
-use Rattle.theory.specs.Send.{outside-in, Between, between-finds, between-count, next-by, point, point?, point-yes}
+use Rattle.theory.specs.Marks.{Tight-in, Next-tight, next, Start, start, box, box?, box-yes, rows-fill, Mark-at-least, mark-above, mark-all, mark-limit}
+use Rattle.theory.specs.Change.{First-of-ticket, changed-sum, without-sum, changed-first, rising-above, rising-first, rising-same, in-sum, not-in-plan, row-outside, without-none, changed-none, all-changed, all-without, rising-changed, rising-without}
+use Rattle.theory.specs.Send.{outside-in, Member-between, between-finds, between-count, next-by, point, point?, point-yes}
 
 abbrev pub Row-ok : Round → Row → Type 0
 Row-ok r x = In-bounds 0 (r .last) x
@@ -31,25 +31,25 @@ abbrev pub Heavy-to : Round → ℕ → Type 0
 Heavy-to r g = All (λ y. y .due ≤ g → 1 ≤ y .weight) (plan r)
 
 -- one shift: of h to e; e′ is the next end
-pub record Shift (r : Round) (e g : ℕ) (h : Row) (e′ : ℕ) : Type 0 where
+pub record Shifts-to (r : Round) (e g : ℕ) (h : Row) (e′ : ℕ) : Type 0 where
   pub low : r .slot ≤ e
   pub inside : In h (plan r)
   pub after : e < h .due
   pub by : h .due ≤ g
   pub heavy : 1 ≤ h .weight
-  pub next : Next r (plan r) (h .due) e′
+  pub next : Next-tight r (plan r) (h .due) e′
   pub end : e′ ≤ g
 
-abbrev pub moved : Round → ℕ → Row → List Row → List Row
-moved r e h xs = changed (h .ticket) (row (h .ticket) e (max (h .weight) (mark-in r (plan r) e)) (h .tail)) xs
+abbrev pub moved-rows : Round → ℕ → Row → List Row → List Row
+moved-rows r e h xs = changed (h .ticket) (row (h .ticket) e (max (h .weight) (mark-in r (plan r) e)) (h .tail)) xs
 
 pub shift : (r : Round) → Fine r → (e g : ℕ) → r .slot ≤ e → e < g → g ≤ r .last → Tight-in r (plan r) e → Tight-in r (plan r) g → Heavy-to r g →
-    (let h = heaviest-between e g (plan r) (blank (suc g)) in Shift r e g h (tight-after r (plan r) (h .due)))
+    (let h = heaviest-between e g (plan r) (blank (suc g)) in Shifts-to r e g h (tight-after r (plan r) (h .due)))
 unfolding blank
 shift r f e g l k b t u hv =
     let h = heaviest-between e g (plan r) (blank (suc g)) in
     let y = between-count (suc e) (suc g) (plan r) (omega arith) in
-    let w : Between e g (plan r) h =
+    let w : Member-between e g (plan r) h =
     between-finds e g (plan r) (plan r) (blank (suc g)) (omega arith) (all-of-in (λ x. In x (plan r)) (plan r) (λ x i. i)) hv (y .0) (y .1)
     (y .2) (omega (arith, y .3)) in
     let n = next r (plan r) (h .due) (omega (arith, w .2)) (plan-full r f) in
@@ -65,42 +65,42 @@ shift r f e g l k b t u hv =
 
 -- what every shift keeps, all shifts keep
 pub shift-ind : (r : Round) → Fine r → (g : ℕ) → g ≤ r .last → Tight-in r (plan r) g → Heavy-to r g → (Q : ℕ → List Row → Type 0) →
-    ((e : ℕ) (xs : List Row) (h : Row) (e′ : ℕ) → Shift r e g h e′ → Q e xs → Q e′ (moved r e h xs)) →
+    ((e : ℕ) (xs : List Row) (h : Row) (e′ : ℕ) → Shifts-to r e g h e′ → Q e xs → Q e′ (moved-rows r e h xs)) →
     (n e : ℕ) (xs : List Row) → r .slot ≤ e → e ≤ g → g ≤ e + n → Tight-in r (plan r) e → Q e xs → Q g (shifted n r (plan r) e g xs)
 unfolding shifted
 shift-ind r f g b u hv Q s zero e xs l k c t q = let z : e ≡ g = omega arith in rw z at q
 shift-ind r f g b u hv Q s (suc n) e xs l k c t q =
     both-ways (Q g) (ltb e g)
     (shifted n r (plan r) (tight-after r (plan r) (heaviest-between e g (plan r) (blank (suc g)) .due)) g
-    (moved r e (heaviest-between e g (plan r) (blank (suc g))) xs)) xs
+    (moved-rows r e (heaviest-between e g (plan r) (blank (suc g))) xs)) xs
     (λ i.
     let h = heaviest-between e g (plan r) (blank (suc g)) in
     let e′ = tight-after r (plan r) (h .due) in
     let p = shift r f e g l (ltb-true e g i) b t u hv in
-    shift-ind r f g b u hv Q s n e′ (moved r e h xs) (omega (arith, p .low, p .after, p .next .from)) (p .end)
+    shift-ind r f g b u hv Q s n e′ (moved-rows r e h xs) (omega (arith, p .low, p .after, p .next .from)) (p .end)
     (omega (arith, p .after, p .next .from)) (p .next .tight) (s e xs h e′ p q))
     (λ i. let z : e ≡ g = omega (arith, ltb-false e g i) in rw z at q)
 
 -- what the shifts from a keep
-pub record Kept (r : Round) (a e : ℕ) (xs : List Row) : Type 0 where
+pub record Filled-so-far (r : Round) (a e : ℕ) (xs : List Row) : Type 0 where
   pub past : a ≤ e
-  pub ahead : (z : Row) → In z (plan r) → In z (r .rows) → e < z .due → First z xs
-  pub others : (z : Row) → In z (r .rows) → ((h : Row) → In h (plan r) → a < h .due → h .ticket ≡ z .ticket → ⊥) → First z xs
+  pub ahead : (z : Row) → In z (plan r) → In z (r .rows) → e < z .due → First-of-ticket z xs
+  pub others : (z : Row) → In z (r .rows) → ((h : Row) → In h (plan r) → a < h .due → h .ticket ≡ z .ticket → ⊥) → First-of-ticket z xs
   pub okay : All (Row-ok r) xs
   pub rising : Rising 1 (r .next) xs
-  pub sums : (w d s v : ℕ) → Marked r w d s → v ≤ suc s →
+  pub sums : (w d s v : ℕ) → Mark-at-least r w d s → v ≤ suc s →
       sum (box w v (suc s)) (r .rows) + point v (suc s) a ≤ sum (box w v (suc s)) xs + point v (suc s) e
 
 pub member-row : (r : Round) (x : Row) → In x (plan r) → 1 ≤ x .weight → In x (r .rows)
 member-row r x i h = elim (plan-member r x i) [ inl a ↦ a | inr a ↦ absurd (omega (arith, blank-weight x (a .0))) ]
 
 -- the mark of a slot up to which a heavy stretch reaches
-pub mark-in-reach : (r : Round) → Fine r → (w d s u : ℕ) → Marked r w d s → r .slot ≤ u → u ≤ s → w ≤ mark-in r (plan r) u
+pub mark-in-reach : (r : Round) → Fine r → (w d s u : ℕ) → Mark-at-least r w d s → r .slot ≤ u → u ≤ s → w ≤ mark-in r (plan r) u
 mark-in-reach r f w d s u m h k =
     mark-above r (plan r) (plan-feas r f) (plan-full r f) w u (suc s) (m .limit) h (omega arith) (omega (arith, m .next .by)) (m .full)
 
-pub shift-sum : (r : Round) → Fine r → (e g : ℕ) (h : Row) (e′ : ℕ) → Shift r e g h e′ → (xs : List Row) → First h xs → (w d s v : ℕ) → Marked r w d s →
-    v ≤ suc s → sum (box w v (suc s)) xs + point v (suc s) e ≤ sum (box w v (suc s)) (moved r e h xs) + point v (suc s) e′
+pub shift-sum : (r : Round) → Fine r → (e g : ℕ) (h : Row) (e′ : ℕ) → Shifts-to r e g h e′ → (xs : List Row) → First-of-ticket h xs → (w d s v : ℕ) → Mark-at-least r w d s →
+    v ≤ suc s → sum (box w v (suc s)) xs + point v (suc s) e ≤ sum (box w v (suc s)) (moved-rows r e h xs) + point v (suc s) e′
 unfolding row
 shift-sum r f e g h e′ p xs i w d s v m k =
     let h′ = row (h .ticket) e (max (h .weight) (mark-in r (plan r) e)) (h .tail) in
@@ -120,8 +120,8 @@ shift-sum r f e g h e′ p xs i w d s v m k =
     ] in
     omega arith
 
-pub shift-kept : (r : Round) → Fine r → (a e g : ℕ) (h : Row) (e′ : ℕ) (xs : List Row) → g ≤ r .last → Shift r e g h e′ → Kept r a e xs →
-    Kept r a e′ (moved r e h xs)
+pub shift-kept : (r : Round) → Fine r → (a e g : ℕ) (h : Row) (e′ : ℕ) (xs : List Row) → g ≤ r .last → Shifts-to r e g h e′ → Filled-so-far r a e xs →
+    Filled-so-far r a e′ (moved-rows r e h xs)
 unfolding row
 shift-kept r f a e g h e′ xs b p q =
     let hr = member-row r h (p .inside) (p .heavy) in
@@ -146,10 +146,10 @@ shift-kept r f a e g h e′ xs b p q =
 pub record Left (r : Round) (xs : List Row) : Type 0 where
   pub okay : All (Row-ok r) xs
   pub rising : Rising 1 (r .next) xs
-  pub fills : (w d e v : ℕ) → Marked r w d e → r .slot < v → v ≤ suc e → suc e - v ≤ sum (box w v (suc e)) xs
+  pub fills : (w d e v : ℕ) → Mark-at-least r w d e → r .slot < v → v ≤ suc e → suc e - v ≤ sum (box w v (suc e)) xs
 
 -- the slots that are not tight leave room
-pub leaves-room : (r : Round) → Fine r → (a e v : ℕ) → Next r (plan r) a e → r .slot ≤ a → a < v → v ≤ e → num 0 v (plan r) + 1 ≤ v - r .slot
+pub leaves-room : (r : Round) → Fine r → (a e v : ℕ) → Next-tight r (plan r) a e → r .slot ≤ a → a < v → v ≤ e → num 0 v (plan r) + 1 ≤ v - r .slot
 leaves-room r f a e zero n h i j = absurd (omega arith)
 leaves-room r f a e (suc u) n h i j =
     elim (leb? (num 0 (suc u) (plan r) + 1) (suc u - r .slot)) [
@@ -159,10 +159,10 @@ leaves-room r f a e (suc u) n h i j =
     ]
 
 -- a substitute that takes its mark stands-in for the end of its segment, but for a slot that isn't tight
-pub stands-in : (r : Round) → Fine r → (x : Row) (g : ℕ) → Next r (plan r) (x .due) g → r .slot ≤ x .due → x .weight ≡ mark-in r (plan r) (x .due) →
-    (w d s v : ℕ) → Marked r w d s → r .slot < v → v ≤ suc s →
+pub fills-for-end : (r : Round) → Fine r → (x : Row) (g : ℕ) → Next-tight r (plan r) (x .due) g → r .slot ≤ x .due → x .weight ≡ mark-in r (plan r) (x .due) →
+    (w d s v : ℕ) → Mark-at-least r w d s → r .slot < v → v ≤ suc s →
     (c : ℕ) × (num 0 v (plan r) + c ≤ v - r .slot) × (point v (suc s) g ≤ box w v (suc s) x + c)
-stands-in r f x g n h q w d s v m i j =
+fills-for-end r f x g n h q w d s v m i j =
     let free : num 0 v (plan r) ≤ v - r .slot = plan-feas r f v (omega arith) (omega (arith, m .next .by)) in
     elim (point? v (suc s) g) [
       | inl a ↦ elim (leb? v (x .due)) [
@@ -182,7 +182,7 @@ stands-in r f x g n h q w d s v m i j =
     ]
 
 -- a plan member stands-in before the end of its segment
-pub ends : (r : Round) → Fine r → (p : Row) (e : ℕ) → Next r (plan r) (p .due) e → (w d s v : ℕ) → Marked r w d s → v ≤ suc s →
+pub ends : (r : Round) → Fine r → (p : Row) (e : ℕ) → Next-tight r (plan r) (p .due) e → (w d s v : ℕ) → Mark-at-least r w d s → v ≤ suc s →
     box w v (suc s) p ≤ point v (suc s) e
 ends r f p e n w d s v m k =
     elim (box? w v (suc s) p k) [
@@ -194,12 +194,12 @@ ends r f p e n w d s v m k =
       | inr a ↦ omega arith
     ]
 
-pub gone-in : (b : ℕ) (μ : Row → ℕ) (p : Row) (xs : List Row) → Rising 1 b xs → (p .ticket ≡ 0) ⊎ First p xs →
+pub gone-in : (b : ℕ) (μ : Row → ℕ) (p : Row) (xs : List Row) → Rising 1 b xs → (p .ticket ≡ 0) ⊎ First-of-ticket p xs →
     sum μ xs ≤ sum μ (without (p .ticket) xs) + μ p
 gone-in b μ p xs s (inl h) = rw (h, without-none 1 b 0 xs (omega arith) s) (omega arith)
 gone-in b μ p xs s (inr i) = omega (arith, without-sum μ p xs i)
 
-pub rows-kept : (r : Round) → Fine r → (a : ℕ) → Kept r a a (r .rows)
+pub rows-kept : (r : Round) → Fine r → (a : ℕ) → Filled-so-far r a a (r .rows)
 rows-kept r f a =
     record {
       past = omega arith;
@@ -211,15 +211,15 @@ rows-kept r f a =
     }
 
 -- where the shifts begin and end
-pub record Ends (r : Round) (p s : Row) (e g : ℕ) : Type 0 where
-  pub first : Next r (plan r) (p .due) e
-  pub last : Next r (plan r) (s .due) g
+pub record Shift-ends (r : Round) (p s : Row) (e g : ℕ) : Type 0 where
+  pub first : Next-tight r (plan r) (p .due) e
+  pub last : Next-tight r (plan r) (s .due) g
   pub low : r .slot ≤ s .due
   pub start : r .slot ≤ p .due
   pub order : e ≤ g
 
 pub ends-of : (r : Round) → Fine r → (p s : Row) (b : ℕ) → p .due ≤ r .last → r .slot ≤ p .due → Start r (plan r) (p .due) b → b ≤ s .due →
-    s .due ≤ r .last → Ends r p s (tight-after r (plan r) (p .due)) (tight-after r (plan r) (s .due))
+    s .due ≤ r .last → Shift-ends r p s (tight-after r (plan r) (p .due)) (tight-after r (plan r) (s .due))
 ends-of r f p s b h k st i j =
     let n = next r (plan r) (p .due) h (plan-full r f) in
     let m = next r (plan r) (s .due) j (plan-full r f) in
@@ -246,15 +246,15 @@ outside-heavy r f s i n =
 abbrev pub at-its-mark : Round → Row → Row
 at-its-mark r s = row (s .ticket) (s .due) (mark-in r (plan r) (s .due)) (s .tail)
 
-pub leap-row : (r : Round) → Fine r → (p s : Row) (e g : ℕ) → In p (plan r) → Ends r p s e g → In s (r .rows) → in-plan s (plan r) ≡ false →
-    (ys : List Row) → Kept r e g ys → Left r (without (p .ticket) (changed (s .ticket) (at-its-mark r s) ys))
+pub leap-row : (r : Round) → Fine r → (p s : Row) (e g : ℕ) → In p (plan r) → Shift-ends r p s e g → In s (r .rows) → in-plan s (plan r) ≡ false →
+    (ys : List Row) → Filled-so-far r e g ys → Left r (without (p .ticket) (changed (s .ticket) (at-its-mark r s) ys))
 unfolding row
 leap-row r f p s e g i en j n ys q =
     let s′ = at-its-mark r s in
     let ys′ = changed (s .ticket) s′ ys in
     let o = all-in (Row-fine r) s (r .rows) (f .fine) j in
-    let fs : First s ys = q .others s j (λ h a b c. not-in-plan s (plan r) n h a (sym c)) in
-    let fp : (p .ticket ≡ 0) ⊎ First p ys′ = elim (plan-member r p i) [
+    let fs : First-of-ticket s ys = q .others s j (λ h a b c. not-in-plan s (plan r) n h a (sym c)) in
+    let fp : (p .ticket ≡ 0) ⊎ First-of-ticket p ys′ = elim (plan-member r p i) [
       | inr a ↦ inl (blank-ticket p (a .0))
       | inl a ↦ inr (changed-first (s .ticket) s′ p (not-in-plan s (plan r) n p i) refl ys
           (q .others p a (λ h b c d. omega (
@@ -271,7 +271,7 @@ leap-row r f p s e g i en j n ys q =
           (row-ok r s′ (o .due-by) (omega (arith, o .some, outside-heavy r f s j n)) (mark-limit r (plan r) (s .due))) ys (q .okay));
       rising = rising-without 1 (r .next) (p .ticket) ys′ rs;
       fills = λ w d t v m k l.
-          let c = stands-in r f s′ g (en .last) (en .low) refl w d t v m k l in
+          let c = fills-for-end r f s′ g (en .last) (en .low) refl w d t v m k l in
           omega (
             arith,
             c .1,
@@ -280,7 +280,7 @@ leap-row r f p s e g i en j n ys q =
             gone-in (r .next) (box w v (suc t)) p ys′ rs fp,
             q .sums w d t v m l,
             ends r f p e (en .first) w d t v m l,
-            filled r f w (suc t) v (c .0) (m .some) (omega arith) l (m .full) (c .1),
+            rows-fill r f w (suc t) v (c .0) (m .some) (omega arith) l (m .full) (c .1),
             in-sum (box w v (suc t)) s (outside r) (row-outside r s j n),
           );
     }
@@ -292,15 +292,15 @@ leap-row r f p s e g i en j n ys q =
     ]
 
 -- THE SUBSTITUTE IS A BLANK, at the start of p's segment
-pub plain : (r : Round) → Fine r → (w d e v : ℕ) → Marked r w d e → r .slot ≤ v → v ≤ suc e → suc e - v ≤ sum (box w v (suc e)) (r .rows)
-plain r f w d e v m k l =
+pub fills-alone : (r : Round) → Fine r → (w d e v : ℕ) → Mark-at-least r w d e → r .slot ≤ v → v ≤ suc e → suc e - v ≤ sum (box w v (suc e)) (r .rows)
+fills-alone r f w d e v m k l =
     omega (
       arith,
-      filled r f w (suc e) v 0 (m .some) (omega arith) l (m .full)
+      rows-fill r f w (suc e) v 0 (m .some) (omega arith) l (m .full)
           (omega (arith, plan-feas r f v (omega arith) (omega (arith, m .next .by)))),
     )
 
-pub leap-kept : (r : Round) → Fine r → (p : Row) (b e : ℕ) → In p (plan r) → Next r (plan r) (p .due) e → Next r (plan r) b e → r .slot ≤ b →
+pub leap-kept : (r : Round) → Fine r → (p : Row) (b e : ℕ) → In p (plan r) → Next-tight r (plan r) (p .due) e → Next-tight r (plan r) b e → r .slot ≤ b →
     1 ≤ mark-in r (plan r) b → Left r (changed (p .ticket) (row (p .ticket) b (mark-in r (plan r) b) blank-tail) (r .rows))
 unfolding row
 leap-kept r f p b e i n o h j =
@@ -311,16 +311,16 @@ leap-kept r f p b e i n o h j =
       rising = rising-changed 1 (r .next) (p .ticket) x refl (r .rows) (f .rising);
       fills = λ w d t v m k l. elim (plan-member r p i) [
         | inr a ↦ rw (blank-ticket p (a .0), changed-none 1 (r .next) 0 (row 0 b (mark-in r (plan r) b) blank-tail) (r .rows) (omega arith) (f .rising))
-            (plain r f w d t v m (omega arith) l)
+            (fills-alone r f w d t v m (omega arith) l)
         | inl a ↦
-            let c = stands-in r f x e o h refl w d t v m k l in
+            let c = fills-for-end r f x e o h refl w d t v m k l in
             omega (
               arith,
               c .1,
               c .2,
               changed-sum (box w v (suc t)) p x (r .rows) (rising-first 1 (r .next) p (r .rows) (f .rising) a),
               ends r f p e n w d t v m l,
-              filled r f w (suc t) v (c .0) (m .some) (omega arith) l (m .full) (c .1),
+              rows-fill r f w (suc t) v (c .0) (m .some) (omega arith) l (m .full) (c .1),
             )
       ];
     }
@@ -333,11 +333,11 @@ leap-gone r f p b i h k j =
       rising = rising-without 1 (r .next) (p .ticket) (r .rows) (f .rising);
       fills = λ w d t v m y l. elim (box? w v (suc t) p l) [
         | inl a ↦ absurd (omega (arith, m .some, mark-in-reach r f w d t b m h (omega (arith, a .3))))
-        | inr a ↦ omega (arith, plain r f w d t v m (omega arith) l, gone-in (r .next) (box w v (suc t)) p (r .rows) (f .rising) (fp i))
+        | inr a ↦ omega (arith, fills-alone r f w d t v m (omega arith) l, gone-in (r .next) (box w v (suc t)) p (r .rows) (f .rising) (fp i))
       ];
     }
   where
-    fp : In p (plan r) → (p .ticket ≡ 0) ⊎ First p (r .rows)
+    fp : In p (plan r) → (p .ticket ≡ 0) ⊎ First-of-ticket p (r .rows)
     fp i = elim (plan-member r p i) [
       | inr a ↦ inl (blank-ticket p (a .0))
       | inl a ↦ inr (rising-first 1 (r .next) p (r .rows) (f .rising) a)
@@ -354,10 +354,10 @@ After-leap r p s =
     replaced r (plan r) p s
     (shifted (suc (r .last)) r (plan r) (tight-after r (plan r) (p .due)) (tight-after r (plan r) (s .due)) (r .rows))
 
-pub leap-with-row : (r : Round) → Fine r → (p s : Row) (b : ℕ) → In p (plan r) → Start r (plan r) (p .due) b → In s (r .rows) → b ≤ s .due →
+pub left-with-row : (r : Round) → Fine r → (p s : Row) (b : ℕ) → In p (plan r) → Start r (plan r) (p .due) b → In s (r .rows) → b ≤ s .due →
     in-plan s (plan r) ≡ false → Left r (After-leap r p s)
 unfolding replaced
-leap-with-row r f p s b i st j h n =
+left-with-row r f p s b i st j h n =
     let o = all-in (Row-fine r) s (r .rows) (f .fine) j in
     let u = all-in (λ x. (r .slot ≤ x .due) × (x .due ≤ r .last)) p (plan r) (plan-due r f) i in
     let e = tight-after r (plan r) (p .due) in
@@ -366,23 +366,23 @@ leap-with-row r f p s b i st j h n =
     let hv : Heavy-to r g = all-map {Q = λ y. y .due ≤ g → 1 ≤ y .weight}
     (λ y (a : y .due ≤ g → mark-in r (plan r) (s .due) ≤ y .weight) (c : y .due ≤ g). omega (arith, a c, outside-heavy r f s j n, o .some))
     (plan r) (mark-all r (plan r) (s .due)) in
-    let q : Kept r e g (shifted (suc (r .last)) r (plan r) e g (r .rows)) =
-    shift-ind r f g (en .last .by) (en .last .tight) hv (Kept r e) (λ e′ xs h e″ p′ k. shift-kept r f e e′ g h e″ xs (en .last .by) p′ k)
+    let q : Filled-so-far r e g (shifted (suc (r .last)) r (plan r) e g (r .rows)) =
+    shift-ind r f g (en .last .by) (en .last .tight) hv (Filled-so-far r e) (λ e′ xs h e″ p′ k. shift-kept r f e e′ g h e″ xs (en .last .by) p′ k)
     (suc (r .last)) e (r .rows) (omega (arith, en .start, en .first .from)) (en .order) (omega (arith, en .last .by)) (en .first .tight)
     (rows-kept r f e) in
     rw (ne-eqb (s .ticket) 0 (λ c. omega (arith, rising-above 1 (r .next) s (r .rows) (f .rising) j)))
     (leap-row r f p s e g i en j n (shifted (suc (r .last)) r (plan r) e g (r .rows)) q)
 
-pub leap-with-blank : (r : Round) → Fine r → (p : Row) (b : ℕ) → In p (plan r) → Start r (plan r) (p .due) b → Left r (After-leap r p (blank b))
+pub left-with-blank : (r : Round) → Fine r → (p : Row) (b : ℕ) → In p (plan r) → Start r (plan r) (p .due) b → Left r (After-leap r p (blank b))
 unfolding replaced blank
-leap-with-blank r f p b i st =
+left-with-blank r f p b i st =
     let u = all-in (λ x. (r .slot ≤ x .due) × (x .due ≤ r .last)) p (plan r) (plan-due r f) i in
     let e = tight-after r (plan r) (p .due) in
     let en = ends-of r f p (blank b) b (u .1) (u .0) st (omega arith) (omega (arith, st .by, u .1)) in
     let back : tight-after r (plan r) b ≤ e =
     next-by r (plan r) b (tight-after r (plan r) b) e (en .last) (omega (arith, st .by, en .first .from)) (en .first .tight) in
     let same : tight-after r (plan r) b ≡ e = omega (arith, en .order) in
-    let o : Next r (plan r) b e = rw same at (en .last) in
+    let o : Next-tight r (plan r) b e = rw same at (en .last) in
     rw (no-shift (suc (r .last)) r e (tight-after r (plan r) b) (r .rows) back)
     (both-ways (Left r) (ltb 0 (mark-in r (plan r) b)) (changed (p .ticket) (row (p .ticket) b (mark-in r (plan r) b) blank-tail) (r .rows))
     (without (p .ticket) (r .rows))
@@ -397,6 +397,6 @@ leapt-left r f p i h =
     let st = start r (plan r) (p .due) (plan-feas r f) (f .time) (u .0) in
     rw (lt-leb (p .due) (first-end r (plan r)) h)
     (elim (outside-in r (plan r) b (r .rows) (blank b) (r .rows) (blank b) (inl refl) (all-of-in (λ x. In x (r .rows)) (r .rows) (λ x j. j))) [
-      | inl a ↦ rw a (leap-with-blank r f p b i st)
-      | inr a ↦ leap-with-row r f p (heaviest-outside b (r .rows) (plan r) (blank b)) b i st (a .0) (a .1) (a .2)
+      | inl a ↦ rw a (left-with-blank r f p b i st)
+      | inr a ↦ left-with-row r f p (heaviest-outside b (r .rows) (plan r) (blank b)) b i st (a .0) (a .1) (a .2)
     ])

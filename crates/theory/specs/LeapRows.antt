@@ -19,7 +19,7 @@ use Rattle.theory.specs.Change.{rising-above, rising-same, not-in-plan}
 use Rattle.theory.specs.Send.{outside-in}
 use Rattle.theory.specs.Leap.{ends-of}
 use Rattle.theory.specs.Members.{planned-rows, of-rows-in, found-member, in-plan-is}
-use Rattle.theory.specs.Chain.{some-chain, chain-after, Chain as Linked}
+use Rattle.theory.specs.Chain.{some-chain, chain-after, Linked}
 use Rattle.theory.specs.Leaping.{each, final-row, final-ticket, moves-each, start-end, start-mark}
 use Rattle.theory.specs.Close.{closed, sent-row, sent-kept, sent-gone}
 use Rattle.theory.specs.SlotOver.{each-same, same-over, changed-over}
@@ -36,9 +36,9 @@ substitute? r p h =
     (outside-in r (plan r) b (r .rows) (blank b) (r .rows) (blank b) (inl refl) (all-of-in (λ x. In x (r .rows)) (r .rows) (λ x j. j)))
 
 -- the rows of a round
-pub rows-sent : (r : Round) (t : ℕ) (xs : List Row) → sent r ≡ going-on t (r .next) xs r → sent r .rows ≡ xs
+pub sent-rows-are : (r : Round) (t : ℕ) (xs : List Row) → sent r ≡ going-on t (r .next) xs r → sent r .rows ≡ xs
 unfolding round
-rows-sent r t xs e = ap (λ (z : Round). z .rows) e
+sent-rows-are r t xs e = ap (λ (z : Round). z .rows) e
 
 -- a row's ticket
 pub ticket-of-row : (k d w : ℕ) (m : Tail) → row k d w m .ticket ≡ k
@@ -106,7 +106,7 @@ module _ (r : Round) (f : Fine r) (i : In (goes r) (plan r)) (h : first-end r (p
         let hs = k .0 in
         let w = link-other g hs (en .first .from) (k .1) in
         let w-in = all-map {Q = λ z. In z (r .rows)} (λ z (v : In z (r .rows) × Other z p × Other z s). v .0) hs w in
-        let e : sent r .rows ≡ closed t (p .ticket) _ = rows-sent r t _ (sent-row r f (planned r) c p s hs refl h refl j (k .1)) in
+        let e : sent r .rows ≡ closed t (p .ticket) _ = sent-rows-are r t _ (sent-row r f (planned r) c p s hs refl h refl j (k .1)) in
         record {
           shifts = links r a hs;
           chain = links-chain r f (planned r) c g a hs (en .last .tight) (en .order) (k .1);
@@ -151,7 +151,7 @@ module _ (r : Round) (f : Fine r) (i : In (goes r) (plan r)) (h : first-end r (p
           each-row = elim (ltb? 0 (mark r (p .due))) [
             | inl m ↦
                 let y = row (p .ticket) b (mark r (p .due)) blank-tail in
-                let q = rows-sent r t (closed t 0 (changed (p .ticket) y (r .rows)))
+                let q = sent-rows-are r t (closed t 0 (changed (p .ticket) y (r .rows)))
                 (sent-kept r f (planned r) (planned-rows r f) p refl i h e (m .1)) in
                 let v : closed t 0 (changed (p .ticket) y (each (λ x. x) (r .rows))) ≡ sent r .rows =
                 ap (λ (zs : List Row). closed t 0 (changed (p .ticket) y zs)) (each-same (r .rows)) ∙ sym q in
@@ -162,7 +162,7 @@ module _ (r : Round) (f : Fine r) (i : In (goes r) (plan r)) (h : first-end r (p
                   λ z. other-stays x k z,
                 )))
             | inr m ↦
-                let q = rows-sent r t (closed t (p .ticket) (r .rows))
+                let q = sent-rows-are r t (closed t (p .ticket) (r .rows))
                 (sent-gone r f (planned r) (planned-rows r f) p refl i h e (omega (arith, m .1))) in
                 subst (λ (zs : List Row). Slot-over t (Leaves r) (Becomes r []) (r .rows) zs) (sym q)
                 (same-over t (p .ticket) (Leaves r) (Becomes r []) (r .rows) (λ x _ z. (z, λ w. omega (arith, m .1, its-mark, w .1))) other-stays)

@@ -24,8 +24,8 @@ use Rattle.theory.specs.Times.{sum-less}
 use Rattle.theory.specs.Same.{of-plan, of-no, of-chosen, row-ticket, planned-same}
 use Rattle.theory.specs.Unique.{rising-other}
 use Rattle.theory.specs.Keys.{getD-in}
-use Rattle.theory.specs.Members.{Rows, in-plan-is}
-use Rattle.theory.specs.Chain.{Chain, moved-to, moves, chain-is, chain-other}
+use Rattle.theory.specs.Members.{Rows-of-plan, in-plan-is}
+use Rattle.theory.specs.Chain.{Linked, shifted-to-end, moves, chain-is, chain-other}
 
 -- THE ROWS AFTER THE SHIFTS, each on its own
 unfoldable pub each : (Row → Row) → List Row → List Row
@@ -34,7 +34,7 @@ each m (x ∷ xs) = m x ∷ each m xs
 
 unfoldable pub final-row : Round → (e : ℕ) → (hs : List Row) → Row → Row
 final-row r e [] x = x
-final-row r e (h ∷ hs) x = cond (eqb (x .ticket) (h .ticket)) (moved-to r e h) (final-row r (tight-after r (plan r) (h .due)) hs x)
+final-row r e (h ∷ hs) x = cond (eqb (x .ticket) (h .ticket)) (shifted-to-end r e h) (final-row r (tight-after r (plan r) (h .due)) hs x)
 
 pub final-other : (r : Round) (e : ℕ) (hs : List Row) (x : Row) → All (λ h. h .ticket ≢ x .ticket) hs → final-row r e hs x ≡ x
 unfolding final-row
@@ -46,8 +46,8 @@ unfoldable pub end-after : Round → (e : ℕ) → List Row → ℕ
 end-after r e [] = e
 end-after r e (h ∷ hs) = end-after r (tight-after r (plan r) (h .due)) hs
 
-pub moved-ticket : (r : Round) (e : ℕ) (h : Row) → moved-to r e h .ticket ≡ h .ticket
-unfolding moved-to row
+pub moved-ticket : (r : Round) (e : ℕ) (h : Row) → shifted-to-end r e h .ticket ≡ h .ticket
+unfolding shifted-to-end row
 moved-ticket r e h = refl
 
 pub each-changed : (m n : Row → Row) (k a b : ℕ) (y : Row) → m y ≡ n y → ((x : Row) → x .ticket ≢ k → m x ≡ n x) → (xs : List Row) → Rising a b xs →
@@ -68,8 +68,8 @@ pub rising-moves : (r : Round) (a b e : ℕ) (hs xs : List Row) → Rising a b x
 unfolding moves
 rising-moves r a b e [] xs s = s
 rising-moves r a b e (h ∷ hs) xs s =
-    rising-moves r a b (tight-after r (plan r) (h .due)) hs (changed (h .ticket) (moved-to r e h) xs)
-    (rising-changed a b (h .ticket) (moved-to r e h) (moved-ticket r e h) xs s)
+    rising-moves r a b (tight-after r (plan r) (h .due)) hs (changed (h .ticket) (shifted-to-end r e h) xs)
+    (rising-changed a b (h .ticket) (shifted-to-end r e h) (moved-ticket r e h) xs s)
 
 -- a row changed by its ticket is one changed by its index
 pub changed-at : (a b : ℕ) (xs : List Row) (i : ℕ) (z y : Row) → Rising a b xs → i < length xs → changed (getD xs i z .ticket) y xs ≡ set xs i y
@@ -135,13 +135,13 @@ pub mark-in-is : (r : Round) (b : ℕ) → mark-in r (plan r) b ≡ mark r b
 unfolding mark
 mark-in-is r b = refl
 
-module _ (r : Round) (f : Fine r) (rs : List Row) (c : Rows r rs) where
-  pub moves-each : (a b e g : ℕ) (hs xs : List Row) → Rising a b xs → Chain r rs e g hs → moves r e hs xs ≡ each (final-row r e hs) xs
+module _ (r : Round) (f : Fine r) (rs : List Row) (c : Rows-of-plan r rs) where
+  pub moves-each : (a b e g : ℕ) (hs xs : List Row) → Rising a b xs → Linked r rs e g hs → moves r e hs xs ≡ each (final-row r e hs) xs
   unfolding moves final-row
   moves-each a b e g [] xs s k = sym (each-self r e xs)
   moves-each a b e g (h ∷ hs) xs s k =
       let e2 = tight-after r (plan r) (h .due) in
-      let y = moved-to r e h in
+      let y = shifted-to-end r e h in
       let u : final-row r e2 hs y ≡ y =
       final-other r e2 hs y (all-map {Q = λ z. z .ticket ≢ y .ticket} (λ z (w : h .ticket ≢ z .ticket) (q : z .ticket ≡ y .ticket). w
       (sym (q ∙ moved-ticket r e h))) hs
@@ -150,15 +150,15 @@ module _ (r : Round) (f : Fine r) (rs : List Row) (c : Rows r rs) where
       ∙ each-changed (final-row r e2 hs) (final-row r e (h ∷ hs)) (h .ticket) a b y
       (u ∙ sym (hit y (moved-ticket r e h))) (λ x n. sym (miss x n)) xs s (λ x q. hit x q ∙ sym u)
     where
-      hit : (x : Row) → x .ticket ≡ h .ticket → final-row r e (h ∷ hs) x ≡ moved-to r e h
+      hit : (x : Row) → x .ticket ≡ h .ticket → final-row r e (h ∷ hs) x ≡ shifted-to-end r e h
       hit x q = rw (eq-eqb (x .ticket) (h .ticket) q)
 
       miss : (x : Row) → x .ticket ≢ h .ticket → final-row r e (h ∷ hs) x ≡ final-row r (tight-after r (plan r) (h .due)) hs x
       miss x q = rw (ne-eqb (x .ticket) (h .ticket) q)
 
   -- a link gets the end before it, every other row stays
-  pub final-link : (e g : ℕ) (ks ls : List Row) (h x : Row) → Chain r rs e g (ks ++ (h ∷ ls)) → x .ticket ≡ h .ticket →
-      final-row r e (ks ++ (h ∷ ls)) x ≡ moved-to r (end-after r e ks) h
+  pub final-link : (e g : ℕ) (ks ls : List Row) (h x : Row) → Linked r rs e g (ks ++ (h ∷ ls)) → x .ticket ≡ h .ticket →
+      final-row r e (ks ++ (h ∷ ls)) x ≡ shifted-to-end r (end-after r e ks) h
   unfolding final-row end-after
   final-link e g [] ls h x k q = rw (eq-eqb (x .ticket) (h .ticket) q)
   final-link e g (z ∷ ks) ls h x k q =
@@ -167,9 +167,9 @@ module _ (r : Round) (f : Fine r) (rs : List Row) (c : Rows r rs) where
       (final-link (tight-after r (plan r) (z .due)) g ks ls h x (k .1) q)
 
   -- FEW SHIFTS: three rows are none
-  pub rows-more : (s : Row) → In s (r .rows) → in-plan s rs ≡ false → length rs + 1 ≤ length (r .rows)
+  pub one-row-more : (s : Row) → In s (r .rows) → in-plan s rs ≡ false → length rs + 1 ≤ length (r .rows)
   unfolding planned
-  rows-more s i n =
+  one-row-more s i n =
       omega (
         arith,
         length-sum rs,
@@ -185,7 +185,7 @@ module _ (r : Round) (f : Fine r) (rs : List Row) (c : Rows r rs) where
 
   -- WITH A ROW for substitute
   pub leapt-row : (p s : Row) (hs : List Row) → substitute r (plan r) p ≡ s → In s (r .rows) →
-      Chain r rs (tight-after r (plan r) (p .due)) (tight-after r (plan r) (s .due)) hs →
+      Linked r rs (tight-after r (plan r) (p .due)) (tight-after r (plan r) (s .due)) hs →
       leapt r (plan r) p ≡ without (p .ticket)
       (changed (s .ticket) (row (s .ticket) (s .due) (mark r (s .due)) (s .tail)) (moves r (tight-after r (plan r) (p .due)) hs (r .rows)))
   unfolding leapt replaced mark

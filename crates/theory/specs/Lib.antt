@@ -22,7 +22,7 @@ pub mod Listed
 -- marks
 pub mod Marks
 pub mod Tights
-pub mod Reach
+pub mod MarksFall
 pub mod Slack
 -- substitutes and the pick
 pub mod Golden

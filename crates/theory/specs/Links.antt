@@ -14,8 +14,8 @@ use Rattle.theory.specs.Full.{Fine}
 use Rattle.theory.specs.Marks.{Tight-in}
 use Rattle.theory.specs.Change.{rising-same}
 use Rattle.theory.specs.Send.{next-by}
-use Rattle.theory.specs.Members.{Rows, of-rows-fine, found-member, member?}
-use Rattle.theory.specs.Chain.{Heaviest-in, moved-to, chain-other, Chain as Linked, end-of as end-found}
+use Rattle.theory.specs.Members.{Rows-of-plan, of-rows-fine, found-member, member?}
+use Rattle.theory.specs.Chain.{Heaviest-in, shifted-to-end, chain-other, Linked, link-end as end-found}
 use Rattle.theory.specs.Leaping.{final-row}
 
 -- each link with the end before it
@@ -33,7 +33,7 @@ every-link P r e (h ∷ hs) a = (a .0, every-link P r (end-of r h) hs (a .1))
 pub final? : (r : Round) → Fine r → (e : ℕ) (hs : List Row) (x : Row) → In x (r .rows) → All (λ h. In h (r .rows)) hs →
     ((u : ℕ) × Shifted (links r e hs) x u × (final-row r e hs x ≡ shifted-to r u x))
     ⊎ (((u : ℕ) → Shifted (links r e hs) x u → ⊥) × (final-row r e hs x ≡ x))
-unfolding links final-row moved-to
+unfolding links final-row shifted-to-end
 final? r f e [] x i a = inr (λ u z. z, refl)
 final? r f e (h ∷ hs) x i a = elim (eqb? (x .ticket) (h .ticket)) [
   | inl q ↦ rw (q .0) (inl (e, inl (q .1, refl), ap (λ z. shifted-to r e z) (sym (rising-same 1 (r .next) x h (r .rows) (f .rising) i (a .0) (q .1)))))
@@ -43,7 +43,7 @@ final? r f e (h ∷ hs) x i a = elim (eqb? (x .ticket) (h .ticket)) [
   ])
 ]
 
-module _ (r : Round) (f : Fine r) (rs : List Row) (c : Rows r rs) where
+module _ (r : Round) (f : Fine r) (rs : List Row) (c : Rows-of-plan r rs) where
   -- the heaviest of the plan's rows is the heaviest of the plan: blanks weigh nothing
   pub next-h : (e g : ℕ) (h : Row) → Heaviest-in rs e g h → Next-h r e g h
   next-h e g h p =

@@ -25,7 +25,7 @@ tight? r ps s =
     ]
 
 -- the first tight slot from s on
-pub record Next (r : Round) (ps : List Row) (s e : ℕ) : Type 0 where
+pub record Next-tight (r : Round) (ps : List Row) (s e : ℕ) : Type 0 where
   pub from : s ≤ e
   pub by : e ≤ r .last
   pub tight : Tight-in r ps e
@@ -41,7 +41,7 @@ pub one-more : (r : Round) (ps : List Row) (a s u : ℕ) → (Tight-in r ps s �
 one-more r ps a s u k f h i t =
     elim (ltb? u s) [ inl b ↦ f u h (b .1) t | inr b ↦ let e : u ≡ s = omega arith in k (rw e at t) ]
 
-pub next-later : (r : Round) (ps : List Row) (s e : ℕ) → (Tight-in r ps s → ⊥) → Next r ps (suc s) e → Next r ps s e
+pub next-later : (r : Round) (ps : List Row) (s e : ℕ) → (Tight-in r ps s → ⊥) → Next-tight r ps (suc s) e → Next-tight r ps s e
 next-later r ps s e k n =
     record {
       from = omega arith;
@@ -51,7 +51,7 @@ next-later r ps s e k n =
     }
 
 pub next-from : (n s : ℕ) (r : Round) (ps : List Row) → s + n ≡ suc (r .last) → s ≤ r .last → Tight-in r ps (r .last) →
-    Next r ps s (tight-from n s r ps)
+    Next-tight r ps s (tight-from n s r ps)
 unfolding tight-from
 next-from zero s r ps e h t = absurd (omega arith)
 next-from (suc n) s r ps e h t =
@@ -61,7 +61,7 @@ next-from (suc n) s r ps e h t =
           (next-later r ps s (tight-from n (suc s) r ps) (k .1) (next-from n (suc s) r ps (omega arith) (not-last r ps s h t (k .1)) t))
     ]
 
-pub next : (r : Round) (ps : List Row) (s : ℕ) → s ≤ r .last → Tight-in r ps (r .last) → Next r ps s (tight-after r ps s)
+pub next : (r : Round) (ps : List Row) (s : ℕ) → s ≤ r .last → Tight-in r ps (r .last) → Next-tight r ps s (tight-after r ps s)
 unfolding tight-after
 next r ps s h t = next-from (suc (r .last) - s) s r ps (omega arith) h t
 
@@ -145,12 +145,12 @@ all-heavy w e (x ∷ xs) h = (
   all-heavy w e xs (omega (arith, below-weight 0 w e (omega arith) x)),
 )
 
-pub heavy-num : (w e : ℕ) (xs : List Row) → All (λ x. x .due < e → w ≤ x .weight) xs → num w e xs ≡ num 0 e xs
-heavy-num w e [] a = refl
-heavy-num w e (x ∷ xs) a =
+pub num-heavy-by : (w e : ℕ) (xs : List Row) → All (λ x. x .due < e → w ≤ x .weight) xs → num w e xs ≡ num 0 e xs
+num-heavy-by w e [] a = refl
+num-heavy-by w e (x ∷ xs) a =
     elim (ltb? (x .due) e) [
-      | inl k ↦ omega (arith, heavy-num w e xs (a .1), below-yes 0 e x (omega arith) (k .1), below-yes w e x (a .0 (k .1)) (k .1))
-      | inr k ↦ omega (arith, heavy-num w e xs (a .1), below-late 0 e x (k .1), below-late w e x (k .1))
+      | inl k ↦ omega (arith, num-heavy-by w e xs (a .1), below-yes 0 e x (omega arith) (k .1), below-yes w e x (a .0 (k .1)) (k .1))
+      | inr k ↦ omega (arith, num-heavy-by w e xs (a .1), below-late 0 e x (k .1), below-late w e x (k .1))
     ]
 
 -- MARKS: above from an edge
@@ -276,9 +276,9 @@ pub box-weight : (w z v e : ℕ) → w ≤ z → v ≤ e → (xs : List Row) →
 box-weight w z v e h k xs = sum-le (box z v e) (box w v e) (box-light w z v e h k) xs
 
 -- the plan's rows of weight w fill the slots before e: so do the waiting rows from v on, and c more where the plan leaves c slots before v
-pub filled : (r : Round) → Fine r → (w e v c : ℕ) → 1 ≤ w → r .slot ≤ v → v ≤ e → num w e (plan r) ≡ e - r .slot →
+pub rows-fill : (r : Round) → Fine r → (w e v c : ℕ) → 1 ≤ w → r .slot ≤ v → v ≤ e → num w e (plan r) ≡ e - r .slot →
     num 0 v (plan r) + c ≤ v - r .slot → e - v + c + sum (box w v e) (outside r) ≤ sum (box w v e) (r .rows)
-filled r g w e v c b h i k l =
+rows-fill r g w e v c b h i k l =
     omega (
       arith,
       num-weight 0 w v (omega arith) (plan r),
@@ -292,14 +292,14 @@ filled r g w e v c b h i k l =
     )
 
 -- what a mark of w says: e is the next tight slot, and all the plan's members due by it weigh w or more
-pub record Marked (r : Round) (w d e : ℕ) : Type 0 where
+pub record Mark-at-least (r : Round) (w d e : ℕ) : Type 0 where
   pub some : 1 ≤ w
   pub limit : w ≤ 16777216
-  pub next : Next r (plan r) d e
+  pub next : Next-tight r (plan r) d e
   pub heavy : All (λ x. x .due < suc e → w ≤ x .weight) (plan r)
   pub full : num w (suc e) (plan r) ≡ suc e - r .slot
 
-pub marked : (r : Round) → Fine r → (w d : ℕ) → d ≤ r .last → 1 ≤ w → w ≤ mark-in r (plan r) d → Marked r w d (tight-after r (plan r) d)
+pub marked : (r : Round) → Fine r → (w d : ℕ) → d ≤ r .last → 1 ≤ w → w ≤ mark-in r (plan r) d → Mark-at-least r w d (tight-after r (plan r) d)
 marked r g w d i c q =
     let n = next r (plan r) d i (plan-full r g) in
     let e = tight-after r (plan r) d in
@@ -312,12 +312,12 @@ marked r g w d i c q =
       limit = omega (arith, mark-limit r (plan r) d);
       next = n;
       heavy = b;
-      full = omega (arith, heavy-num w (suc e) (plan r) b, n .tight);
+      full = omega (arith, num-heavy-by w (suc e) (plan r) b, n .tight);
     }
 
 -- NO MARK SINKS where, for each weight that the mark has, the waiting rows after fill as far
 pub mark-stays : (r z : Round) → Fine r → Fine z → r .slot ≤ z .slot → z .last ≡ r .last → (d : ℕ) → z .slot ≤ d → d ≤ r .last →
-    ((w e : ℕ) → Marked r w d e → (v : ℕ) → z .slot ≤ v → v ≤ suc e → suc e - v ≤ sum (box w v (suc e)) (z .rows)) →
+    ((w e : ℕ) → Mark-at-least r w d e → (v : ℕ) → z .slot ≤ v → v ≤ suc e → suc e - v ≤ sum (box w v (suc e)) (z .rows)) →
     mark r d ≤ mark z d
 unfolding mark
 mark-stays r z g k a l d h i f = by-weight (mark-in r (plan r) d) refl

@@ -1,4 +1,4 @@
--- The plan's members by the rows that a computation has, each a blank or one of these: Rows, planned-rows, found-member, member?.
+-- The plan's members by the rows that a computation has, each a blank or one of these: Rows-of-plan, planned-rows, found-member, member?.
 use mathlib.Core.Path.{_≡_, refl, sym, ap, _∙_, subst}
 use mathlib.Core.Logic.{_⊎_, inl, inr}
 use mathlib.Core.Bool.{Bool, false, true≢false}
@@ -41,17 +41,17 @@ rows-only-in x (y ∷ ys) i = elim (eqb? (y .ticket) 0) [
     the-case j = j
 
 -- THE ROWS that a computation found: the plan's, in any order
-pub record Rows (r : Round) (rs : List Row) : Type 0 where
+pub record Rows-of-plan (r : Round) (rs : List Row) : Type 0 where
   pub same : Same (rows-only (plan r)) rs
   pub waiting : All (λ y. In y (r .rows)) rs
 
-pub planned-rows : (r : Round) → Fine r → Rows r (planned r)
+pub planned-rows : (r : Round) → Fine r → Rows-of-plan r (planned r)
 planned-rows r f = record { same = planned-same r f; waiting = planned-in r }
 
-pub certified-found : (r : Round) → Fine r → (fs : List Bool) → Certified r fs → Rows r (chosen fs (r .rows))
+pub certified-found : (r : Round) → Fine r → (fs : List Bool) → Certified r fs → Rows-of-plan r (chosen fs (r .rows))
 certified-found r f fs c = record { same = certified-rows r f fs c; waiting = chosen-in fs (r .rows) }
 
-module _ (r : Round) (f : Fine r) (rs : List Row) (c : Rows r rs) where
+module _ (r : Round) (f : Fine r) (rs : List Row) (c : Rows-of-plan r rs) where
   pub of-rows-in : (x : Row) → In x rs → In x (r .rows)
   of-rows-in x i = all-in (λ y. In y (r .rows)) x rs (c .waiting) i
 

@@ -16,14 +16,14 @@ use Rattle.theory.specs.All.{all-map, all-in, all-of-in, blank-weight, b
 use Rattle.theory.specs.Feas.{below, num, below-yes, below-light, num-heavy, num-weight, due-below, feas-made}
 use Rattle.theory.specs.Bounds.{Row-fine}
 use Rattle.theory.specs.Full.{Fine, plan-feas, plan-full}
-use Rattle.theory.specs.Marks.{Tight-in, tight?, Next, next, Start, start, box, box-num, spans, least-above, least-all}
+use Rattle.theory.specs.Marks.{Tight-in, tight?, Next-tight, next, Start, start, box, box-num, spans, least-above, least-all}
 use Rattle.theory.specs.Change.{in-sum}
 use Rattle.theory.specs.Send.{next-by}
 use Rattle.theory.specs.Same.{sum-none, planned-same}
 use Rattle.theory.specs.Score.{score-of}
 use Rattle.theory.specs.Unique.{Left-out, Certified, unchosen, plan-out}
-use Rattle.theory.specs.Slack.{slack, idle, rows-num, slack-is, tight-least, least-tight, mark-idle, mark-rows}
-use Rattle.theory.specs.Members.{Rows, of-rows-ticket, of-rows-fine, found-member, member?, in-plan-is}
+use Rattle.theory.specs.Slack.{slack, of-blanks, rows-num, slack-is, tight-least, least-tight, mark-idle, mark-rows}
+use Rattle.theory.specs.Members.{Rows-of-plan, of-rows-ticket, of-rows-fine, found-member, member?, in-plan-is}
 use Rattle.theory.specs.Substitute.{later-none, score-none}
 use Rattle.theory.specs.Best.{heaviest-beats, ordinary-is}
 use Rattle.theory.specs.Close.{after-slot, closed, sent-gone}
@@ -36,17 +36,17 @@ pub record Near (r : Round) (z : ℕ) : Type 0 where
   pub free : (u : ℕ) → z ≤ u → u ≤ r .last → num 0 (suc u) (r .rows) ≤ num 0 z (r .rows) + (u - z)
 
 -- NOTHING LEFT OUT: all rows fit, so they are the plan's
-pub chosen-all : (xs : List Row) → (chosen (replicate (length xs) true) xs ≡ xs) × (unchosen (replicate (length xs) true) xs ≡ [])
+pub all-true-chosen : (xs : List Row) → (chosen (replicate (length xs) true) xs ≡ xs) × (unchosen (replicate (length xs) true) xs ≡ [])
 unfolding chosen unchosen
-chosen-all [] = (refl, refl)
-chosen-all (x ∷ xs) = (ap (λ (zs : List Row). x ∷ zs) (chosen-all xs .0), chosen-all xs .1)
+all-true-chosen [] = (refl, refl)
+all-true-chosen (x ∷ xs) = (ap (λ (zs : List Row). x ∷ zs) (all-true-chosen xs .0), all-true-chosen xs .1)
 
 pub all-certified : (r : Round) → feasible r (r .rows) ≡ true → Certified r (replicate (length (r .rows)) true)
 all-certified r h =
     record {
       long = length-replicate (length (r .rows)) true;
-      fits = ap (feasible r) (chosen-all (r .rows) .0) ∙ h;
-      out = subst (λ (zs : List Row). All (Left-out r (chosen (replicate (length (r .rows)) true) (r .rows))) zs) (sym (chosen-all (r .rows) .1)) tt;
+      fits = ap (feasible r) (all-true-chosen (r .rows) .0) ∙ h;
+      out = subst (λ (zs : List Row). All (Left-out r (chosen (replicate (length (r .rows)) true) (r .rows))) zs) (sym (all-true-chosen (r .rows) .1)) tt;
     }
 
 pub near-all : (r : Round) (z : ℕ) → Near r z → num 0 z (r .rows) ≤ z - r .slot → feasible r (r .rows) ≡ true
@@ -57,8 +57,8 @@ near-all r z k h =
           omega (arith, k .free (e - 1) (omega (arith, c .1)) (omega (arith, b, c .1)), ap (λ v. num 0 v (r .rows)) d, h, c .1, k .from)
     ])
 
-pub idle-light : (w e : ℕ) (x : Row) → (x .ticket ≡ 0 → x .weight < w) → idle (below w e) x ≡ 0
-unfolding idle
+pub idle-light : (w e : ℕ) (x : Row) → (x .ticket ≡ 0 → x .weight < w) → of-blanks (below w e) x ≡ 0
+unfolding of-blanks
 idle-light w e x h = elim (eqb? (x .ticket) 0) [ inl a ↦ rw (a .0) (below-light w e x (h (a .1))) | inr a ↦ rw (a .0) ]
 
 -- starts of segments are one
@@ -72,7 +72,7 @@ start-same r ps d a b s t = omega (arith, half a b s t, half b a t s)
       | inr h ↦ absurd (s .none u (omega (arith, h .1)) (omega (arith, t .by)) (t .edge))
     ]
 
-module _ (r : Round) (f : Fine r) (rs : List Row) (c : Rows r rs) where
+module _ (r : Round) (f : Fine r) (rs : List Row) (c : Rows-of-plan r rs) where
   pub rows-le : (μ : Row → ℕ) → sum μ rs ≤ sum μ (r .rows)
   unfolding planned
   rows-le μ = omega (arith, c .same μ, planned-same r f μ, sum-chosen μ (flags (plan r) (r .rows)) (r .rows))
@@ -87,16 +87,16 @@ module _ (r : Round) (f : Fine r) (rs : List Row) (c : Rows r rs) where
         arith,
         rows-num r f rs (c .same) 1 e,
         num-weight 0 1 e (omega arith) rs,
-        sum-none (idle (below 1 e)) (plan r) (all-of-in (λ x. idle (below 1 e) x ≡ 0) (plan r) (λ x i. light x i)),
+        sum-none (of-blanks (below 1 e)) (plan r) (all-of-in (λ x. of-blanks (below 1 e) x ≡ 0) (plan r) (λ x i. light x i)),
       )
     where
-      light : (x : Row) → In x (plan r) → idle (below 1 e) x ≡ 0
+      light : (x : Row) → In x (plan r) → of-blanks (below 1 e) x ≡ 0
       light x i = idle-light 1 e x (λ t. elim (member? r f rs c x i) [
         | inl a ↦ omega (arith, blank-weight x a)
         | inr a ↦ absurd (omega (arith, t, of-rows-ticket r f rs c x a))
       ])
 
-module _ (r : Round) (f : Fine r) (rs : List Row) (c : Rows r rs) (z : ℕ) (k : Near r z) where
+module _ (r : Round) (f : Fine r) (rs : List Row) (c : Rows-of-plan r rs) (z : ℕ) (k : Near r z) where
   -- SLACK from it on
   pub near-slack : (u : ℕ) → z ≤ u → u ≤ r .last → 1 ≤ slack r rs u
   near-slack u h i =
@@ -196,7 +196,7 @@ module _ (r : Round) (f : Fine r) (rs : List Row) (c : Rows r rs) (z : ℕ) (k :
       ]
 
   -- and there is one
-  pub near-after : (s : ℕ) → r .slot ≤ s → s < z → (tight-after r (plan r) s < z) × Next r rs s (tight-after r (plan r) s)
+  pub near-after : (s : ℕ) → r .slot ≤ s → s < z → (tight-after r (plan r) s < z) × Next-tight r rs s (tight-after r (plan r) s)
   near-after s h i =
       let e = tight-after r (plan r) s in
       let n = next r (plan r) s (omega (arith, i, k .by)) (plan-full r f) in

@@ -13,7 +13,7 @@ use Rattle.rules.specs.Plan.{plan, substitute, in-plan, listed}
 use Rattle.rules.specs.Table.{rows-in, round-in, table-refusal}
 use Rattle.rules.specs.Calls.{Reply, refused, ticket, amount, blank-due, number-of}
 use Rattle.rules.specs.Calls.{Test, _⇒_, first-of, over, first}
-use Rattle.rules.specs.Looking.{with-ticket, stand-in, substitute-answer, Shown, list-refusal, list-answer, View, the-plan, shows}
+use Rattle.rules.specs.Looking.{with-ticket, substitute-reply, substitute-answer, Shown, list-refusal, list-answer, View, the-plan, shows}
 use Rattle.rules.specs.Conditions.{row-at, Bytes, No-row, Not-planned, substitute-given, list-given, used-in, Past, _gives_}
 use Rattle.rules.specs.Demands.{Refusals}
 use Rattle.theory.specs.Tests.{either, eqb?}
@@ -22,13 +22,13 @@ use Rattle.theory.specs.Soundness.{row-in, row-there, row-next}
 use Rattle.theory.specs.Checks.{Decides, less?, ground, given, past, table-given, calls-given}
 
 -- 10 AND 11: rows by their places in the table
-pub row-member : (t : List ℕ) (k i j : ℕ) → i ≤ j → j < i + k → In (row-in t j) (rows-in k (drop (row-at i) t))
+pub row-in-rows : (t : List ℕ) (k i j : ℕ) → i ≤ j → j < i + k → In (row-in t j) (rows-in k (drop (row-at i) t))
 unfolding rows-in
-row-member t zero i j a b = absurd (omega arith)
-row-member t (suc k) i j a b =
+row-in-rows t zero i j a b = absurd (omega arith)
+row-in-rows t (suc k) i j a b =
     elim (eqb? i j) [
       | inl e ↦ inl (ap (row-in t) (sym (e .1)) ∙ sym (row-there t i))
-      | inr e ↦ let n = e .1 in inr (rw (row-next t i) (row-member t k (suc i) j (omega arith) (omega arith)))
+      | inr e ↦ let n = e .1 in inr (rw (row-next t i) (row-in-rows t k (suc i) j (omega arith) (omega arith)))
     ]
 
 pub in-rows-at : (t : List ℕ) (k i : ℕ) (x : Row) → In x (rows-in k (drop (row-at i) t)) → (j : ℕ) × (j < i + k) × (x ≡ row-in t j)
@@ -39,16 +39,16 @@ in-rows-at t (suc k) i x (inr m) =
     let q = in-rows-at t k (suc i) x (rw (row-next t i) at m) in (q .0, omega (arith, q .1), q .2)
 
 -- what is found under a ticket
-abbrev pub Found : (ticket : ℕ) → List Row → Option Row → Type 0
-Found k xs none = (x : Row) → In x xs → x .ticket ≡ k → ⊥
-Found k xs (some y) = In y xs × (y .ticket ≡ k)
+abbrev pub Found-under : (ticket : ℕ) → List Row → Option Row → Type 0
+Found-under k xs none = (x : Row) → In x xs → x .ticket ≡ k → ⊥
+Found-under k xs (some y) = In y xs × (y .ticket ≡ k)
 
-pub found-later : (k : ℕ) (x : Row) (xs : List Row) (o : Option Row) → (x .ticket ≡ k → ⊥) → Found k xs o → Found k (x ∷ xs) o
+pub found-later : (k : ℕ) (x : Row) (xs : List Row) (o : Option Row) → (x .ticket ≡ k → ⊥) → Found-under k xs o → Found-under k (x ∷ xs) o
 found-later k x xs none n f =
     λ y m h. elim m [ inl e ↦ n (ap (λ (z : Row). z .ticket) (sym e) ∙ h) | inr l ↦ f y l h ]
 found-later k x xs (some y) n f = (inr (f .0), f .1)
 
-pub ticket-found : (k : ℕ) (xs : List Row) → Found k xs (with-ticket k xs)
+pub ticket-found : (k : ℕ) (xs : List Row) → Found-under k xs (with-ticket k xs)
 unfolding with-ticket
 ticket-found k [] = λ x m h. m
 ticket-found k (x ∷ xs) =
@@ -65,14 +65,14 @@ abbrev pub unplanned : Round → Option Row → Bool
 unplanned r none = true
 unplanned r (some x) = not (in-plan x (plan r))
 
-pub missing? : (k : ℕ) (t : List ℕ) (o : Option Row) → Found k (round-in t .rows) o → Decides (missing o) (No-row k t)
+pub missing? : (k : ℕ) (t : List ℕ) (o : Option Row) → Found-under k (round-in t .rows) o → Decides (missing o) (No-row k t)
 unfolding round-in round row
-missing? k t none f = inl (refl, λ i h e. f (row-in t i) (row-member t (used-in t) 0 i (omega arith) (omega arith)) e)
+missing? k t none f = inl (refl, λ i h e. f (row-in t i) (row-in-rows t (used-in t) 0 i (omega arith) (omega arith)) e)
 missing? k t (some y) f =
     let q = in-rows-at t (used-in t) 0 y (f .0) in
     inr (refl, λ n. n (q .0) (omega (arith, q .1)) (ap (λ (z : Row). z .ticket) (sym (q .2)) ∙ f .1))
 
-pub unplanned? : (k : ℕ) (t : List ℕ) (o : Option Row) → Found k (round-in t .rows) o → Decides (unplanned (round-in t) o) (Not-planned k t)
+pub unplanned? : (k : ℕ) (t : List ℕ) (o : Option Row) → Found-under k (round-in t .rows) o → Decides (unplanned (round-in t) o) (Not-planned k t)
 unplanned? k t none f = inl (refl, λ x m e. absurd (f x m e))
 unplanned? k t (some y) f =
     elim (either (in-plan y (plan (round-in t)))) [
@@ -81,8 +81,8 @@ unplanned? k t (some y) f =
     ]
 
 -- THE NUMBER of a reply
-pub stand-in-number : (r : Round) (o : Option Row) → number-of (stand-in r o) ≡ cond (missing o) 10 (cond (unplanned r o) 11 0)
-unfolding stand-in number-of
+pub stand-in-number : (r : Round) (o : Option Row) → number-of (substitute-reply r o) ≡ cond (missing o) 10 (cond (unplanned r o) 11 0)
+unfolding substitute-reply number-of
 stand-in-number r none = refl
 stand-in-number r (some x) = let s = substitute r (plan r) x in go (in-plan x (plan r)) (eqb (s .ticket) 0) (s .due) (s .ticket)
   where
@@ -100,10 +100,10 @@ unfolding first
 first-zero n = elim (eqb? n 0) [ inl e ↦ rw (e .0) (sym (e .1)) | inr e ↦ rw (e .0) ]
 
 -- 5 after 2 and 3, before the rest
-pub first-past : (a : ℕ) (r : Round) (xs : List Test) →
+pub past-first : (a : ℕ) (r : Round) (xs : List Test) →
     first a (first (first-of (over (r .slot) (r .last) ∷ [])) (first-of xs)) ≡ first a (first-of (over (r .slot) (r .last) ∷ xs))
 unfolding first
-first-past a r xs = elim (either (ltb (r .last) (r .slot))) [ inl e ↦ rw e | inr e ↦ rw e ]
+past-first a r xs = elim (either (ltb (r .last) (r .slot))) [ inl e ↦ rw e | inr e ↦ rw e ]
 
 pub first-first : (a b z : ℕ) → first (first a b) z ≡ first a (first b z)
 unfolding first
@@ -120,10 +120,10 @@ substitute-number k t =
     let r = round-in t in
     let o = with-ticket k (r .rows) in
     let n = first-of (over (r .slot) (r .last) ∷ []) in
-    number-first (first (table-refusal t) n) (stand-in r o)
-    ∙ first-first (table-refusal t) n (number-of (stand-in r o))
+    number-first (first (table-refusal t) n) (substitute-reply r o)
+    ∙ first-first (table-refusal t) n (number-of (substitute-reply r o))
     ∙ ap (λ (m : ℕ). first (table-refusal t) (first n m)) (stand-in-number r o)
-    ∙ first-past (table-refusal t) r (substitute-tests r o)
+    ∙ past-first (table-refusal t) r (substitute-tests r o)
 
 pub substitute-is-given : (k : ℕ) (t : List ℕ) → Bytes t → substitute-given k t (number-of (substitute-answer k t))
 unfolding substitute-given
@@ -144,7 +144,7 @@ pub list-is-given : (v : View) (n : ℕ) (t : List ℕ) → Bytes t → list-giv
 unfolding list-given list-refusal shows
 list-is-given the-plan n t h =
     let m = length (listed (round-in t)) in
-    let e = list-number (shows the-plan) t n ∙ first-past (table-refusal t) (round-in t) ((ltb n m ⇒ 12) ∷ []) in
+    let e = list-number (shows the-plan) t n ∙ past-first (table-refusal t) (round-in t) ((ltb n m ⇒ 12) ∷ []) in
     rw e (table-given t h ((Past t gives 5) ∷ ((n < m) gives 12) ∷ []) _ (given (past t ∷ ground 12 (ltb n m) (n < m) (λ e. less? n m) ∷ [])))
 
 pub refusals : Refusals

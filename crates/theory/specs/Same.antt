@@ -19,7 +19,7 @@ use Rattle.theory.specs.Feas.{below, num, below-yes, Feas}
 use Rattle.theory.specs.Bounds.{Row-fine}
 use Rattle.theory.specs.Full.{plan-members, Fine, Rising, blanks, outside, plan-feas, plan-sum, plan-due}
 use Rattle.theory.specs.Change.{rising-same, rising-above, in-sum, not-in-plan}
-use Rattle.theory.specs.Times.{is?, ticks, no-ticks, rising-ticks, apart-of, rank-due, in-slots, slots-of, rank, all-of-chosen, sum-rows-only, all-rows-only, plan-ticks}
+use Rattle.theory.specs.Times.{is?, ticks, no-ticks, rising-ticks, apart-of, rank-due, in-slots, slots-of, row-rank, all-of-chosen, sum-rows-only, all-rows-only, plan-ticks}
 
 -- THE SAME ROWS in any order
 abbrev pub Same : List Row → List Row → Type 0
@@ -240,7 +240,7 @@ pub goes-in-time : (r : Round) (xs : List Row) → Feas r xs → All (λ x. (r .
     ((k : ℕ) → 1 ≤ k → sum (ticks k) xs ≤ 1) → in-time (r .slot) xs (slots-of (r .slot) xs xs) ≡ true
 goes-in-time r q g a b t =
     in-slots (r .slot) q q (all-of-in (λ y. In y q) q (λ y i. i)) (apart-of q t b)
-    (all-of-in (λ x. r .slot + rank x q ≤ x .due) q (λ x i.
+    (all-of-in (λ x. r .slot + row-rank x q ≤ x .due) q (λ x i.
     let b = all-in (λ x. (r .slot ≤ x .due) × (x .due ≤ r .last)) x q a i in
     omega (arith, b .0, rank-due x q i, g (suc (x .due)) (omega (arith, b .0)) (omega (arith, b .1)))))
 

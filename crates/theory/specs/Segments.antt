@@ -15,7 +15,7 @@ use Rattle.theory.specs.Full.{Fine, plan-full}
 use Rattle.theory.specs.Marks.{Tight-in, next}
 use Rattle.theory.specs.Send.{next-by, between-count}
 use Rattle.theory.specs.Score.{score-of}
-use Rattle.theory.specs.Members.{Rows, found-member}
+use Rattle.theory.specs.Members.{Rows-of-plan, found-member}
 use Rattle.theory.specs.Substitute.{later-row, later-none, score-first, score-sub, score-none}
 use Rattle.theory.specs.Best.{first-same, later-same, heaviest-beats}
 use Rattle.theory.specs.Near.{Near, near-is-tight, near-next, near-start, near-mark-least}
@@ -29,7 +29,7 @@ pub record Segment (r : Round) (rs : List Row) (b e : ℕ) : Type 0 where
   pub end : num 0 (suc e) rs ≡ suc e - r .slot
   pub none : (u : ℕ) → b ≤ u → u < e → num 0 (suc u) rs ≢ suc u - r .slot
 
-module _ (r : Round) (f : Fine r) (o : r .slot ≤ r .last) (rs : List Row) (c : Rows r rs) (z : ℕ) (k : Near r z) (b e : ℕ) (near : e < z)
+module _ (r : Round) (f : Fine r) (o : r .slot ≤ r .last) (rs : List Row) (c : Rows-of-plan r rs) (z : ℕ) (k : Near r z) (b e : ℕ) (near : e < z)
     (s : Segment r rs b e) where
   pub segment-end : (d : ℕ) → b ≤ d → d ≤ e → tight-after r (plan r) d ≡ e
   segment-end d h i = near-next r f rs c z k d e (omega (arith, s .low, h)) i near (s .end) (λ u a v t. s .none u (omega (arith, h, a)) v t)
@@ -53,8 +53,8 @@ module _ (r : Round) (f : Fine r) (o : r .slot ≤ r .last) (rs : List Row) (c :
       omega (arith, h, next-by r (plan r) (r .slot) (tight-after r (plan r) (r .slot)) (b - 1) n (omega (arith, h)) t)
 
   -- each has a row
-  pub segment-some : (y : Row) × (In y rs) × (b ≤ y .due) × (y .due ≤ e)
-  segment-some =
+  pub segment-has-row : (y : Row) × (In y rs) × (b ≤ y .due) × (y .due ≤ e)
+  segment-has-row =
       let y = between-count b (suc e) rs (omega (arith, s .edge, s .end, s .low, s .by)) in
       (y .0, y .1, y .2, omega (arith, y .3))
 
@@ -107,7 +107,7 @@ module _ (r : Round) (f : Fine r) (o : r .slot ≤ r .last) (rs : List Row) (c :
 
 -- BY COUNTS of the plan's rows in buckets: b and e are slots from the current one on
 pub segment-made : (r : Round) (f : Fine r) (top q z : ℕ) (span : r .slot + top ≤ r .last) (enough : (top ≡ length (r .rows)) ⊎ (r .slot + top ≡ r .last))
-    (w : Sweep (λ s. sum (under (r .slot) top s) (r .rows)) (suc top) 0 q z) (rs : List Row) → Rows r rs → (b e : ℕ) → b ≤ e → e < z →
+    (w : Sweep (λ s. sum (under (r .slot) top s) (r .rows)) (suc top) 0 q z) (rs : List Row) → Rows-of-plan r rs → (b e : ℕ) → b ≤ e → e < z →
     sum (under (r .slot) top b) rs ≡ b → sum (under (r .slot) top (suc e)) rs ≡ suc e →
     ((u : ℕ) → b ≤ u → u < e → sum (under (r .slot) top (suc u)) rs ≢ suc u) → Segment r rs (r .slot + b) (r .slot + e)
 segment-made r f top q z span enough w rs c b e h k i j g =

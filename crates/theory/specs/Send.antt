@@ -17,7 +17,7 @@ use Rattle.theory.specs.Sum.{sum}
 use Rattle.theory.specs.All.{blank-ticket, all-of-in}
 use Rattle.theory.specs.Feas.{num, below-yes, below-late}
 use Rattle.theory.specs.Full.{plan-member, Fine, plan-feas, plan-full}
-use Rattle.theory.specs.Marks.{Tight-in, Next, next, box, box?, filled, Marked}
+use Rattle.theory.specs.Marks.{Tight-in, Next-tight, next, box, box?, rows-fill, Mark-at-least}
 use Rattle.theory.specs.Change.{without-sum, rising-first, without-none}
 
 -- choices from a list
@@ -36,16 +36,16 @@ best-in r [] h = absurd (omega arith)
 best-in r (p ∷ ps) h = best-from-in r (p ∷ ps) ps p (p ∷ ps) (inl refl) (all-of-in (λ x. In x (p ∷ ps)) ps (λ x i. inr i))
 
 -- a substitute is a blank at the segment's start, or a row outside the plan due from there on
-abbrev pub Stand-in : Round → List Row → ℕ → List Row → Row → Row → Type 0
-Stand-in r ps a all b x = (x ≡ b) ⊎ ((In x all) × (a ≤ x .due) × (in-plan x ps ≡ false))
+abbrev pub Waits-outside : Round → List Row → ℕ → List Row → Row → Row → Type 0
+Waits-outside r ps a all b x = (x ≡ b) ⊎ ((In x all) × (a ≤ x .due) × (in-plan x ps ≡ false))
 
-pub outside-in : (r : Round) (ps : List Row) (a : ℕ) (all : List Row) (b : Row) (xs : List Row) (x : Row) → Stand-in r ps a all b x →
-    All (λ y. In y all) xs → Stand-in r ps a all b (heaviest-outside a xs ps x)
+pub outside-in : (r : Round) (ps : List Row) (a : ℕ) (all : List Row) (b : Row) (xs : List Row) (x : Row) → Waits-outside r ps a all b x →
+    All (λ y. In y all) xs → Waits-outside r ps a all b (heaviest-outside a xs ps x)
 unfolding heaviest-outside
 outside-in r ps a all b [] x s h = s
 outside-in r ps a all b (y ∷ ys) x s h =
     outside-in r ps a all b ys (cond (leb a (y .due) && (not (in-plan y ps) && heavier y x)) y x)
-    (both-ways (Stand-in r ps a all b) (leb a (y .due) && (not (in-plan y ps) && heavier y x)) y x
+    (both-ways (Waits-outside r ps a all b) (leb a (y .due) && (not (in-plan y ps) && heavier y x)) y x
     (λ e.
     let c = and-true (leb a (y .due)) (not (in-plan y ps) && heavier y x) e in
     let d = and-true (not (in-plan y ps)) (heavier y x) (c .1) in
@@ -54,22 +54,22 @@ outside-in r ps a all b (y ∷ ys) x s h =
     (h .1)
 
 -- the heaviest between two slots is a member between them, where a member of some weight is there
-abbrev pub Between : ℕ → ℕ → List Row → Row → Type 0
-Between a b ps x = (In x ps) × (a < x .due) × (x .due ≤ b)
+abbrev pub Member-between : ℕ → ℕ → List Row → Row → Type 0
+Member-between a b ps x = (In x ps) × (a < x .due) × (x .due ≤ b)
 
 pub between-true : (a b : ℕ) (y x : Row) (all : List Row) → In y all → ((ltb a (y .due) && leb (y .due) b) && heavier y x) ≡ true →
-    Between a b all y
+    Member-between a b all y
 between-true a b y x all i e =
     let c = and-true (ltb a (y .due) && leb (y .due) b) (heavier y x) e in
     let d = and-true (ltb a (y .due)) (leb (y .due) b) (c .0) in
     (i, ltb-true a (y .due) (d .0), leb-true (y .due) b (d .1))
 
-pub between-keeps : (a b : ℕ) (all xs : List Row) (x : Row) → Between a b all x → All (λ y. In y all) xs → Between a b all (heaviest-between a b xs x)
+pub between-keeps : (a b : ℕ) (all xs : List Row) (x : Row) → Member-between a b all x → All (λ y. In y all) xs → Member-between a b all (heaviest-between a b xs x)
 unfolding heaviest-between
 between-keeps a b all [] x s h = s
 between-keeps a b all (y ∷ ys) x s h =
     between-keeps a b all ys (cond ((ltb a (y .due) && leb (y .due) b) && heavier y x) y x)
-    (both-ways (Between a b all) ((ltb a (y .due) && leb (y .due) b) && heavier y x) y x
+    (both-ways (Member-between a b all) ((ltb a (y .due) && leb (y .due) b) && heavier y x) y x
     (λ e. between-true a b y x all (h .0) e) (λ _. s))
     (h .1)
 
@@ -82,16 +82,16 @@ pub between-test : (a b : ℕ) (z x : Row) → a < z .due → z .due ≤ b → 1
 between-test a b z x h k m l = rw (lt-ltb a (z .due) h, le-leb (z .due) b k) (heavier-blank z x m l)
 
 pub between-finds : (a b : ℕ) (all xs : List Row) (x : Row) → x .weight ≤ 0 → All (λ y. In y all) xs →
-    All (λ y. y .due ≤ b → 1 ≤ y .weight) xs → (y : Row) → In y xs → a < y .due → y .due ≤ b → Between a b all (heaviest-between a b xs x)
+    All (λ y. y .due ≤ b → 1 ≤ y .weight) xs → (y : Row) → In y xs → a < y .due → y .due ≤ b → Member-between a b all (heaviest-between a b xs x)
 unfolding heaviest-between
 between-finds a b all [] x l h k y i c d = absurd i
 between-finds a b all (z ∷ zs) x l h k y (inl q) c d =
     between-keeps a b all zs (cond ((ltb a (z .due) && leb (z .due) b) && heavier z x) z x)
-    (both-ways (Between a b all) ((ltb a (z .due) && leb (z .due) b) && heavier z x) z x (λ e. between-true a b z x all (h .0) e)
+    (both-ways (Member-between a b all) ((ltb a (z .due) && leb (z .due) b) && heavier z x) z x (λ e. between-true a b z x all (h .0) e)
     (λ e. absurd (true≢false (sym (between-test a b z x (rw q at c) (rw q at d) (k .0 (rw q at d)) l) ∙ e))))
     (h .1)
 between-finds a b all (z ∷ zs) x l h k y (inr j) c d =
-    both-ways (λ u. Between a b all (heaviest-between a b zs u)) ((ltb a (z .due) && leb (z .due) b) && heavier z x) z x
+    both-ways (λ u. Member-between a b all (heaviest-between a b zs u)) ((ltb a (z .due) && leb (z .due) b) && heavier z x) z x
     (λ e. between-keeps a b all zs z (between-true a b z x all (h .0) e) (h .1))
     (λ _. between-finds a b all zs x l (h .1) (k .1) y j c d)
 
@@ -109,7 +109,7 @@ between-count v e (x ∷ xs) h =
     ]
 
 -- tight slots
-pub next-by : (r : Round) (ps : List Row) (s e u : ℕ) → Next r ps s e → s ≤ u → Tight-in r ps u → e ≤ u
+pub next-by : (r : Round) (ps : List Row) (s e u : ℕ) → Next-tight r ps s e → s ≤ u → Tight-in r ps u → e ≤ u
 next-by r ps s e u n h t = elim (leb? e u) [ inl a ↦ a .1 | inr a ↦ absurd (n .first u h (a .1) t) ]
 
 -- 1 for a slot from v on and before e
@@ -134,7 +134,7 @@ gone r g μ p (inl i) = omega (arith, without-sum μ p (r .rows) (rising-first 1
 
 -- AN ORDINARY STEP
 pub ordinary-fills : (r : Round) → Fine r → r .slot ≤ r .last → (p : Row) → In p (plan r) → p .due ≤ first-end r (plan r) →
-    (w d e : ℕ) → Marked r w d e → (v : ℕ) → suc (r .slot) ≤ v → v ≤ suc e →
+    (w d e : ℕ) → Mark-at-least r w d e → (v : ℕ) → suc (r .slot) ≤ v → v ≤ suc e →
     suc e - v ≤ sum (box w v (suc e)) (without (p .ticket) (r .rows))
 unfolding first-end
 ordinary-fills r g o p i a w d e m zero h k = omega arith
@@ -148,6 +148,6 @@ ordinary-fills r g o p i a w d e m (suc u) h k =
             | inl c ↦ c .1
             | inr c ↦ absurd (n .first u (omega arith) (omega arith) (omega arith))
           ] in
-          omega (arith, filled r g w (suc e) (suc u) 1 (m .some) (omega arith) k (m .full) t)
-      | inr b ↦ omega (arith, filled r g w (suc e) (suc u) 0 (m .some) (omega arith) k (m .full) (omega arith))
+          omega (arith, rows-fill r g w (suc e) (suc u) 1 (m .some) (omega arith) k (m .full) t)
+      | inr b ↦ omega (arith, rows-fill r g w (suc e) (suc u) 0 (m .some) (omega arith) k (m .full) (omega arith))
     ]

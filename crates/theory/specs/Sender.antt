@@ -1,4 +1,4 @@
--- Sending on a sound table, what is answered and every byte left: send-accepted, answer-sent, left-sent, table-parts.
+-- Sending on a sound table, what is answered and every byte left: send-accepted, answer-sent, sending-leaves, table-parts.
 use mathlib.Core.Path.{_≡_, sym, _∙_}
 use mathlib.Core.Bool.{cond}
 use mathlib.Core.List.{List, _++_}
@@ -27,9 +27,9 @@ module _ (t : List ℕ) (s : table-refusal t ≡ 0) (o : round-in t .slot ≤ ro
   answer-sent p e = rw (send-accepted, e)
 
   -- WHAT IS LEFT
-  pub left-sent : left (acting sending) t ≡ table (sent (round-in t))
+  pub sending-leaves : left (acting sending) t ≡ table (sent (round-in t))
   unfolding left leaves deed act
-  left-sent = rw send-accepted
+  sending-leaves = rw send-accepted
 
 -- the table's own parts
 pub table-parts : (t : List ℕ) → table-refusal t ≡ 0 →

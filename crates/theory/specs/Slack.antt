@@ -14,7 +14,7 @@ use Rattle.theory.specs.Sum.{sum, sum-le}
 use Rattle.theory.specs.All.{blank-weight, all-map, all-in, all-append, all-sorted, all-replicate}
 use Rattle.theory.specs.Feas.{below, num, below-yes, below-late, below-mono, below-weight, num-mono, due-below}
 use Rattle.theory.specs.Full.{plan-member, Fine, blanks, pool, outside, pool-from, feas-none, plan-feas, plan-sum, plan-full, blanks-at}
-use Rattle.theory.specs.Marks.{Tight-in, tight?, Next, next, next-later, least-above, least-below, least-all, all-heavy, heavy-num, mark-all}
+use Rattle.theory.specs.Marks.{Tight-in, tight?, Next-tight, next, next-later, least-above, least-below, least-all, all-heavy, num-heavy-by, mark-all}
 use Rattle.theory.specs.Border.{Of, Not, Downward, Border, border, within, within-yes, within-no, many}
 use Rattle.theory.specs.Same.{Same, row-ticket}
 
@@ -50,7 +50,7 @@ slack-some (suc n) r rs s =
 
 -- the first slot without slack, as the first tight slot of the rows alone; one past the last if there is none
 pub search : (n s : ℕ) (r : Round) (ps : List Row) → s + n ≡ suc (r .last) →
-    Next r ps s (tight-from n s r ps) ⊎ ((u : ℕ) → s ≤ u → u ≤ r .last → Tight-in r ps u → ⊥)
+    Next-tight r ps s (tight-from n s r ps) ⊎ ((u : ℕ) → s ≤ u → u ≤ r .last → Tight-in r ps u → ⊥)
 unfolding tight-from
 search zero s r ps e = inr (λ u a b. absurd (omega arith))
 search (suc n) s r ps e = elim (tight? r ps s) [
@@ -62,27 +62,27 @@ search (suc n) s r ps e = elim (tight? r ps s) [
 ]
 
 -- a measure of blanks alone
-unfoldable pub idle : (Row → ℕ) → Row → ℕ
-idle μ x = cond (eqb (x .ticket) 0) (μ x) 0
+unfoldable pub of-blanks : (Row → ℕ) → Row → ℕ
+of-blanks μ x = cond (eqb (x .ticket) 0) (μ x) 0
 
-pub idle-sum : (μ : Row → ℕ) (xs : List Row) → sum μ xs ≡ sum μ (rows-only xs) + sum (idle μ) xs
-unfolding rows-only idle
+pub idle-sum : (μ : Row → ℕ) (xs : List Row) → sum μ xs ≡ sum μ (rows-only xs) + sum (of-blanks μ) xs
+unfolding rows-only of-blanks
 idle-sum μ [] = refl
 idle-sum μ (x ∷ xs) = elim (either (eqb (x .ticket) 0)) [
   | inl h ↦ rw h (omega (arith, idle-sum μ xs))
   | inr h ↦ rw h (omega (arith, idle-sum μ xs))
 ]
 
-pub idle-le : (μ ν : Row → ℕ) → ((x : Row) → μ x ≤ ν x) → (x : Row) → idle μ x ≤ idle ν x
-unfolding idle
+pub idle-le : (μ ν : Row → ℕ) → ((x : Row) → μ x ≤ ν x) → (x : Row) → of-blanks μ x ≤ of-blanks ν x
+unfolding of-blanks
 idle-le μ ν h x = elim (either (eqb (x .ticket) 0)) [ inl e ↦ rw e (h x) | inr e ↦ rw e (omega arith) ]
 
 -- the plan's blanks due before e
 abbrev pub idlers : Round → ℕ → ℕ
-idlers r e = sum (idle (below 0 e)) (plan r)
+idlers r e = sum (of-blanks (below 0 e)) (plan r)
 
 pub idlers-mono : (r : Round) (v e : ℕ) → v ≤ e → idlers r v ≤ idlers r e
-idlers-mono r v e h = sum-le (idle (below 0 v)) (idle (below 0 e)) (idle-le (below 0 v) (below 0 e) (below-mono 0 v e h)) (plan r)
+idlers-mono r v e h = sum-le (of-blanks (below 0 v)) (of-blanks (below 0 e)) (idle-le (below 0 v) (below 0 e) (below-mono 0 v e h)) (plan r)
 
 -- ROWS AND EARLY BLANKS come first in the run
 unfoldable pub early : (s : ℕ) → Row → Bool
@@ -145,12 +145,12 @@ early-border r f s =
     (down-blanks s _ _ _))
     (pool-from r f) tt tt (feas-none r) (r .slot) (omega arith) (f .time) (omega arith)
 
-pub early-many : (s m : ℕ) → s < m → (xs : List Row) → many (early s) m xs ≡ num 0 m (rows-only xs) + sum (idle (below 0 (suc s))) xs
-unfolding rows-only idle
+pub early-many : (s m : ℕ) → s < m → (xs : List Row) → many (early s) m xs ≡ num 0 m (rows-only xs) + sum (of-blanks (below 0 (suc s))) xs
+unfolding rows-only of-blanks
 early-many s m h [] = refl
 early-many s m h (x ∷ xs) = elim (eqb? (x .ticket) 0) [
   | inl k ↦ rw (k .0) (elim (leb? (x .due) s) as (λ _. within (early s) m x + many (early s) m xs ≡
-      num 0 m (rows-only xs) + (below 0 (suc s) x + sum (idle (below 0 (suc s))) xs)) [
+      num 0 m (rows-only xs) + (below 0 (suc s) x + sum (of-blanks (below 0 (suc s))) xs)) [
         | inl l ↦ omega (
           arith,
           early-many s m h xs,
@@ -177,8 +177,8 @@ none-at s m h (x ∷ xs) a = elim (leb? (x .due) s) [
 ]
 
 -- a blank that counts is somewhere
-pub with-blank : (e : ℕ) (xs : List Row) → 1 ≤ sum (idle (below 0 e)) xs → (x : Row) × In x xs × (x .ticket ≡ 0) × (x .due < e)
-unfolding idle
+pub with-blank : (e : ℕ) (xs : List Row) → 1 ≤ sum (of-blanks (below 0 e)) xs → (x : Row) × In x xs × (x .ticket ≡ 0) × (x .due < e)
+unfolding of-blanks
 with-blank e [] h = absurd (omega arith)
 with-blank e (x ∷ xs) h = elim (eqb? (x .ticket) 0) [
   | inl a ↦ elim (ltb? (x .due) e) [
@@ -196,13 +196,13 @@ least-le z xs ys b h =
     all-map {Q = λ x. x .due < suc z → w ≤ x .weight} (λ x (g : x .due ≤ z → w ≤ x .weight) (k : x .due < suc z). g (omega arith)) xs (least-all z xs b) in
     least-above w z ys b (least-below z xs b)
     (all-map {Q = λ x. x .due ≤ z → w ≤ x .weight} (λ x (g : x .due < suc z → w ≤ x .weight) (k : x .due ≤ z). g (omega arith)) ys
-    (all-heavy w (suc z) ys (omega (arith, h w, h 0, heavy-num w (suc z) xs c))))
+    (all-heavy w (suc z) ys (omega (arith, h w, h 0, num-heavy-by w (suc z) xs c))))
 
 pub least-same : (z : ℕ) (xs ys : List Row) (b : ℕ) → ((w : ℕ) → num w (suc z) xs ≡ num w (suc z) ys) → least-weight z xs b ≡ least-weight z ys b
 least-same z xs ys b h = omega (arith, least-le z xs ys b h, least-le z ys xs b (λ w. sym (h w)))
 
 module _ (r : Round) (f : Fine r) (rs : List Row) (same : Same (rows-only (plan r)) rs) where
-  pub rows-num : (w e : ℕ) → num w e (plan r) ≡ num w e rs + sum (idle (below w e)) (plan r)
+  pub rows-num : (w e : ℕ) → num w e (plan r) ≡ num w e rs + sum (of-blanks (below w e)) (plan r)
   rows-num w e = omega (arith, idle-sum (below w e) (plan r), same (below w e))
 
   pub slack-is : (s : ℕ) → r .slot ≤ s → s ≤ r .last → slack r rs s + num 0 (suc s) rs ≡ suc s - r .slot
@@ -287,7 +287,7 @@ module _ (r : Round) (f : Fine r) (rs : List Row) (same : Same (rows-only (plan 
   mark-idle s h k g =
       let e = tight-after r (plan r) s in
       let n = next r (plan r) s k (plan-full r f) in
-      let b : 1 ≤ sum (idle (below 0 (suc e))) (plan r) =
+      let b : 1 ≤ sum (of-blanks (below 0 (suc e))) (plan r) =
       omega (arith, n .tight, n .from, rows-num 0 (suc e), slack-is e (omega (arith, n .from)) (n .by), g e (n .from) (n .by)) in
       let p = with-blank (suc e) (plan r) b in
       let c = all-in (λ x. x .due ≤ e → mark-in r (plan r) s ≤ x .weight) (p .0) (plan r) (mark-all r (plan r) s) (p .1) (omega (arith, p .3)) in
@@ -302,7 +302,7 @@ module _ (r : Round) (f : Fine r) (rs : List Row) (same : Same (rows-only (plan 
   unfolding mark mark-in
   mark-rows s z h i k e g =
       let n = next r (plan r) s (omega arith) (plan-full r f) in
-      let c : sum (idle (below 0 (suc z))) (plan r) ≡ 0 = omega (arith, idlers-most z z (omega arith) (omega arith) k) in
+      let c : sum (of-blanks (below 0 (suc z))) (plan r) ≡ 0 = omega (arith, idlers-most z z (omega arith) (omega arith) k) in
       let t : Tight-in r (plan r) z = omega (arith, slack-is z (omega arith) k, rows-num 0 (suc z)) in
       let a : tight-after r (plan r) s ≤ z = elim (leb? (tight-after r (plan r) s) z) [
         | inl l ↦ l .1
@@ -326,7 +326,7 @@ module _ (r : Round) (f : Fine r) (rs : List Row) (same : Same (rows-only (plan 
         arith,
         rows-num w (suc z),
         c,
-        sum-le (idle (below w (suc z))) (idle (below 0 (suc z))) (idle-le (below w (suc z)) (below 0 (suc z))
+        sum-le (of-blanks (below w (suc z))) (of-blanks (below 0 (suc z))) (idle-le (below w (suc z)) (below 0 (suc z))
             (below-weight 0 w (suc z) (omega arith))) (plan r),
       ))
 

@@ -65,9 +65,9 @@ pub first-none : (a b : ℕ) → first a b ≡ 0 → (a ≡ 0) × (b ≡ 0)
 unfolding first
 first-none a b e = elim (eqb? a 0) [ inl h ↦ (h .1, rw (h .0) at e) | inr h ↦ absurd (h .1 (rw (h .0) at e)) ]
 
-pub opening-fits : (u : Setup) (t : List ℕ) → refusal (opening u) t ≡ 0 → (length-good (length t) ≡ true) × (u .last ≤ most-last)
+pub opening-passes : (u : Setup) (t : List ℕ) → refusal (opening u) t ≡ 0 → (length-good (length t) ≡ true) × (u .last ≤ most-last)
 unfolding refusal table-first
-opening-fits u t e =
+opening-passes u t e =
     let g = length-good (length t) in
     let a = first-none (cond g 0 2) (round-refusal (opening u) (round-in t)) e in (fits g (a .0), opens u (round-in t) (a .1))
   where
@@ -77,7 +77,7 @@ opening-fits u t e =
 
 pub stays-sound : Stays-sound
 unfolding Stays-sound refusal table-first
-stays-sound (opening u) t e = let h = opening-fits u t e in opening-sound u t (h .0) (h .1)
+stays-sound (opening u) t e = let h = opening-passes u t e in opening-sound u t (h .0) (h .1)
 stays-sound (acting a) t e = call-sound (acting a) t (first-none (table-refusal t) _ e .0)
 stays-sound (asking q) t e = call-sound (asking q) t (first-none (table-refusal t) _ e .0)
 
@@ -86,14 +86,14 @@ pub opening-refusal : (s : Setup) (t u : List ℕ) → length t ≡ length u →
 unfolding refusal table-first round-refusal deed
 opening-refusal s t u e = rw e
 
-pub not-refused : (b : Bool) (n : ℕ) → cond b done (refused n) ≡ done → b ≡ true
-not-refused true n e = refl
-not-refused false n e = let z : _≡_ {A = ℕ} 0 1 = cc in absurd (omega arith)
+pub done-when : (b : Bool) (n : ℕ) → cond b done (refused n) ≡ done → b ≡ true
+done-when true n e = refl
+done-when false n e = let z : _≡_ {A = ℕ} 0 1 = cc in absurd (omega arith)
 
 pub opening-alone : Opening-alone
 unfolding Opening-alone answer left says leaves deed round-in round rows-of
 opening-alone s t u e = (
   rw (opening-refusal s t u e),
-  λ a. let b = not-refused (eqb (refusal (opening s) t) 0) _ a in
+  λ a. let b = done-when (eqb (refusal (opening s) t) 0) _ a in
       rw (b, sym (ap (λ (n : ℕ). eqb n 0) (opening-refusal s t u e)) ∙ b, e),
 )

@@ -21,7 +21,7 @@ use Rattle.theory.specs.Close.{closed, sent-ordinary}
 use Rattle.theory.specs.Bounds.{Tail-fine}
 use Rattle.theory.specs.Sane.{good-fine, good-tails}
 use Rattle.theory.specs.SlotOver.{same-over}
-use Rattle.theory.specs.LeapRows.{rows-sent, leap-of}
+use Rattle.theory.specs.LeapRows.{sent-rows-are, leap-of}
 
 -- what goes is a member
 pub goes-in : (r : Round) → Fine r → r .slot ≤ r .last → In (goes r) (plan r)
@@ -35,7 +35,7 @@ ordinary-of r f h =
     let p = goes r in
     let t = suc (r .slot) in
     subst (λ (zs : List Row). Slot-over t (Goes-out r) (Unchanged r) (r .rows) zs)
-    (sym (rows-sent r t (closed t (p .ticket) (r .rows)) (sent-ordinary r f (planned r) (planned-rows r f) p refl h)))
+    (sym (sent-rows-are r t (closed t (p .ticket) (r .rows)) (sent-ordinary r f (planned r) (planned-rows r f) p refl h)))
     (same-over t (p .ticket) (Goes-out r) (Unchanged r) (r .rows) (λ x _ e. search e) (λ x _ n. (n, refl)))
 
 pub makes : (r : Round) → Fine r → r .slot ≤ r .last → Steps-of r

@@ -21,12 +21,12 @@ use Rattle.theory.specs.Times.{sum-less}
 use Rattle.theory.specs.Same.{row-ticket}
 use Rattle.theory.specs.Score.{Bounded, plan-bounded, score-of}
 use Rattle.theory.specs.Select.{plan-selection}
-use Rattle.theory.specs.Slack.{slack, slack-all, tight-is, least-from, idle, idle-le, idlers, idlers-mono, rows-num, slack-is, idlers-most, idlers-least, idlers-is}
-use Rattle.theory.specs.Members.{Rows, of-rows-in, of-rows-fine, found-member, member?, in-plan-is}
+use Rattle.theory.specs.Slack.{slack, slack-all, tight-is, least-from, of-blanks, idle-le, idlers, idlers-mono, rows-num, slack-is, idlers-most, idlers-least, idlers-is}
+use Rattle.theory.specs.Members.{Rows-of-plan, of-rows-in, of-rows-fine, found-member, member?, in-plan-is}
 use Rattle.theory.specs.Top.{lightest, Left-from, outside-top}
 
-pub idle-blank : (μ : Row → ℕ) (x : Row) → x .ticket ≡ 0 → idle μ x ≡ μ x
-unfolding idle
+pub idle-blank : (μ : Row → ℕ) (x : Row) → x .ticket ≡ 0 → of-blanks μ x ≡ μ x
+unfolding of-blanks
 idle-blank μ x e = rw (eq-eqb (x .ticket) 0 e)
 
 pub first-end-from : (r : Round) → Fine r → r .slot ≤ r .last → r .slot ≤ first-end r (plan r)
@@ -71,7 +71,7 @@ pub later-is : (r : Round) (p : Row) → first-end r (plan r) < p .due →
 unfolding substitute
 later-is r p h = rw (lt-leb (p .due) (first-end r (plan r)) h)
 
-module _ (r : Round) (f : Fine r) (rs : List Row) (c : Rows r rs) where
+module _ (r : Round) (f : Fine r) (rs : List Row) (c : Rows-of-plan r rs) where
   -- no blanks are due after a slot and by its next tight one
   pub idlers-level : (s : ℕ) → r .slot ≤ s → s ≤ r .last → idlers r (suc (tight-after r (plan r) s)) ≡ idlers r (suc s)
   idlers-level s h k =
@@ -110,7 +110,7 @@ module _ (r : Round) (f : Fine r) (rs : List Row) (c : Rows r rs) where
         | inl a ↦ absurd (omega (
           arith,
           idlers-level (r .slot) (omega arith) o,
-          sum-less (idle (below 0 (suc (r .slot)))) (idle (below 0 (suc e)))
+          sum-less (of-blanks (below 0 (suc (r .slot)))) (of-blanks (below 0 (suc e)))
               (idle-le (below 0 (suc (r .slot))) (below 0 (suc e)) (below-mono 0 (suc (r .slot)) (suc e) (omega (arith, a .1, h)))) x
               (omega (
                 arith,
@@ -136,7 +136,7 @@ module _ (r : Round) (f : Fine r) (rs : List Row) (c : Rows r rs) where
           arith,
           g,
           first-idlers o,
-          in-sum (idle (below 0 (suc (first-end r (plan r))))) z (plan r) (l .inside),
+          in-sum (of-blanks (below 0 (suc (first-end r (plan r))))) z (plan r) (l .inside),
           idle-blank (below 0 (suc (first-end r (plan r)))) z (blank-ticket z a),
           below-yes 0 (suc (first-end r (plan r))) z (omega arith) (omega (arith, l .by)),
         ))

@@ -18,13 +18,13 @@ use Rattle.theory.specs.Full.{Fine, Rising, blanks, plan-sum}
 use Rattle.theory.specs.Change.{in-sum}
 
 -- SLOTS, NO TWO THE SAME
-abbrev pub Each : (ℕ → Type 0) → List ℕ → Type 0
-Each P [] = Unit {0}
-Each P (s ∷ ss) = P s × Each P ss
+abbrev pub Each-slot : (ℕ → Type 0) → List ℕ → Type 0
+Each-slot P [] = Unit {0}
+Each-slot P (s ∷ ss) = P s × Each-slot P ss
 
-abbrev pub Distinct : List ℕ → Type 0
-Distinct [] = Unit {0}
-Distinct (s ∷ ss) = (member s ss ≡ false) × Distinct ss
+abbrev pub No-slot-twice : List ℕ → Type 0
+No-slot-twice [] = Unit {0}
+No-slot-twice (s ∷ ss) = (member s ss ≡ false) × No-slot-twice ss
 
 -- how many are v; how many are before e
 unfoldable pub is : (v s : ℕ) → ℕ
@@ -41,11 +41,11 @@ pub lt? : (e s : ℕ) → ((lt e s ≡ 1) × (s < e)) ⊎ ((lt e s ≡ 0) × (e 
 unfolding lt
 lt? e s = elim (ltb? s e) [ inl a ↦ inl (rw (a .0), a .1) | inr a ↦ inr (rw (a .0), a .1) ]
 
-abbrev pub tally : (ℕ → ℕ) → List ℕ → ℕ
-tally μ [] = 0
-tally μ (s ∷ ss) = μ s + tally μ ss
+abbrev pub count-slots : (ℕ → ℕ) → List ℕ → ℕ
+count-slots μ [] = 0
+count-slots μ (s ∷ ss) = μ s + count-slots μ ss
 
-pub absent : (v : ℕ) (ss : List ℕ) → member v ss ≡ false → tally (is v) ss ≡ 0
+pub absent : (v : ℕ) (ss : List ℕ) → member v ss ≡ false → count-slots (is v) ss ≡ 0
 unfolding member
 absent v [] e = refl
 absent v (s ∷ ss) e =
@@ -57,7 +57,7 @@ absent v (s ∷ ss) e =
       ]
     ]
 
-pub once : (v : ℕ) (ss : List ℕ) → Distinct ss → tally (is v) ss ≤ 1
+pub once : (v : ℕ) (ss : List ℕ) → No-slot-twice ss → count-slots (is v) ss ≤ 1
 once v [] d = omega arith
 once v (s ∷ ss) d =
     elim (is? v s) [
@@ -65,35 +65,35 @@ once v (s ∷ ss) d =
       | inr a ↦ omega (arith, once v ss (d .1))
     ]
 
-pub tally-suc : (e : ℕ) (ss : List ℕ) → tally (lt (suc e)) ss ≡ tally (lt e) ss + tally (is e) ss
-tally-suc e [] = refl
-tally-suc e (s ∷ ss) =
+pub count-slots-suc : (e : ℕ) (ss : List ℕ) → count-slots (lt (suc e)) ss ≡ count-slots (lt e) ss + count-slots (is e) ss
+count-slots-suc e [] = refl
+count-slots-suc e (s ∷ ss) =
     elim (lt? (suc e) s) [
       | inl a ↦ elim (lt? e s) [
-        | inl b ↦ elim (is? e s) [ inl c ↦ absurd (omega arith) | inr c ↦ omega (arith, tally-suc e ss) ]
-        | inr b ↦ elim (is? e s) [ inl c ↦ omega (arith, tally-suc e ss) | inr c ↦ absurd (omega arith) ]
+        | inl b ↦ elim (is? e s) [ inl c ↦ absurd (omega arith) | inr c ↦ omega (arith, count-slots-suc e ss) ]
+        | inr b ↦ elim (is? e s) [ inl c ↦ omega (arith, count-slots-suc e ss) | inr c ↦ absurd (omega arith) ]
       ]
       | inr a ↦ elim (lt? e s) [
         | inl b ↦ absurd (omega arith)
-        | inr b ↦ elim (is? e s) [ inl c ↦ absurd (omega arith) | inr c ↦ omega (arith, tally-suc e ss) ]
+        | inr b ↦ elim (is? e s) [ inl c ↦ absurd (omega arith) | inr c ↦ omega (arith, count-slots-suc e ss) ]
       ]
     ]
 
-pub tally-none : (t : ℕ) (ss : List ℕ) → Each (λ s. t ≤ s) ss → tally (lt t) ss ≡ 0
-tally-none t [] a = refl
-tally-none t (s ∷ ss) a = elim (lt? t s) [ inl b ↦ absurd (omega (arith, a .0)) | inr b ↦ omega (arith, tally-none t ss (a .1)) ]
+pub count-slots-none : (t : ℕ) (ss : List ℕ) → Each-slot (λ s. t ≤ s) ss → count-slots (lt t) ss ≡ 0
+count-slots-none t [] a = refl
+count-slots-none t (s ∷ ss) a = elim (lt? t s) [ inl b ↦ absurd (omega (arith, a .0)) | inr b ↦ omega (arith, count-slots-none t ss (a .1)) ]
 
-pub few : (t n : ℕ) (ss : List ℕ) → Distinct ss → Each (λ s. t ≤ s) ss → tally (lt (t + n)) ss ≤ n
+pub few : (t n : ℕ) (ss : List ℕ) → No-slot-twice ss → Each-slot (λ s. t ≤ s) ss → count-slots (lt (t + n)) ss ≤ n
 few t zero ss d a =
-    let z : t + 0 ≡ t = omega arith in rw z (omega (arith, tally-none t ss a))
+    let z : t + 0 ≡ t = omega arith in rw z (omega (arith, count-slots-none t ss a))
 few t (suc n) ss d a =
-    let z : t + suc n ≡ suc (t + n) = omega arith in rw z (omega (arith, tally-suc (t + n) ss, once (t + n) ss d, few t n ss d a))
+    let z : t + suc n ≡ suc (t + n) = omega arith in rw z (omega (arith, count-slots-suc (t + n) ss, once (t + n) ss d, few t n ss d a))
 
 -- a set with slots
 pub record Timed (t : ℕ) (xs : List Row) (ss : List ℕ) : Type 0 where
-  pub distinct : Distinct ss
-  pub from : Each (λ s. t ≤ s) ss
-  pub count : (e : ℕ) → num 0 e xs ≤ tally (lt e) ss
+  pub distinct : No-slot-twice ss
+  pub from : Each-slot (λ s. t ≤ s) ss
+  pub count : (e : ℕ) → num 0 e xs ≤ count-slots (lt e) ss
 
 pub timed : (t : ℕ) (xs : List Row) (ss : List ℕ) → in-time t xs ss ≡ true → Timed t xs ss
 unfolding in-time
@@ -129,15 +129,15 @@ all-of-chosen P (true ∷ ms) (x ∷ xs) a = (a .0, all-of-chosen P ms xs (a .1)
 all-of-chosen P (false ∷ ms) (x ∷ xs) a = all-of-chosen P ms xs (a .1)
 
 -- SLOTS FOR A FEASIBLE SET: by rank
-unfoldable pub before : Row → Row → ℕ
-before y x = one-if (ltb (y .due) (x .due) || (eqb (y .due) (x .due) && ltb (y .ticket) (x .ticket)))
+unfoldable pub one-ahead : Row → Row → ℕ
+one-ahead y x = one-if (ltb (y .due) (x .due) || (eqb (y .due) (x .due) && ltb (y .ticket) (x .ticket)))
 
 abbrev pub Ahead : Row → Row → Type 0
 Ahead y x = (y .due < x .due) ⊎ ((y .due ≡ x .due) × (y .ticket < x .ticket))
 
-pub before? : (y x : Row) → ((before y x ≡ 1) × Ahead y x) ⊎ ((before y x ≡ 0) × (Ahead y x → ⊥))
-unfolding before
-before? y x =
+pub one-ahead? : (y x : Row) → ((one-ahead y x ≡ 1) × Ahead y x) ⊎ ((one-ahead y x ≡ 0) × (Ahead y x → ⊥))
+unfolding one-ahead
+one-ahead? y x =
     elim (ltb? (y .due) (x .due)) [
       | inl a ↦ inl (rw (a .0), inl (a .1))
       | inr a ↦ elim (eqb? (y .due) (x .due)) [
@@ -159,50 +159,50 @@ pub ahead-not : (x : Row) → Ahead x x → ⊥
 ahead-not x (inl a) = omega arith
 ahead-not x (inr a) = omega arith
 
-abbrev pub rank : Row → List Row → ℕ
-rank x xs = sum (λ y. before y x) xs
+abbrev pub row-rank : Row → List Row → ℕ
+row-rank x xs = sum (λ y. one-ahead y x) xs
 
 pub sum-less : (μ ν : Row → ℕ) → ((x : Row) → μ x ≤ ν x) → (x : Row) → μ x + 1 ≤ ν x → (xs : List Row) → In x xs → sum μ xs + 1 ≤ sum ν xs
 sum-less μ ν h x k [] i = absurd i
 sum-less μ ν h x k (y ∷ ys) (inl e) = omega (arith, subst (λ (z : Row). μ z + 1 ≤ ν z) e k, sum-le μ ν h ys)
 sum-less μ ν h x k (y ∷ ys) (inr i) = omega (arith, h y, sum-less μ ν h x k ys i)
 
-pub rank-less : (x y : Row) (xs : List Row) → In x xs → Ahead x y → rank x xs + 1 ≤ rank y xs
+pub rank-less : (x y : Row) (xs : List Row) → In x xs → Ahead x y → row-rank x xs + 1 ≤ row-rank y xs
 rank-less x y xs i a =
-    sum-less (λ z. before z x) (λ z. before z y)
-    (λ z. elim (before? z x) [
-      | inl b ↦ elim (before? z y) [ inl c ↦ omega arith | inr c ↦ absurd (c .1 (ahead-trans z x y (b .1) a)) ]
+    sum-less (λ z. one-ahead z x) (λ z. one-ahead z y)
+    (λ z. elim (one-ahead? z x) [
+      | inl b ↦ elim (one-ahead? z y) [ inl c ↦ omega arith | inr c ↦ absurd (c .1 (ahead-trans z x y (b .1) a)) ]
       | inr b ↦ omega arith
     ]) x
-    (elim (before? x x) [
+    (elim (one-ahead? x x) [
       | inl b ↦ absurd (ahead-not x (b .1))
-      | inr b ↦ elim (before? x y) [ inl c ↦ omega arith | inr c ↦ absurd (c .1 a) ]
+      | inr b ↦ elim (one-ahead? x y) [ inl c ↦ omega arith | inr c ↦ absurd (c .1 a) ]
     ]) xs i
 
-pub rank-due : (x : Row) (xs : List Row) → In x xs → rank x xs + 1 ≤ num 0 (suc (x .due)) xs
+pub rank-due : (x : Row) (xs : List Row) → In x xs → row-rank x xs + 1 ≤ num 0 (suc (x .due)) xs
 rank-due x xs i =
-    sum-less (λ z. before z x) (below 0 (suc (x .due)))
-    (λ z. elim (before? z x) [
+    sum-less (λ z. one-ahead z x) (below 0 (suc (x .due)))
+    (λ z. elim (one-ahead? z x) [
       | inl b ↦ elim (b .1) [
         | inl c ↦ omega (arith, below-yes 0 (suc (x .due)) z (omega arith) (omega arith))
         | inr c ↦ omega (arith, below-yes 0 (suc (x .due)) z (omega arith) (omega arith))
       ]
       | inr b ↦ omega arith
     ]) x
-    (elim (before? x x) [
+    (elim (one-ahead? x x) [
       | inl b ↦ absurd (ahead-not x (b .1))
       | inr b ↦ omega (arith, below-yes 0 (suc (x .due)) x (omega arith) (omega arith))
     ]) xs i
 
 unfoldable pub slots-of : (t : ℕ) (all xs : List Row) → List ℕ
 slots-of t all [] = []
-slots-of t all (x ∷ xs) = (t + rank x all) ∷ slots-of t all xs
+slots-of t all (x ∷ xs) = (t + row-rank x all) ∷ slots-of t all xs
 
 abbrev pub Apart : List Row → Type 0
 Apart [] = Unit {0}
 Apart (x ∷ xs) = All (λ y. x .ticket ≢ y .ticket) xs × Apart xs
 
-pub rank-apart : (x y : Row) (xs : List Row) → In x xs → In y xs → x .ticket ≢ y .ticket → rank x xs ≢ rank y xs
+pub rank-apart : (x y : Row) (xs : List Row) → In x xs → In y xs → x .ticket ≢ y .ticket → row-rank x xs ≢ row-rank y xs
 rank-apart x y xs i j n =
     elim (ltb? (x .due) (y .due)) [
       | inl a ↦ omega (arith, rank-less x y xs i (inl (a .1)))
@@ -216,19 +216,19 @@ rank-apart x y xs i j n =
     ]
 
 pub slot-fresh : (t : ℕ) (x : Row) (all xs : List Row) → In x all → All (λ y. In y all) xs → All (λ y. x .ticket ≢ y .ticket) xs →
-    member (t + rank x all) (slots-of t all xs) ≡ false
+    member (t + row-rank x all) (slots-of t all xs) ≡ false
 unfolding member slots-of
 slot-fresh t x all [] i a b = refl
 slot-fresh t x all (y ∷ ys) i a b =
     let n = rank-apart x y all i (a .0) (b .0) in
-    rw (ne-eqb (t + rank y all) (t + rank x all) (λ e. n (omega arith))) (slot-fresh t x all ys i (a .1) (b .1))
+    rw (ne-eqb (t + row-rank y all) (t + row-rank x all) (λ e. n (omega arith))) (slot-fresh t x all ys i (a .1) (b .1))
 
-pub in-slots : (t : ℕ) (all xs : List Row) → All (λ y. In y all) xs → Apart xs → All (λ x. t + rank x all ≤ x .due) xs →
+pub in-slots : (t : ℕ) (all xs : List Row) → All (λ y. In y all) xs → Apart xs → All (λ x. t + row-rank x all ≤ x .due) xs →
     in-time t xs (slots-of t all xs) ≡ true
 unfolding in-time slots-of
 in-slots t all [] a b c = refl
 in-slots t all (x ∷ xs) a b c =
-    rw (le-leb t (t + rank x all) (omega arith), le-leb (t + rank x all) (x .due) (c .0), slot-fresh t x all xs (a .0) (a .1) (b .0))
+    rw (le-leb t (t + row-rank x all) (omega arith), le-leb (t + row-rank x all) (x .due) (c .0), slot-fresh t x all xs (a .0) (a .1) (b .0))
     (in-slots t all xs (a .1) (b .1) (c .1))
 
 -- the plan's rows

@@ -59,9 +59,9 @@ weight-sum n e (x ∷ xs) a =
     omega (arith, a .0 .0, weight-sum n e xs (a .1), below-sum n e x (a .0 .1), sum-to-add n (λ w. below w e x) (λ w. num w e xs))
 
 -- THE RANK of a weight: no feasible set of waiting rows has more, and the plan has as many
-pub rank-above : (r : Round) → (xs : List Row) → Feas r xs → ((μ : Row → ℕ) → sum μ xs ≤ sum μ (r .rows)) → (w m : ℕ) →
+pub rank-most : (r : Round) → (xs : List Row) → Feas r xs → ((μ : Row → ℕ) → sum μ xs ≤ sum μ (r .rows)) → (w m : ℕ) →
     r .slot ≤ m → m ≤ suc (r .last) → num w (suc (r .last)) xs ≤ m - r .slot + sum (box w m (suc (r .last))) (r .rows)
-rank-above r xs f s w m h k =
+rank-most r xs f s w m h k =
     omega (arith, f m h k, num-weight 0 w m (omega arith) xs, box-num w m (suc (r .last)) k xs, s (box w m (suc (r .last))))
 
 pub plan-less : (r : Round) → (w v e : ℕ) → 1 ≤ w → v ≤ e → sum (box w v e) (plan r) + sum (box w v e) (outside r) ≡ sum (box w v e) (r .rows)
@@ -103,7 +103,7 @@ edge-past r f w m k e =
 pub best-count : (r : Round) → Fine r → (xs : List Row) → Feas r xs → ((μ : Row → ℕ) → sum μ xs ≤ sum μ (r .rows)) → (w : ℕ) → 1 ≤ w →
     num w (suc (r .last)) xs ≤ num w (suc (r .last)) (plan r)
 best-count r f xs g s w h =
-    let d = plan-edge r f w in omega (arith, rank-above r xs g s w (d .at) (d .low) (d .high), rank-at r f w (r .slot) h d)
+    let d = plan-edge r f w in omega (arith, rank-most r xs g s w (d .at) (d .low) (d .high), rank-at r f w (r .slot) h d)
 
 -- weights of the plan
 pub plan-weights : (r : Round) → Fine r → All (λ x. (x .weight ≤ 16777216) × (x .due < suc (r .last))) (plan r)

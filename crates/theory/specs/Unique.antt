@@ -141,9 +141,9 @@ module _ (r : Round) (f : Fine r) (rs : List Row) (members : All (λ y. In y (r 
     ]
   ]
 
-  pub refuses : (x : Row) (xs ps : List Row) → All (λ y. In y (r .rows)) (x ∷ xs) → All (λ y. Not-over y x) xs → All (λ y. r .slot ≤ y .due) (x ∷ ps) →
+  pub run-refuses : (x : Row) (xs ps : List Row) → All (λ y. In y (r .rows)) (x ∷ xs) → All (λ y. Not-over y x) xs → All (λ y. r .slot ≤ y .due) (x ∷ ps) →
       ((μ : Row → ℕ) → sum μ ps + sum (of-plan rs μ) (x ∷ xs) ≡ sum μ rs) → in-plan x rs ≡ false → feasible r (x ∷ ps) ≡ false
-  refuses x xs ps i o d e n = elim (either (feasible r (x ∷ ps))) [
+  run-refuses x xs ps i o d e n = elim (either (feasible r (x ∷ ps))) [
     | inl y ↦
         let c = out x (i .0) n in
         absurd (omega (
@@ -180,7 +180,7 @@ module _ (r : Round) (f : Fine r) (rs : List Row) (members : All (λ y. In y (r 
             })
         | inr k ↦
             let q = follows xs bs ps (o .1) (i .1) b d s (λ μ. omega (arith, e μ, of-no rs μ x k)) in
-            rw (kept-no r x (xs ++ bs) ps (refuses x xs ps i (o .0) (u, d) e k)) (record {
+            rw (kept-no r x (xs ++ bs) ps (run-refuses x xs ps i (o .0) (u, d) e k)) (record {
               has = λ z j g. elim j [ inl h ↦ absurd (true≢false (sym g ∙ ap (λ (a : Row). in-plan a rs) h ∙ k)) | inr h ↦ q .has z h g ];
               only = q .only;
             })

@@ -14,9 +14,9 @@ use Rattle.rules.specs.Table.{round-in, table-refusal}
 use Rattle.rules.specs.Calls.{step, sending, ordinary, leap, out-of, answer, acting}
 use Rattle.theory.specs.Full.{Fine}
 use Rattle.theory.specs.Back.{length-changed}
-use Rattle.theory.specs.Members.{Rows, of-rows-fine, found-member}
+use Rattle.theory.specs.Members.{Rows-of-plan, of-rows-fine, found-member}
 use Rattle.theory.specs.Best.{silent-best, silence-ordinary, ordinary-is}
-use Rattle.theory.specs.Chain.{Chain, moves, moved-to}
+use Rattle.theory.specs.Chain.{Linked, moves, shifted-to-end}
 use Rattle.theory.specs.Close.{after-slot, closed, sent-ordinary, sent-none, sent-row, sent-kept}
 use Rattle.theory.specs.Near.{Near, far-sent}
 use Rattle.theory.specs.Segments.{Segment, segment-end, segment-begin, first-segment, later-segment, segment-row, segment-none, segment-mark}
@@ -34,9 +34,9 @@ pub length-moves : (r : Round) (e : ℕ) (hs xs : List Row) → length (moves r 
 unfolding moves
 length-moves r e [] xs = refl
 length-moves r e (h ∷ hs) xs =
-    length-moves r (tight-after r (plan r) (h .due)) hs (changed (h .ticket) (moved-to r e h) xs) ∙ length-changed (h .ticket) (moved-to r e h) xs
+    length-moves r (tight-after r (plan r) (h .due)) hs (changed (h .ticket) (shifted-to-end r e h) xs) ∙ length-changed (h .ticket) (shifted-to-end r e h) xs
 
-module _ (r : Round) (f : Fine r) (o : r .slot ≤ r .last) (rs : List Row) (c : Rows r rs) where
+module _ (r : Round) (f : Fine r) (o : r .slot ≤ r .last) (rs : List Row) (c : Rows-of-plan r rs) where
   -- no rows
   pub sends-silence : r .rows ≡ [] → Sends r (blank (r .slot)) true 0 []
   unfolding closed
@@ -94,7 +94,7 @@ module _ (r : Round) (f : Fine r) (o : r .slot ≤ r .last) (rs : List Row) (c :
       -- a leap onto a row y outside: the chain hs of shifts from e to the end g of y's segment; x a lightest row due by g
       pub sends-row : (y : Row) → In y (r .rows) → in-plan y rs ≡ false → b ≤ y .due →
           ((w : Row) → In w (r .rows) → in-plan w rs ≡ false → b ≤ w .due → heavier w y ≡ false) →
-          (b2 g : ℕ) → g < z → Segment r rs b2 g → b2 ≤ y .due → y .due ≤ g → (hs : List Row) → Chain r rs e g hs →
+          (b2 g : ℕ) → g < z → Segment r rs b2 g → b2 ≤ y .due → y .due ≤ g → (hs : List Row) → Linked r rs e g hs →
           (x : Row) → In x rs → x .due ≤ g → ((w : Row) → In w rs → w .due ≤ g → x .weight ≤ w .weight) →
           Sends r p false (p .ticket) (changed (y .ticket) (row (y .ticket) (y .due) (x .weight) (y .tail)) (moves r e hs (r .rows)))
       sends-row y u v w m b2 g n2 s2 i2 j2 hs ch x d h mm =
@@ -103,8 +103,8 @@ module _ (r : Round) (f : Fine r) (o : r .slot ≤ r .last) (rs : List Row) (c :
           let e1 = segment-end r f o rs c z k b e n s (p .due) i j in
           let g1 = segment-end r f o rs c z k b2 g n2 s2 (y .due) i2 j2 in
           let mk = segment-mark r f o rs c z k b2 g n2 s2 (y .due) i2 j2 x d h mm in
-          let ch2 : Chain r rs (tight-after r (plan r) (p .due)) (tight-after r (plan r) (y .due)) hs =
-          subst (λ (v : ℕ). Chain r rs v (tight-after r (plan r) (y .due)) hs) (sym e1) (subst (λ (v : ℕ). Chain r rs e v hs) (sym g1) ch) in
+          let ch2 : Linked r rs (tight-after r (plan r) (p .due)) (tight-after r (plan r) (y .due)) hs =
+          subst (λ (v : ℕ). Linked r rs v (tight-after r (plan r) (y .due)) hs) (sym e1) (subst (λ (v : ℕ). Linked r rs e v hs) (sym g1) ch) in
           record {
             goes = q;
             step = ordinary-is r f o rs c p q ∙ lt-leb (p .due) (first-end r (plan r)) (omega (arith, t, i));

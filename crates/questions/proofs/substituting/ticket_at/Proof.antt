@@ -1,5 +1,5 @@
 -- `questions::substituting::ticket_at` meets its contract.
-use Rattle.questions.proofs.Standing.{ticket-read}
+use Rattle.questions.proofs.Standing.{row-ticket-read}
 use Rattle.tally.proofs.RowLaws.{reads-within}
 use native.Mathlib.Omega.{arith}
 use borrow.Author.Needs.{needs}
@@ -20,7 +20,7 @@ read4-requires c κs =
 returns : tie.Need-returns
 returns c =
     let s = c .before .before .before in
-    ticket-read _ _ _ _ _ (s .pre .0) (s .pre .1) (c .before .row-at .ensures) (c .read4 .ensures)
+    row-ticket-read _ _ _ _ _ (s .pre .0) (s .pre .1) (c .before .row-at .ensures) (c .read4 .ensures)
 
 pub ticket-at-spec : {M : Type 1} → statement M
 ticket-at-spec = tie.close (tie.spec row-at-requires add-read4 read4-requires returns)

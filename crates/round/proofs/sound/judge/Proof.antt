@@ -8,7 +8,7 @@ use borrow.Author.Tests.{not-true, not-false}
 use Rattle.rules.specs.Conditions.{row-at}
 use Rattle.rules.specs.Table.{length-good}
 use Rattle.theory.specs.Judge.{zeros, head-judged}
-use Rattle.round.proofs.JudgeLaws.{good-long, Read, Rows-fit, rows-fit, refused-2, refused-3, accepted}
+use Rattle.round.proofs.JudgeLaws.{good-long, Table-read, Rows-fit, rows-fit, refused-2, refused-3, judge-accepts}
 use Rattle.round.proofs.sound.judge.Statement.{statement}
 use Rattle.round.proofs.sound.judge.Tie as tie
 
@@ -16,7 +16,7 @@ use Rattle.round.proofs.sound.judge.Tie as tie
 good : (c : tie.Else1) → length-good (length (c .before .before .before .args .table .now)) ≡ true
 good c = sym (c .before .length-is-good .ensures) ∙ not-false _ (c .if1 .left)
 
-read : (c : tie.After-read-head) → Read (c .before .before .before .before .args .table .now) (c .read-head .result)
+read : (c : tie.After-read-head) → Table-read (c .before .before .before .before .args .table .now) (c .read-head .result)
 read c = record { bytes = λ i. omega (arith, c .before .before .before .shared-slice-known .given i); good = good (c .before); head = c .read-head .ensures }
 
 head : (c : tie.Else2) → head-judged (c .before .before .before .before .before .before .args .table .now) ≡ true
@@ -72,7 +72,7 @@ returns-4 c =
 
 returns-5 : tie.Need-returns-5
 returns-5 c =
-    accepted (read (c .before .before .before .before .before .before .before))
+    judge-accepts (read (c .before .before .before .before .before .before .before))
     (rw (
       head (c .before .before .before .before .before),
       sym (c .before .before .before .before .rows-are-sound .ensures) ∙ not-false _ (c .before .before .before .if3 .left),

@@ -1,4 +1,4 @@
--- Marks fall along the slots, and one mark reaches to the next tight slot: mark-falls, reach, member-mark, first-mark.
+-- Marks fall along the slots, and one mark reaches to the next tight slot: mark-falls, mark-reaches, member-mark, first-mark.
 use mathlib.Core.Path.{_≡_, refl}
 use Prim.Native.Nat.{ℕ, zero, suc, _≤_}
 use native.Mathlib.Omega.{arith}
@@ -11,9 +11,9 @@ use Rattle.theory.specs.Picks.{mark-least}
 
 module _ (r : Round) (f : Fine r) where
   -- no slot up to the first tight slot at or after d has a lesser mark than d
-  pub reach : (d s : ℕ) → d ≤ r .last → r .slot ≤ s → s ≤ tight-after r (plan r) d → mark r d ≤ mark r s
+  pub mark-reaches : (d s : ℕ) → d ≤ r .last → r .slot ≤ s → s ≤ tight-after r (plan r) d → mark r d ≤ mark r s
   unfolding mark
-  reach d s b c h = by-weight (mark-in r (plan r) d) refl
+  mark-reaches d s b c h = by-weight (mark-in r (plan r) d) refl
     where
       by-weight : (w : ℕ) → w ≡ mark-in r (plan r) d → w ≤ mark-in r (plan r) s
       by-weight zero q = omega arith
@@ -21,7 +21,7 @@ module _ (r : Round) (f : Fine r) where
 
   -- MARKS FALL along the slots
   pub mark-falls : (s d : ℕ) → r .slot ≤ s → s ≤ d → d ≤ r .last → mark r d ≤ mark r s
-  mark-falls s d h i j = reach d s j h (omega (arith, next r (plan r) d j (plan-full r f) .from))
+  mark-falls s d h i j = mark-reaches d s j h (omega (arith, next r (plan r) d j (plan-full r f) .from))
 
   -- a member weighs the mark of its due slot at least
   pub member-mark : (x : Row) → In x (plan r) → x .due ≤ r .last → mark r (x .due) ≤ x .weight

@@ -61,7 +61,8 @@ module _ (r : Round) (f : Fine r) (wr : ℕ) (ys : List Row) (es : List Stash-en
       }
 
   -- the row of a place is given up, which is due no earlier than x
-  give-place : (o c h : Row) (mh : ℕ) (xs : List Row) (zs : List Stash-entry) (done ds : List Chain-place) → (l : Link r g o c h) → b ≤ o .due → Place-chain r g b p o ds →
+  give-place : (o c h : Row) (mh : ℕ) (xs : List Row) (zs : List Stash-entry) (done ds : List Chain-place) →
+      (l : Link r g o c h) → b ≤ o .due → Place-chain r g b p o ds →
       h .due ≤ g → x .due ≤ c .due → (u : Walk r f wr ys es adj h mh [] xs zs done) → In o (u .untouched) → Unpaid r f wr ys es adj u → Gives xs done (comes-for o c ∷ ds)
   give-place o c h mh xs zs done ds l ob q hg m u j n0 =
       let s = step-gone r f wr ys es adj g o c h mh [] xs zs done l u j
@@ -77,7 +78,8 @@ module _ (r : Round) (f : Fine r) (wr : ℕ) (ys : List Row) (es : List Stash-en
       }
 
   -- WITH x THE LATEST ROW HELD by g: it is given up at the place it stands in, or the row of a place before
-  pub walk-gives : (h : Row) (mh : ℕ) (xs : List Row) (zs : List Stash-entry) (done ds : List Chain-place) → Place-chain r g b p h ds → h .due ≤ g → h .weight ≤ most-weight →
+  pub walk-gives : (h : Row) (mh : ℕ) (xs : List Row) (zs : List Stash-entry) (done ds : List Chain-place) → Place-chain r g b p h ds → h .due ≤ g →
+      h .weight ≤ most-weight →
       mh ≤ mark r (x .due) → (u : Walk r f wr ys es adj h mh [] xs zs done) → In x (u .untouched) → Unpaid r f wr ys es adj u → Gives xs done ds
   walk-gives h mh xs zs done [] q hg hl mm u i n0 =
       give-here h mh xs zs done [] q u i n0 (omega (arith, k .under, ap (λ (z : Row). z .weight) q)) hl mm

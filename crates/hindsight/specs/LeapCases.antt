@@ -40,9 +40,11 @@ pub record Leap-worth (r : Round) (f : Fine r) (p s h c : Row) (ds : List Chain-
   pub olds-are : (μ : Row → ℕ) → olds μ done ≡ μ h + olds μ ds
   pub news-are : (μ : Row → ℕ) → news μ done ≡ μ c + news μ ds
 
-module _ (r : Round) (f : Fine r) (p s h c : Row) (b g : ℕ) (ds : List Chain-place) (fs ys : List Row) (es : List Stash-entry) (k : Leap-stage r f p s h c b g ds fs ys es) where
+module _ (r : Round) (f : Fine r) (p s h c : Row) (b g : ℕ) (ds : List Chain-place) (fs ys : List Row) (es : List Stash-entry)
+    (k : Leap-stage r f p s h c b g ds fs ys es) where
   -- summed over the weights
-  leap-worth-of : (mh : ℕ) (gs xs : List Row) (zs : List Stash-entry) (done : List Chain-place) (u : Walk r f (s .weight) ys es (missed-besides r h c) p mh gs xs zs done) →
+  leap-worth-of : (mh : ℕ) (gs xs : List Row) (zs : List Stash-entry) (done : List Chain-place)
+      (u : Walk r f (s .weight) ys es (missed-besides r h c) p mh gs xs zs done) →
       ((w : ℕ) → 1 ≤ w → w ≤ most-weight →
       rank w (suc (r .slot)) (suc (r .last)) fs + gone-above (s .weight) gs w ≤ rank w (suc (r .slot)) (suc (r .last)) xs + u .lost w) →
       ((μ : Row → ℕ) → olds μ done ≡ μ h + olds μ ds) → ((μ : Row → ℕ) → news μ done ≡ μ c + news μ ds) → Leap-worth r f p s h c ds fs ys es
@@ -120,7 +122,8 @@ module _ (r : Round) (f : Fine r) (p s h c : Row) (b g : ℕ) (ds : List Chain-p
       elim (leb? 1 (sum (like h) ys)) [
         | inl i ↦
             let t = start-free r f (s .weight) ys es (missed-besides r h c) g h c (k .final) (k .good) (occurs-in h ys (i .1)) in
-            let z = walk-none r f (s .weight) ys es (missed-besides r h c) g b p h (c .weight) (c ∷ t .0) (comes-for h c ∷ []) ds (k .present) (k .chain) (k .final .by) hn
+            let z = walk-none r f (s .weight) ys es (missed-besides r h c) g b p h (c .weight) (c ∷ t .0) (comes-for h c ∷ []) ds (k .present)
+            (k .chain) (k .final .by) hn
             (t .1) (t .3) (t .4) in
             leap-worth-of (z .mh) [] (z .xs) es (z .done) (z .walk)
             (λ w a l. omega (arith, rank-none-held r f p s h c b g ds fs ys es k (z .mh) (z .xs) (z .done) (z .walk) d db lat blk w a))
@@ -140,7 +143,8 @@ module _ (r : Round) (f : Fine r) (p s h c : Row) (b g : ℕ) (ds : List Chain-p
       elim (leb? 1 (sum (like h) ys)) [
         | inl i ↦
             let t = start-free r f (s .weight) ys es (missed-besides r h c) g h c (k .final) (k .good) (occurs-in h ys (i .1)) in
-            let z = walk-none r f (s .weight) ys es (missed-besides r h c) g b p h (c .weight) (c ∷ t .0) (comes-for h c ∷ []) ds (k .present) (k .chain) (k .final .by) hn
+            let z = walk-none r f (s .weight) ys es (missed-besides r h c) g b p h (c .weight) (c ∷ t .0) (comes-for h c ∷ []) ds (k .present)
+            (k .chain) (k .final .by) hn
             (t .1) (t .3) (t .4) in
             let u = give-up-extra r f (s .weight) ys es (missed-besides r h c) x p (z .mh) (z .xs) es (z .done) (z .walk)
             (subst (λ (l : List Row). In x l) (sym (z .all-held)) ih) (z .unpaid)

@@ -114,7 +114,8 @@ module _ (r : Round) (f : Fine r) (wr : ℕ) (ys : List Row) (es : List Stash-en
         )
 
     -- HELD, and the mark is below the anchor: its entry takes the row that comes
-    pub step-stay : In o (u .untouched) → mark r (c .due) < u .anchor → (zs′ : List Stash-entry) × Walk r f wr ys es adj o (mark r (c .due)) gs xs zs′ (comes-for o c ∷ done)
+    pub step-stay : In o (u .untouched) → mark r (c .due) < u .anchor → (zs′ : List Stash-entry) × Walk r f wr ys es adj o (mark r (c .due)) gs xs zs′
+        (comes-for o c ∷ done)
     step-stay i n =
         let q = pull o (u .untouched) i in
         let inz : In o (held zs) = occurs-in o (held zs) (omega (arith, u .kept (like o), seen o (u .untouched) i)) in
@@ -197,7 +198,8 @@ module _ (r : Round) (f : Fine r) (wr : ℕ) (ys : List Row) (es : List Stash-en
         )
 
   -- A HELD ROW that is no place, x, given up for its mark at the place h
-  pub give-up-extra : (x h : Row) (mh : ℕ) (xs : List Row) (zs : List Stash-entry) (done : List Chain-place) (u : Walk r f wr ys es adj h mh [] xs zs done) → In x (u .untouched) →
+  pub give-up-extra : (x h : Row) (mh : ℕ) (xs : List Row) (zs : List Stash-entry) (done : List Chain-place)
+      (u : Walk r f wr ys es adj h mh [] xs zs done) → In x (u .untouched) →
       Unpaid r f wr ys es adj u → x .weight ≤ h .weight → h .weight ≤ most-weight → wr ≤ x .weight → mark r (x .due) ≤ x .weight →
       mh ≤ mark r (x .due) → wr ≤ mark r (x .due) → x .due ≤ r .last →
       (zs′ : List Stash-entry) × Walk r f wr ys es adj h mh (x ∷ []) (x ∷ xs) zs′ done

@@ -229,7 +229,13 @@ module _ {t : List ℕ} {h : Head} {fs : List ℕ} {x : Reach} {cs ks : List ℕ
           fit-changed r xs (y .ticket) (row (y .ticket) (y .due) mk (y .tail))
           (fit-moves r z rs the-rows (r .slot + e) (r .slot + to) (s .links) (r .rows) (s .chain) (omega arith)
           (omega (arith, p .within .near, near-z .by)) (fit-self r z))
-          refl (record { due-from = y-fine .due-from; due-by = y-fine .due-by; some = omega (arith, w .some, light .weight); most = omega (arith, w .most, light .weight) })
+          refl (record {
+            due-from = y-fine .due-from;
+            due-by = y-fine .due-by;
+            some = omega (arith, w .some, light .weight);
+            most = omega
+                (arith, w .most, light .weight);
+          })
           (all-in Tail-fine y (r .rows) (z .size .tails) y-in)
 
       pub swap-stood : {v : List ℕ} {n : ℕ} → v ≡ sets u (row-at j + 6) (low 4 n) → n ≡ mk → Stood t h ys v

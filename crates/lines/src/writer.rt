@@ -49,7 +49,8 @@ pub fn write_line(command: Command, payload: &[u8], buffer: &mut [u8]) -> Writte
 
 fn can_stand(form: Form, values: [u32; MOST_NUMBERS], payload: &[u8]) -> bool
     requires { ⌜ Small form × (length values ≡ most-numbers) ⌝ }
-    ensures { λ r. ⌜ r ≡ fit-digits (widths-in form) (values-in form values) && (all-digits (now (payload .entry)) && payload-fits (form .payload) (length (now (payload .entry)))) ⌝ }
+    ensures { λ r. ⌜ r ≡ fit-digits (widths-in form) (values-in form values)
+        && (all-digits (now (payload .entry)) && payload-fits (form .payload) (length (now (payload .entry)))) ⌝ }
 {
     if !values_fit(form, values) {
         return false;

@@ -81,12 +81,14 @@ module _ (k : ℕ) (t : List ℕ) (sound : table-refusal t ≡ 0) where
   unfolding substitute-answer first
   substitute-over n e h = rw (sound, e, ne-eqb n 0 h)
 
-  pub substitute-nowhere : first-of (over (round-in t .slot) (round-in t .last) ∷ []) ≡ 0 → ((i : ℕ) → i < length (round-in t .rows) → at (round-in t) i .ticket ≡ k → ⊥) →
+  pub substitute-nowhere : first-of (over (round-in t .slot) (round-in t .last) ∷ []) ≡ 0 →
+      ((i : ℕ) → i < length (round-in t .rows) → at (round-in t) i .ticket ≡ k → ⊥) →
       refused 10 ≡ substitute-answer k t
   unfolding substitute-answer first substitute-reply
   substitute-nowhere e n = rw (sound, e, no-ticket k (round-in t .rows) (blank 0) n)
 
-  pub substitute-found : first-of (over (round-in t .slot) (round-in t .last) ∷ []) ≡ 0 → Fine (round-in t) → (i : ℕ) → (i < length (round-in t .rows)) × (at (round-in t) i .ticket ≡ k) →
+  pub substitute-found : first-of (over (round-in t .slot) (round-in t .last) ∷ []) ≡ 0 → Fine (round-in t) → (i : ℕ) →
+      (i < length (round-in t .rows)) × (at (round-in t) i .ticket ≡ k) →
       substitute-reply (round-in t) (some (at (round-in t) i)) ≡ substitute-answer k t
   unfolding substitute-answer first
   substitute-found e f i h =

@@ -116,7 +116,8 @@ pub told-by-hand : map told-of rounds ≡ map (λ (x : Played-out). x .tells) ro
 unfolding row blank round slots-left heavier canonical into sorted due-by fits-from feasible kept blanks-from plan total-weight total tight tight-from
     tight-after segment-from segment-start first-end least-weight mark-in mark same-row in-plan lightest-by heaviest-outside substitute beats-golden
     golden-more sends-before best-from best opened taken changed without heaviest-between shifted replaced leapt still-due is-ordinary sent low value
-    field put row-bytes rows-bytes head-bytes table rows-in rows-of round-in length-good every rows-good round-good same table-refusal first act question deed round-refusal out-of says leaves table-first refusal answer left replies took-in went-out told story
+    field put row-bytes rows-bytes head-bytes table rows-in rows-of round-in length-good every rows-good round-good same table-refusal first act
+    question deed round-refusal out-of says leaves table-first refusal answer left replies took-in went-out told story
 told-by-hand = refl
 
 -- S
@@ -157,7 +158,8 @@ pub p2-past : Past (run (p2 .calls) (left (opens (p2 .last)) found))
 unfolding row blank round slots-left heavier canonical into sorted due-by fits-from feasible kept blanks-from plan total-weight total tight tight-from
     tight-after segment-from segment-start first-end least-weight mark-in mark same-row in-plan lightest-by heaviest-outside substitute beats-golden
     golden-more sends-before best-from best opened taken changed without heaviest-between shifted replaced leapt still-due is-ordinary sent low value
-    field put row-bytes rows-bytes head-bytes table rows-in rows-of round-in length-good every rows-good round-good same table-refusal first act question deed round-refusal out-of says leaves table-first refusal answer left run
+    field put row-bytes rows-bytes head-bytes table rows-in rows-of round-in length-good every rows-good round-good same table-refusal first act
+    question deed round-refusal out-of says leaves table-first refusal answer left run
 p2-past = omega arith
 
 -- the offers of the fifth: two from slot 0 on, one from slot 1

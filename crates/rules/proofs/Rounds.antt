@@ -365,5 +365,7 @@ pub rounds-by-hand : played rounds ≡ rounds
 unfolding row blank round slots-left heavier canonical into sorted rows-only due-by fits-from feasible kept blanks-from plan total-weight total tight
     tight-from tight-after segment-from segment-start first-end least-weight mark-in mark same-row in-plan lightest-by heaviest-outside substitute
     beats-golden golden-more sends-before best-from best listed opened taken changed without heaviest-between shifted replaced leapt still-due
-    is-ordinary sent low value field put row-bytes rows-bytes head-bytes table rows-in rows-of round-in length-good every rows-good round-good same table-refusal first act question deed round-refusal out-of says leaves table-first refusal answer left with-ticket substitute-reply substitute-answer
+    is-ordinary sent low value field put row-bytes rows-bytes head-bytes table rows-in rows-of round-in length-good every rows-good round-good same
+    table-refusal first act question deed round-refusal out-of says leaves table-first refusal answer left with-ticket substitute-reply
+    substitute-answer
 rounds-by-hand = refl

@@ -129,5 +129,6 @@ unfolding row blank round slots-left heavier canonical into sorted due-by fits-f
     golden-more sends-before best-from best opened taken changed without heaviest-between shifted replaced leapt still-due is-ordinary sent low value
     field put row-bytes rows-bytes head-bytes table rows-in rows-of round-in length-good every rows-good round-good same table-refusal first
     act question deed round-refusal out-of says leaves table-first refusal answer left digit is-digit digit-value digits number-from all-digits call-of
-    body count-digits number-at numbers-at forms found front-size payload-fits has-length command-of read-digits read out-digits reply-digits reply-text lines-from turn printed-from
+    body count-digits number-at numbers-at forms found front-size payload-fits has-length command-of read-digits read out-digits reply-digits
+    reply-text lines-from turn printed-from
 lines-by-hand = refl

@@ -35,6 +35,13 @@ pub record In-bounds (slot last : ℕ) (x : Row) : Type 0 where
 abbrev pub Row-fine : Round → Row → Type 0
 Row-fine r x = In-bounds (r .slot) (r .last) x
 
+-- the same but for the slot
+abbrev pub Row-ok : Round → Row → Type 0
+Row-ok r x = In-bounds 0 (r .last) x
+
+pub row-ok : (r : Round) (x : Row) → x .due ≤ r .last → 1 ≤ x .weight → x .weight ≤ most-weight → Row-ok r x
+row-ok r x a b c = record { due-from = omega arith; due-by = a; some = b; most = c }
+
 -- THE TAIL within bounds: a frame's and a kept blank's are
 pub record Tail-right (m : Tail) : Type 0 where
   pub kinds : m .kind ≤ 1

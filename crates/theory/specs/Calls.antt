@@ -22,7 +22,8 @@ use Rattle.theory.specs.Full.{Fine, Rising, plan-length}
 use Rattle.theory.specs.Marks.{box, mark-stays}
 use Rattle.theory.specs.Change.{all-still, all-without, rising-still, rising-without, still-box}
 use Rattle.theory.specs.Send.{best-in, ordinary-fills}
-use Rattle.theory.specs.Leap.{Row-ok, Left, leapt-left, fills-alone, rows-kept}
+use Rattle.theory.specs.Bounds.{Row-ok}
+use Rattle.theory.specs.Leap.{Left, leapt-left, fills-alone, rows-kept}
 
 -- what no refusal says
 pub no-refusal : (c : Bool) (n z : ℕ) → cond c (suc n) z ≡ 0 → (c ≡ false) × (z ≡ 0)

@@ -22,7 +22,13 @@ use Rattle.theory.specs.Clauses.{Rows-right, Clauses, length-long, claus
 pub own-row : (bs : List ℕ) → front-row (take row-size bs) ≡ front-row bs
 unfolding row
 own-row bs i =
-    record { ticket = own ticket-at wide-bytes (omega arith) i; due = own due-at slot-bytes (omega arith) i; weight = own weight-at wide-bytes (omega arith) i; tail = own-tail i }
+    record {
+      ticket = own ticket-at wide-bytes (omega arith) i;
+      due = own due-at slot-bytes (omega arith) i;
+      weight = own weight-at wide-bytes
+          (omega arith) i;
+      tail = own-tail i;
+    }
   where
     own : (a n : ℕ) → a + n ≤ row-size → field a n (take row-size bs) ≡ field a n bs
     own a n h = field-take a n row-size bs h

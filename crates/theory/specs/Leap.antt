@@ -15,17 +15,11 @@ use Rattle.theory.specs.Tests.{leb?, ltb?, both-ways}
 use Rattle.theory.specs.Sum.{sum}
 use Rattle.theory.specs.All.{blank-weight, blank-ticket, all-map, all-in, all-of-in}
 use Rattle.theory.specs.Feas.{num}
-use Rattle.theory.specs.Bounds.{Row-fine, In-bounds}
+use Rattle.theory.specs.Bounds.{Row-ok, row-ok, Row-fine, In-bounds}
 use Rattle.theory.specs.Full.{plan-member, Fine, Rising, outside, plan-feas, plan-edge, plan-full, plan-due}
 use Rattle.theory.specs.Marks.{Tight-in, Next-tight, next, Start, start, box, box?, box-yes, rows-fill, Mark-at-least, mark-above, mark-all, mark-limit}
 use Rattle.theory.specs.Change.{First-of-ticket, changed-sum, without-sum, changed-first, rising-above, rising-first, rising-same, in-sum, not-in-plan, row-outside, without-none, changed-none, all-changed, all-without, rising-changed, rising-without}
 use Rattle.theory.specs.Send.{outside-in, Member-between, between-finds, between-count, next-by, point, point?, point-yes}
-
-abbrev pub Row-ok : Round → Row → Type 0
-Row-ok r x = In-bounds 0 (r .last) x
-
-pub row-ok : (r : Round) (x : Row) → x .due ≤ r .last → 1 ≤ x .weight → x .weight ≤ most-weight → Row-ok r x
-row-ok r x a b c = record { due-from = omega arith; due-by = a; some = b; most = c }
 
 abbrev pub Heavy-to : Round → ℕ → Type 0
 Heavy-to r g = All (λ y. y .due ≤ g → 1 ≤ y .weight) (plan r)
@@ -99,7 +93,8 @@ pub mark-in-reach : (r : Round) → Fine r → (w d s u : ℕ) → Mark-at-least
 mark-in-reach r f w d s u m h k =
     mark-above r (plan r) (plan-feas r f) (plan-full r f) w u (suc s) (m .limit) h (omega arith) (omega (arith, m .next .by)) (m .full)
 
-pub shift-sum : (r : Round) → Fine r → (e g : ℕ) (h : Row) (e′ : ℕ) → Shifts-to r e g h e′ → (xs : List Row) → First-of-ticket h xs → (w d s v : ℕ) → Mark-at-least r w d s →
+pub shift-sum : (r : Round) → Fine r → (e g : ℕ) (h : Row) (e′ : ℕ) → Shifts-to r e g h e′ → (xs : List Row) → First-of-ticket h xs →
+    (w d s v : ℕ) → Mark-at-least r w d s →
     v ≤ suc s → sum (box w v (suc s)) xs + point v (suc s) e ≤ sum (box w v (suc s)) (moved-rows r e h xs) + point v (suc s) e′
 unfolding row
 shift-sum r f e g h e′ p xs i w d s v m k =

@@ -33,7 +33,8 @@ returns-2 : tie.Need-returns-2
 returns-2 c =
     let s = c .before .before .before .before .before in
     says-refused (opening (until (s .args .last .0))) (s .args .table .now) _
-    (omega (arith, opening-number (until (s .args .last .0)) (s .args .table .now) (good (c .before .before)), c .before .opening-refusal .ensures)) (λ z. omega (arith, z))
+    (omega (arith, opening-number (until (s .args .last .0)) (s .args .table .now) (good (c .before .before)), c .before .opening-refusal .ensures))
+    (λ z. omega (arith, z))
 
 -- no refusal where the number is not above 0
 free : (c : tie.Else2) → first-of (open-tests (until (c .before .before .before .before .before .args .last .0))) ≡ 0

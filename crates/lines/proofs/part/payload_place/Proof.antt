@@ -43,14 +43,20 @@ sub-end c = search needs
 returns-2 : tie.Need-returns-2
 returns-2 c =
     let form = c .before in
-    let known = form .before .before .before in
-    (placed-behind (c .before .before .before .before .before .before .before .before .args .line .now) (known .before .before .read-command .ensures .0) (known .command .given .1) (front-here form) (c .if1 .taken) refl refl, refl)
+    let known = form .before .before .before in (
+      placed-behind (c .before .before .before .before .before .before .before .before .args .line .now)
+          (known .before .before .read-command .ensures .0) (known .command .given .1) (front-here form) (c .if1 .taken) refl refl,
+      refl,
+    )
 
 returns-3 : tie.Need-returns-3
 returns-3 c =
     let form = c .before in
-    let known = form .before .before .before in
-    (placed-bare (c .before .before .before .before .before .before .before .before .args .line .now) (known .before .before .read-command .ensures .0) (known .command .given .1) (front-here form) (c .if1 .left) refl refl, refl)
+    let known = form .before .before .before in (
+      placed-bare (c .before .before .before .before .before .before .before .before .args .line .now)
+          (known .before .before .read-command .ensures .0) (known .command .given .1) (front-here form) (c .if1 .left) refl refl,
+      refl,
+    )
 
 pub payload-place-spec : {M : Type 1} → statement M
 payload-place-spec =

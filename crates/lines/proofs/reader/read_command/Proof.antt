@@ -51,7 +51,8 @@ returns-3 c =
     (foul 0 2 line (search needs) (spelt-nothing (take 2 line) (c .enum-told .given .1) (c .before .before .number .ensures)), refl)
 
 -- the line's number is read, and its form found
-begun-here : (c : tie.After-form-of) → Begun (c .before .before .kind .given .0 .0) (c .before .before .before .before .before .before .before .before .before .before .args .line .now)
+begun-here : (c : tie.After-form-of) → Begun (c .before .before .kind .given .0 .0)
+    (c .before .before .before .before .before .before .before .before .before .before .args .line .now)
 begun-here c =
     let line = c .before .before .before .before .before .before .before .before .before .before .args .line .now in
     let kind = c .before .before .kind .given in
@@ -86,12 +87,18 @@ returns-6 c =
     let form = c .before .before .before .before .before .before in
     let line = form .before .before .before .before .before .before .before .before .before .before .args .line .now in
     let front = form .form-of .result .front in
-    let only = c .before .digits-only in
-    (foul front (length line - 1 - front) line (omega (arith, c .before .before .before .before .before .if3 .left, begun-here form .long)) (sym (only .ensures) ∙ not-true (only .result) (c .if5 .taken)), refl)
+    let only = c .before .digits-only in (
+      foul front (length line - 1 - front) line (omega (arith, c .before .before .before .before .before .if3 .left, begun-here form .long))
+          (sym (only .ensures) ∙ not-true (only .result) (c .if5 .taken)),
+      refl,
+    )
 
 numbers-within : (c : tie.Else5) → let form = c .before .before .before .before .before .before in
-    short-digits + count-digits (widths-in (form .form-of .result)) < length (form .before .before .before .before .before .before .before .before .before .before .args .line .now)
-numbers-within c = let form = c .before .before .before .before .before .before in omega (arith, front-count (form .form-of .ensures), c .before .before .before .before .before .if3 .left, begun-here form .long)
+    short-digits + count-digits (widths-in (form .form-of .result))
+    < length (form .before .before .before .before .before .before .before .before .before .before .args .line .now)
+numbers-within c =
+    let form = c .before .before .before .before .before .before in
+    omega (arith, front-count (form .form-of .ensures), c .before .before .before .before .before .if3 .left, begun-here form .long)
 
 read-numbers-requires : tie.Need-read-numbers-requires
 read-numbers-requires c κs = (c .before .before .before .before .before .before .form-of .ensures .small, omega (arith, numbers-within c))
@@ -123,7 +130,8 @@ returns-8 c =
       c .command-of .ensures
           ∙ command-same (form .before .before .kind .given .0 .0) (numbers .result .at) (numbers-at short-digits (widths-in (form .form-of .result)) line)
           (numbers .ensures .values good)
-          ∙ read-good (begun-here form) (form .form-of .ensures) (clean .before .before .before .before .before .if3 .left) (sym (fits .ensures) ∙ not-false (fits .result) (clean .before .before .before .if4 .left))
+          ∙ read-good (begun-here form) (form .form-of .ensures) (clean .before .before .before .before .before .if3 .left)
+          (sym (fits .ensures) ∙ not-false (fits .result) (clean .before .before .before .if4 .left))
           (sym (numbers .ensures .clean) ∙ good)
           (sym (only .ensures) ∙ not-false (only .result) (clean .if5 .left)),
       refl,

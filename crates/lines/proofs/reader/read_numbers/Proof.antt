@@ -29,7 +29,8 @@ width : (c : tie.In-loop Inv-loop μ-loop) → let f = c .before .before .before
 width c = width-in (c .before .before .before .before .args .form) (c .before .loop .i) (c .loop-test .taken)
 
 ends : (c : tie.In-loop Inv-loop μ-loop) →
-    c .before .loop .from + getD (c .before .before .before .before .args .form .widths) (c .before .loop .i) 0 ≤ length (c .before .before .before .before .args .line .now)
+    c .before .loop .from + getD (c .before .before .before .before .args .form .widths) (c .before .loop .i) 0 ≤ length
+    (c .before .before .before .before .args .line .now)
 ends c = omega (arith, next-within (c .before .loop .inv) (within c) (width c), c .before .before .before .before .pre .1)
 
 loop-holds : tie.Need-loop-holds Inv-loop μ-loop

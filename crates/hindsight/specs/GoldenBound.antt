@@ -12,7 +12,7 @@ use Rattle.rules.specs.Rows.{Round, round, Frame, Setup}
 use Rattle.rules.specs.Plan.{best, plan}
 use Rattle.rules.specs.Steps.{opened, sent, taken}
 use Rattle.rules.specs.Table.{round-in, table}
-use Rattle.rules.specs.Calls.{Call, after, round-after, out-of}
+use Rattle.rules.specs.Calls.{Call, after, at, out-of}
 use Rattle.rules.specs.Conditions.{Past}
 use Rattle.rules.specs.Demands.{No-opening, member}
 use Rattle.rules.specs.Hindsight.{Choice, Golden-hindsight, Most, Most-reckoned, Told, could-have, earned, gained, kept-to, most, nothing, offer, offers, sent-in, took, went}
@@ -77,10 +77,10 @@ past-round r s p = omega (arith, p, ap (λ (z : Round). z .slot) (read-back r (s
 
 -- ANY CHOICE that can be kept, of a round by the model
 module _ (u : Setup) (k : ℕ) (cs : List Call) (h : u .last ≤ most-last) (i : 1 ≤ k) (j : k ≤ most-rows) (n : No-opening cs)
-    (p : round-after k u cs .last < round-after k u cs .slot) where
+    (p : at k u cs .last < at k u cs .slot) where
   pub any-choice : (xs : Choice) → kept-to (offers (tale cs (opened u k)) 0) xs [] ≡ true →
       Within-golden (gained (offers (tale cs (opened u k)) 0) xs) (sent-in (tale cs (opened u k)))
-  unfolding round-after opened round sent-in
+  unfolding at opened round sent-in
   any-choice xs v =
       let r = opened u k in
       golden-end 26 fib-52 fib-53 even-26 (gained (offers (tale cs r) 0) xs) (sent-in (tale cs r))
@@ -99,4 +99,4 @@ pub golden-hindsight : Golden-hindsight
 unfolding Golden-hindsight
 golden-hindsight t k u cs e i j h n p =
     rw (opened-replies t k u cs e i j h)
-    (golden-round u k cs h i j n (past-round (round-after k u cs) (at-sane t k u e i j h cs) (rw (run-at t k u e i j h cs) at p)))
+    (golden-round u k cs h i j n (past-round (at k u cs) (at-sane t k u e i j h cs) (rw (run-at t k u e i j h cs) at p)))

@@ -12,7 +12,7 @@ use Rattle.rules.specs.Plan.{plan, substitute, in-plan}
 use Rattle.rules.specs.Table.{field, round-in, table-refusal}
 use Rattle.rules.specs.Conditions.{row-at}
 use Rattle.rules.specs.Calls.{refused, ticket, blank-due, first, first-of, over}
-use Rattle.rules.specs.Looking.{with-ticket, substitute-reply, substitute-answer}
+use Rattle.rules.specs.Looking.{with-ticket, stand-in, substitute-answer}
 use Rattle.theory.specs.Full.{Fine, Rising}
 use Rattle.theory.specs.Change.{rising-above}
 use Rattle.theory.specs.Unique.{certified-at}
@@ -53,13 +53,13 @@ module _ (t : List ℕ) (h : Head) (ready : Ready t h) (fs : List ℕ) (c : Chos
       certified-at (round-in t) (k .fine) (raised fs) (c .certified) (blank 0) i (omega (arith, l, k .used)) ∙ raised-at fs i flag-there
 
   pub stands-outside : (getD fs i 0 ≡ 1 → ⊥) → Stood-in (round-in t) i (refused 11)
-  unfolding substitute-reply
+  unfolding stand-in
   stands-outside n = rw (planned-by ∙ ne-eqb (getD fs i 0) 1 n)
 
   module _ (f : getD fs i 0 ≡ 1) where
     pub stands-row : (j k : ℕ) → (j < length (round-in t .rows)) × (substitute (round-in t) (plan (round-in t)) (at (round-in t) i) ≡ at (round-in t) j) →
         k ≡ at (round-in t) j .ticket → Stood-in (round-in t) i (ticket k)
-    unfolding substitute-reply
+    unfolding stand-in
     stands-row j k s e =
         let u = known t h ready .fine .rising in
         let m : 1 ≤ at (round-in t) j .ticket = rising-above 1 (round-in t .next) (at (round-in t) j) (round-in t .rows) u
@@ -67,7 +67,7 @@ module _ (t : List ℕ) (h : Head) (ready : Ready t h) (fs : List ℕ) (c : Chos
         rw (planned-by ∙ eq-eqb (getD fs i 0) 1 f, s .1, ne-eqb (at (round-in t) j .ticket) 0 (λ z. omega (arith, z, m))) (ap ticket e)
 
     pub stands-blank : (s : ℕ) → substitute (round-in t) (plan (round-in t)) (at (round-in t) i) ≡ blank s → Stood-in (round-in t) i (blank-due s)
-    unfolding substitute-reply blank
+    unfolding stand-in blank
     stands-blank s e = rw (planned-by ∙ eq-eqb (getD fs i 0) 1 f, e)
 
 -- THE CALL: 2 and 3, 5, 10, then what stands in
@@ -84,12 +84,12 @@ module _ (k : ℕ) (t : List ℕ) (sound : table-refusal t ≡ 0) where
   pub substitute-nowhere : first-of (over (round-in t .slot) (round-in t .last) ∷ []) ≡ 0 →
       ((i : ℕ) → i < length (round-in t .rows) → at (round-in t) i .ticket ≡ k → ⊥) →
       refused 10 ≡ substitute-answer k t
-  unfolding substitute-answer first substitute-reply
+  unfolding substitute-answer first stand-in
   substitute-nowhere e n = rw (sound, e, no-ticket k (round-in t .rows) (blank 0) n)
 
   pub substitute-found : first-of (over (round-in t .slot) (round-in t .last) ∷ []) ≡ 0 → Fine (round-in t) → (i : ℕ) →
       (i < length (round-in t .rows)) × (at (round-in t) i .ticket ≡ k) →
-      substitute-reply (round-in t) (some (at (round-in t) i)) ≡ substitute-answer k t
+      stand-in (round-in t) (some (at (round-in t) i)) ≡ substitute-answer k t
   unfolding substitute-answer first
   substitute-found e f i h =
       let g : with-ticket k (round-in t .rows) ≡ some (at (round-in t) i) =

@@ -5,7 +5,7 @@ use Prim.Native.Nat.{ℕ, _<_}
 use lib.ListN.{length}
 use Rattle.rules.specs.Rows.{Round}
 use Rattle.rules.specs.Calls.{Reply}
-use Rattle.rules.specs.Looking.{substitute-reply}
+use Rattle.rules.specs.Looking.{stand-in}
 use Rattle.tally.specs.Rows.{at}
 use Rattle.questions.specs.declared.substituting.Found.{Found}
 use Rattle.questions.specs.declared.substituting.Found.the-variants.{At, Nowhere}
@@ -15,4 +15,4 @@ Finds r k (At i) = (i < length (r .rows)) × (at r i .ticket ≡ k)
 Finds r k Nowhere = (i : ℕ) → i < length (r .rows) → at r i .ticket ≡ k → ⊥
 
 abbrev pub Stood-in : Round → (row : ℕ) → Reply → Type 0
-Stood-in r i a = a ≡ substitute-reply r (some (at r i))
+Stood-in r i a = a ≡ stand-in r (some (at r i))

@@ -1,16 +1,16 @@
 -- The head: its judge as the code tests it, and what a sound table says of it.
-use mathlib.Core.Path.{_≡_, refl, sym, ap, _∙_}
-use mathlib.Core.Bool.{Bool, true, false, _&&_, and-true, and-assoc}
+use mathlib.Core.Path.{_≡_, sym, ap, _∙_}
+use mathlib.Core.Bool.{_&&_}
 use mathlib.Core.List.{List}
-use Prim.Native.Nat.{ℕ, suc, _+_, _*_, _≤_}
+use Prim.Native.Nat.{ℕ, _+_, _*_, _≤_}
 use native.Mathlib.Omega.{arith}
-use lib.Dec.{leb, eqb}
-use lib.ListN.{length, take, drop}
+use lib.Dec.{eqb}
+use lib.ListN.{length, drop}
 use Rattle.rules.specs.Rows.{round}
-use Rattle.rules.specs.Table.{field, every, head-tests, rows-of, round-in, table-refusal}
-use Rattle.rules.specs.Conditions.{slot-in, last-in, next-in, used-in}
+use Rattle.rules.specs.Table.{field, every, head-tests, round-in, table-refusal}
+use Rattle.rules.specs.Conditions.{used-in}
 use Rattle.theory.specs.Back.{length-table, rising-le}
-use Rattle.theory.specs.Judge.{zeros, head-judged}
+use Rattle.theory.specs.Judge.{head-judged}
 use Rattle.theory.specs.Clauses.{rows-count}
 use Rattle.theory.specs.Sane.{sound}
 use Rattle.sorts.specs.declared.Round.{Round}

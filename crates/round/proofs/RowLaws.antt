@@ -2,13 +2,13 @@
 use mathlib.Core.Path.{_≡_, refl, sym, ap, ap₂, _∙_}
 use mathlib.Core.Bool.{Bool, true, false, _&&_}
 use mathlib.Core.List.{List}
-use Prim.Native.Nat.{ℕ, suc, _+_, _*_, _-_, _≤_, _<_}
+use Prim.Native.Nat.{ℕ, suc, _+_, _-_, _≤_, _<_}
 use native.Mathlib.Omega.{arith}
 use native.Mathlib.Numerals.{add-one}
 use lib.Dec.{ltb, leb, eqb}
 use lib.ListN.{length, getD, take, drop, length-drop}
 use lib.Seq.{drop-cons, drop-drop, take-all, getD-take, getD-drop}
-use Rattle.rules.specs.Limits.{head-size, row-size, wide-bytes}
+use Rattle.rules.specs.Limits.{row-size, wide-bytes}
 use Rattle.rules.specs.Rows.{row}
 use Rattle.rules.specs.Table.{field, every}
 use Rattle.rules.specs.Conditions.{row-at}

@@ -6,7 +6,7 @@ use Rattle.rules.specs.Plan.{due-by, fits-from, feasible, kept, blanks-f
 use Rattle.rules.specs.Steps.{opened, taken, changed, without, heaviest-between, shifted, replaced, leapt, still-due, is-ordinary, sent}
 use Rattle.rules.specs.Table.{low, value, field, put, row-bytes, rows-bytes, head-bytes, table, rows-in, rows-of, round-in, length-good, every, rows-good, round-good, same, table-refusal}
 use Rattle.rules.specs.Calls.{silence, frame, kept-blank, ordinary, leap, refused, done, ticket, step, amount, blank-due, first, act, question, deed, round-refusal, out-of, says, leaves, table-first, refusal, answer, left}
-use Rattle.rules.specs.Looking.{with-ticket, substitute-reply, substitute-answer}
+use Rattle.rules.specs.Looking.{with-ticket, stand-in, substitute-answer}
 use Rattle.rules.proofs.Played.{opens, takes, sends, totals, plain, waits, keeps, turn, listing, Hand, found, played}
 
 -- THE TABLE
@@ -366,6 +366,6 @@ unfolding row blank round slots-left heavier canonical into sorted rows-only due
     tight-from tight-after segment-from segment-start first-end least-weight mark-in mark same-row in-plan lightest-by heaviest-outside substitute
     beats-golden golden-more sends-before best-from best listed opened taken changed without heaviest-between shifted replaced leapt still-due
     is-ordinary sent low value field put row-bytes rows-bytes head-bytes table rows-in rows-of round-in length-good every rows-good round-good same
-    table-refusal first act question deed round-refusal out-of says leaves table-first refusal answer left with-ticket substitute-reply
+    table-refusal first act question deed round-refusal out-of says leaves table-first refusal answer left with-ticket stand-in
     substitute-answer
 rounds-by-hand = refl

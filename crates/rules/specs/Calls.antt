@@ -166,5 +166,5 @@ unfoldable pub after : List Call → Round → Round
 after [] r = r
 after (c ∷ cs) r = after cs (next-round c r)
 
-unfoldable pub round-after : (rows : ℕ) → Setup → List Call → Round
-round-after k u cs = after cs (opened u k)
+unfoldable pub at : (rows : ℕ) → Setup → List Call → Round
+at k u cs = after cs (opened u k)

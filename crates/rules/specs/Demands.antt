@@ -10,7 +10,7 @@ use Rattle.rules.specs.Rows.{Frame, Setup, Row, Round, chosen, slots-lef
 use Rattle.rules.specs.Plan.{plan, total, total-weight, mark, feasible, planned, listed, beats-golden, golden-more}
 use Rattle.rules.specs.Steps.{opened, sent}
 use Rattle.rules.specs.Table.{value, table, round-in, round-good, table-refusal}
-use Rattle.rules.specs.Calls.{taking, sending, marking, totalling, Call, opening, acting, asking, Reply, refused, done, ticket, step, amount, number-of, ordinary, silence, refusal, round-refusal, says, answer, left, run, replies, round-after}
+use Rattle.rules.specs.Calls.{taking, sending, marking, totalling, Call, opening, acting, asking, Reply, refused, done, ticket, step, amount, number-of, ordinary, silence, refusal, round-refusal, says, answer, left, run, replies, at}
 use Rattle.rules.specs.Looking.{substitute-answer, Shown, list-refusal, list-answer, list-left, View, the-plan, shows}
 use Rattle.rules.specs.Lines.{Command, command, text, stands, read, read-refusal, payload-at, Place, payload-place, payload, write-refusal, write-answer, write-left, fresh-table, printed}
 use Rattle.rules.specs.Reads.{complete-from, begun-from, calls-of, written-for, between-after, Some-bytes, joined}
@@ -58,13 +58,13 @@ pub record Point (r : Round) (z : List ℕ) : Type 0 where
 -- THE THIRD DEMAND, of a list as a whole, on a table t of k rows opened with a setup u
 pub record Third (k : ℕ) (u : Setup) (t : List ℕ) (cs : List Call) : Type 0 where
   pub opens : answer (opening u) t ≡ done
-  pub points : (xs ys : List Call) → cs ≡ xs ++ ys → Point (round-after k u xs) (run xs (left (opening u) t))
+  pub points : (xs ys : List Call) → cs ≡ xs ++ ys → Point (at k u xs) (run xs (left (opening u) t))
   -- marks of slots ahead never sink
-  pub marks : (xs ys zs : List Call) (s : ℕ) → cs ≡ xs ++ (ys ++ zs) → No-opening ys → round-after k u (xs ++ ys) .slot ≤ s →
-      s ≤ round-after k u (xs ++ ys) .last → mark (round-after k u xs) s ≤ mark (round-after k u (xs ++ ys)) s
+  pub marks : (xs ys zs : List Call) (s : ℕ) → cs ≡ xs ++ (ys ++ zs) → No-opening ys → at k u (xs ++ ys) .slot ≤ s →
+      s ≤ at k u (xs ++ ys) .last → mark (at k u xs) s ≤ mark (at k u (xs ++ ys)) s
   -- a newcomer raises the total by the part of its weight above the mark
-  pub newcomers : (xs ys : List Call) (f : Frame) → cs ≡ xs ++ (acting (taking f) ∷ ys) → round-refusal (acting (taking f)) (round-after k u xs) ≡ 0 →
-      total (round-after k u (xs ++ (acting (taking f) ∷ []))) ≡ total (round-after k u xs) + (f .weight - mark (round-after k u xs) (f .due))
+  pub newcomers : (xs ys : List Call) (f : Frame) → cs ≡ xs ++ (acting (taking f) ∷ ys) → round-refusal (acting (taking f)) (at k u xs) ≡ 0 →
+      total (at k u (xs ++ (acting (taking f) ∷ []))) ≡ total (at k u xs) + (f .weight - mark (at k u xs) (f .due))
   -- both once more by the replies alone
   pub marks-answered : (xs ys zs : List Call) (ps qs ts : List Reply) (s m n : ℕ) → cs ≡ xs ++ (asking (marking s) ∷ (ys ++ (asking (marking s) ∷ zs))) →
       No-opening ys → replies cs (left (opening u) t) ≡ ps ++ (amount m ∷ (qs ++ (amount n ∷ ts))) → length ps ≡ length xs → length qs ≡ length ys → m ≤ n

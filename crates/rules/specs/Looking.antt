@@ -20,16 +20,16 @@ unfoldable pub with-ticket : (ticket : ℕ) → List Row → Option Row
 with-ticket k [] = none
 with-ticket k (x ∷ xs) = cond (eqb (x .ticket) k) (some x) (with-ticket k xs)
 
-unfoldable pub substitute-reply : Round → Option Row → Reply
-substitute-reply r none = refused 10
-substitute-reply r (some x) =
+unfoldable pub stand-in : Round → Option Row → Reply
+stand-in r none = refused 10
+stand-in r (some x) =
     let s = substitute r (plan r) x in
     cond (in-plan x (plan r)) (cond (eqb (s .ticket) 0) (blank-due (s .due)) (ticket (s .ticket))) (refused 11)
 
 unfoldable pub substitute-answer : (ticket : ℕ) → List ℕ → Reply
 substitute-answer k t =
     let n = first (table-refusal t) (first-of (over (round-in t .slot) (round-in t .last) ∷ [])) in
-    cond (eqb n 0) (substitute-reply (round-in t) (with-ticket k (round-in t .rows))) (refused n)
+    cond (eqb n 0) (stand-in (round-in t) (with-ticket k (round-in t .rows))) (refused n)
 
 -- WHAT IS SHOWN of a round: the tests before 12, the items in their order, and the tests after 12
 pub record Shown (A : Type 0) : Type 0 where

@@ -12,7 +12,7 @@ use Rattle.rules.specs.Plan.{plan, best, substitute, in-plan}
 use Rattle.rules.specs.Steps.{is-ordinary}
 use Rattle.rules.specs.Table.{round-in, table-refusal}
 use Rattle.rules.specs.Calls.{taking, sending, marking, totalling, Call, opening, acting, asking, first-of, over, act, question, deed, Out, silence, frame, kept-blank, ordinary, leap, refused, ticket, step, blank-due, first, out-of, says, answer}
-use Rattle.rules.specs.Looking.{with-ticket, substitute-reply, substitute-answer}
+use Rattle.rules.specs.Looking.{with-ticket, stand-in, substitute-answer}
 use Rattle.theory.specs.Tests.{eqb?, both-ways, positive}
 use Rattle.theory.specs.All.{all-of-in}
 use Rattle.theory.specs.Sane.{Sane, sound}
@@ -66,11 +66,11 @@ unfolding with-ticket
 found-fits Q k [] n a = n
 found-fits Q k (x ∷ xs) n a = both-ways Q (eqb (x .ticket) k) (some x) (with-ticket k xs) (λ _. a .0) (λ _. found-fits Q k xs n (a .1))
 
-stand-in-fits : (r : Round) → Sane r → (k : ℕ) → Fits-substitute (substitute-reply r (with-ticket k (r .rows)))
-unfolding substitute-reply
+stand-in-fits : (r : Round) → Sane r → (k : ℕ) → Fits-substitute (stand-in r (with-ticket k (r .rows)))
+unfolding stand-in
 stand-in-fits r s k =
-    found-fits (λ o. Fits-substitute (substitute-reply r o)) k (r .rows) (refusal-stands (omega arith) (omega arith))
-    (all-of-in (λ x. Fits-substitute (substitute-reply r (some x))) (r .rows) (λ x i.
+    found-fits (λ o. Fits-substitute (stand-in r o)) k (r .rows) (refusal-stands (omega arith) (omega arith))
+    (all-of-in (λ x. Fits-substitute (stand-in r (some x))) (r .rows) (λ x i.
     both-ways Fits-substitute (in-plan x (plan r)) _ (refused 11)
     (λ _. row-fits (substitute r (plan r) x) (substitute-fits r s x i))
     (λ _. refusal-stands (omega arith) (omega arith))))

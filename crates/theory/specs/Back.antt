@@ -13,7 +13,7 @@ use Rattle.rules.specs.Limits.{head-size, row-size, most-rows, most-last, ticke
 use Rattle.rules.specs.Rows.{Frame, Setup, Tail, Row, Head-tail, Round, heavier, blank, round, row, All, blank-tail}
 use Rattle.rules.specs.Plan.{in-plan, lightest-by, sends-before, best-from, plan, best, first-end, tight-after, mark-in, substitute, heaviest-outside, segment-start}
 use Rattle.rules.specs.Steps.{opened, taken-row, taken, sent, without, changed, still-due, leapt, replaced, shifted, heaviest-between}
-use Rattle.rules.specs.Table.{low, field, put, tail-values, row-values, front-row, head-values, head-bytes, head-tests, row-bytes, rows-bytes, table, rows-in, round-in, length-good, rows-good, round-good, same, table-refusal, rows-of}
+use Rattle.rules.specs.Table.{low, field, put, tail-values, row-values, front-row, head-values, head-bytes, row-bytes, rows-bytes, table, rows-in, round-in, length-good, rows-good, round-good, same, table-refusal, rows-of}
 use Rattle.rules.specs.Calls.{Act, taking, sending, Call, acting, act, deed, round-refusal, leaves, next-round}
 use Rattle.theory.specs.Tests.{either, both-ways}
 use Rattle.theory.specs.All.{all-map, all-append}

@@ -5,10 +5,9 @@ use mathlib.Core.Bool.{true, cond, true≢false}
 use mathlib.Core.List.{List}
 use Prim.Native.Nat.{ℕ, zero, suc, _+_, _≤_, _-_}
 use native.Mathlib.Omega.{arith}
-use borrow.Author.Tests.{leb-true, le-leb}
 use lib.ListN.{length, take, drop, length-take, length-drop}
 use lib.Seq.{getD-drop, getD-take}
-use Rattle.rules.specs.Limits.{head-size, row-size, most-last, ticket-limit, head-zeros-at, ticket-at, due-at, weight-at, kind-at, row-zeros-at, slot-bytes, wide-bytes, kind-bytes}
+use Rattle.rules.specs.Limits.{head-size, row-size, head-zeros-at, ticket-at, due-at, weight-at, kind-at, row-zeros-at, slot-bytes, wide-bytes, kind-bytes}
 use Rattle.rules.specs.Rows.{row}
 use Rattle.rules.specs.Table.{field, every, front-row, tail-in, row-tests, head-tests, rows-of, length-good, table-refusal}
 use Rattle.rules.specs.Conditions.{Bytes, row-at, slot-in, last-in, next-in, used-in}

@@ -7,7 +7,6 @@ use Prim.Native.Nat.{ℕ, zero, suc, _+_, _-_, _≤_, _<_, max}
 use native.Mathlib.Omega.{arith}
 use lib.Dec.{ltb}
 use borrow.Author.Tests.{le-ltb, lt-leb, ltb-true, ltb-false, ne-eqb}
-use Rattle.rules.specs.Limits.{most-weight}
 use Rattle.rules.specs.Rows.{Row, Round, blank, row, All, In, blank-tail}
 use Rattle.rules.specs.Plan.{plan, in-plan, tight-after, segment-start, mark-in, first-end, heaviest-outside, substitute}
 use Rattle.rules.specs.Steps.{changed, without, heaviest-between, shifted, replaced, leapt}
@@ -15,7 +14,7 @@ use Rattle.theory.specs.Tests.{leb?, ltb?, both-ways}
 use Rattle.theory.specs.Sum.{sum}
 use Rattle.theory.specs.All.{blank-weight, blank-ticket, all-map, all-in, all-of-in}
 use Rattle.theory.specs.Feas.{num}
-use Rattle.theory.specs.Bounds.{Row-ok, row-ok, Row-fine, In-bounds}
+use Rattle.theory.specs.Bounds.{Row-ok, row-ok, Row-fine}
 use Rattle.theory.specs.Full.{plan-member, Fine, Rising, outside, plan-feas, plan-edge, plan-full, plan-due}
 use Rattle.theory.specs.Marks.{Tight-in, Next-tight, next, Start, start, box, box?, box-yes, rows-fill, Mark-at-least, mark-above, mark-all, mark-limit}
 use Rattle.theory.specs.Change.{First-of-ticket, changed-sum, without-sum, changed-first, rising-above, rising-first, rising-same, in-sum, not-in-plan, row-outside, without-none, changed-none, all-changed, all-without, rising-changed, rising-without}

@@ -1,18 +1,17 @@
 -- What a leap leaves, by each kind of substitute, from the plan's rows alone: final-row, moves-each, leapt-row, leapt-blank.
 use mathlib.Core.Path.{_≡_, refl, sym, ap, ap₂, _∙_}
 use mathlib.Core.Logic.{inl, inr, _≢_}
-use mathlib.Core.Bool.{false, cond}
+use mathlib.Core.Bool.{cond}
 use mathlib.Core.List.{List, [], _∷_, _++_}
-use Prim.Native.Nat.{ℕ, zero, suc, _+_, _≤_, _<_}
+use Prim.Native.Nat.{ℕ, zero, suc, _≤_, _<_}
 use native.Mathlib.Omega.{arith}
 use lib.Dec.{ltb, eqb}
 use borrow.Author.Tests.{eq-eqb, ne-eqb}
 use lib.ListN.{length, getD, set}
 use Rattle.rules.specs.Rows.{Row, Round, blank, row, All, In, blank-tail}
-use Rattle.rules.specs.Plan.{plan, in-plan, tight-after, segment-start, least-weight, mark-in, mark, substitute, planned}
+use Rattle.rules.specs.Plan.{plan, tight-after, segment-start, least-weight, mark-in, mark, substitute}
 use Rattle.rules.specs.Steps.{changed, without, replaced, leapt}
-use Rattle.theory.specs.Tests.{either, ltb?, eqb?}
-use Rattle.theory.specs.Sum.{length-sum}
+use Rattle.theory.specs.Tests.{ltb?, eqb?}
 use Rattle.theory.specs.All.{in-mid, all-map, all-in}
 use Rattle.theory.specs.Bounds.{Row-fine}
 use Rattle.theory.specs.Full.{Fine, Rising, plan-feas, plan-full, plan-due}
@@ -20,11 +19,10 @@ use Rattle.theory.specs.Marks.{next, start}
 use Rattle.theory.specs.Change.{rising-above, rising-changed}
 use Rattle.theory.specs.Send.{next-by}
 use Rattle.theory.specs.Leap.{no-shift}
-use Rattle.theory.specs.Times.{sum-less}
-use Rattle.theory.specs.Same.{of-plan, of-no, of-chosen, row-ticket, planned-same}
+use Rattle.theory.specs.Same.{row-ticket}
 use Rattle.theory.specs.Unique.{rising-other}
 use Rattle.theory.specs.Keys.{getD-in}
-use Rattle.theory.specs.Members.{Rows-of-plan, in-plan-is}
+use Rattle.theory.specs.Members.{Rows-of-plan}
 use Rattle.theory.specs.Chain.{Linked, shifted-to-end, moves, chain-is, chain-other}
 
 -- THE ROWS AFTER THE SHIFTS, each on its own
@@ -124,13 +122,6 @@ unfolding each final-row
 each-self r e [] = refl
 each-self r e (z ∷ zs) = ap (λ (ws : List Row). z ∷ ws) (each-self r e zs)
 
-pub of-plan-one : (ps : List Row) (x : Row) → of-plan ps (λ y. 1) x ≤ 1
-unfolding of-plan
-of-plan-one ps x = elim (either (eqb (x .ticket) 0)) [
-  | inl e ↦ rw e (omega arith)
-  | inr e ↦ elim (either (in-plan x ps)) [ inl d ↦ rw (e, d) (omega arith) | inr d ↦ rw (e, d) (omega arith) ]
-]
-
 pub mark-in-is : (r : Round) (b : ℕ) → mark-in r (plan r) b ≡ mark r b
 unfolding mark
 mark-in-is r b = refl
@@ -165,23 +156,6 @@ module _ (r : Round) (f : Fine r) (rs : List Row) (c : Rows-of-plan r rs) where
       rw (ne-eqb (x .ticket) (z .ticket) (λ d. all-in (λ y. z .ticket ≢ y .ticket) h (ks ++ (h ∷ ls))
       (chain-other r f rs c e g z (ks ++ (h ∷ ls)) k) (in-mid h ks ls) (sym d ∙ q)))
       (final-link (tight-after r (plan r) (z .due)) g ks ls h x (k .1) q)
-
-  -- FEW SHIFTS: three rows are none
-  pub one-row-more : (s : Row) → In s (r .rows) → in-plan s rs ≡ false → length rs + 1 ≤ length (r .rows)
-  unfolding planned
-  one-row-more s i n =
-      omega (
-        arith,
-        length-sum rs,
-        length-sum (r .rows),
-        c .same (λ x. 1),
-        planned-same r f (λ x. 1),
-        of-chosen (plan r) (λ x. 1) (r .rows) (row-ticket r f),
-        sum-less (of-plan (plan r) (λ x. 1)) (λ x. 1) of-one s (omega (arith, of-no (plan r) (λ x. 1) s (in-plan-is r f rs c s i ∙ n))) (r .rows) i,
-      )
-    where
-      of-one : (x : Row) → of-plan (plan r) (λ x. 1) x ≤ 1
-      of-one x = of-plan-one (plan r) x
 
   -- WITH A ROW for substitute
   pub leapt-row : (p s : Row) (hs : List Row) → substitute r (plan r) p ≡ s → In s (r .rows) →

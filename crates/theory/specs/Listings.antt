@@ -16,10 +16,7 @@ use Rattle.theory.specs.Sum.{sum-sorted, length-sum}
 use Rattle.theory.specs.Full.{Fine}
 use Rattle.theory.specs.Same.{listed-planned}
 use Rattle.theory.specs.Sane.{sound}
-use lib.Dec.{ltb}
-use borrow.Author.Tests.{ltb-false}
-use Rattle.rules.specs.Calls.{over, _⇒_, first-of}
-use Rattle.theory.specs.Calls.{none-holds}
+use Rattle.rules.specs.Calls.{first-of}
 use Rattle.theory.specs.Stays.{first-none}
 
 -- as many rows listed as the plan has

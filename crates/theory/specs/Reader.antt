@@ -7,7 +7,7 @@ use Prim.Native.Nat.{ℕ, suc, _+_, _-_, _≤_, _<_}
 use native.Mathlib.Omega.{arith}
 use lib.ListN.{length}
 use Rattle.rules.specs.Lines.{form-of, front-size, Command, text, stands, Reading, command, broken, reading-refusal, body, read, read-refusal}
-use Rattle.rules.specs.Lines.{payload-at, Place, place-of, payload-place, payload}
+use Rattle.rules.specs.Lines.{payload-at, place-of, payload-place, payload}
 use Rattle.rules.specs.Conditions.{No-command, read-given}
 use Rattle.rules.specs.Demands.{Place-is, Read-refusals, Payload-places}
 use Rattle.theory.specs.Tests.{ltb?}

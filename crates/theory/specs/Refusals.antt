@@ -13,7 +13,7 @@ use Rattle.rules.specs.Plan.{plan, substitute, in-plan, listed}
 use Rattle.rules.specs.Table.{rows-in, round-in, table-refusal}
 use Rattle.rules.specs.Calls.{Reply, refused, ticket, amount, blank-due, number-of}
 use Rattle.rules.specs.Calls.{Test, _⇒_, first-of, over, first}
-use Rattle.rules.specs.Looking.{with-ticket, substitute-reply, substitute-answer, Shown, list-refusal, list-answer, View, the-plan, shows}
+use Rattle.rules.specs.Looking.{with-ticket, stand-in, substitute-answer, Shown, list-refusal, list-answer, View, the-plan, shows}
 use Rattle.rules.specs.Conditions.{row-at, Bytes, No-row, Not-planned, substitute-given, list-given, used-in, Past, _gives_}
 use Rattle.rules.specs.Demands.{Refusals}
 use Rattle.theory.specs.Tests.{either, eqb?}
@@ -81,8 +81,8 @@ unplanned? k t (some y) f =
     ]
 
 -- THE NUMBER of a reply
-pub stand-in-number : (r : Round) (o : Option Row) → number-of (substitute-reply r o) ≡ cond (missing o) 10 (cond (unplanned r o) 11 0)
-unfolding substitute-reply number-of
+pub stand-in-number : (r : Round) (o : Option Row) → number-of (stand-in r o) ≡ cond (missing o) 10 (cond (unplanned r o) 11 0)
+unfolding stand-in number-of
 stand-in-number r none = refl
 stand-in-number r (some x) = let s = substitute r (plan r) x in go (in-plan x (plan r)) (eqb (s .ticket) 0) (s .due) (s .ticket)
   where
@@ -120,8 +120,8 @@ substitute-number k t =
     let r = round-in t in
     let o = with-ticket k (r .rows) in
     let n = first-of (over (r .slot) (r .last) ∷ []) in
-    number-first (first (table-refusal t) n) (substitute-reply r o)
-    ∙ first-first (table-refusal t) n (number-of (substitute-reply r o))
+    number-first (first (table-refusal t) n) (stand-in r o)
+    ∙ first-first (table-refusal t) n (number-of (stand-in r o))
     ∙ ap (λ (m : ℕ). first (table-refusal t) (first n m)) (stand-in-number r o)
     ∙ past-first (table-refusal t) r (substitute-tests r o)
 

@@ -7,7 +7,7 @@ use native.Mathlib.Omega.{arith}
 use lib.Dec.{leb, eqb}
 use borrow.Author.Tests.{leb-true, eqb-true}
 use lib.ListN.{length}
-use Rattle.rules.specs.Limits.{head-size, row-size, most-rows, most-last, ticket-limit}
+use Rattle.rules.specs.Limits.{head-size, row-size, most-rows}
 use Rattle.rules.specs.Rows.{Row, Round, round, All}
 use Rattle.rules.specs.Table.{every, row-tests, head-tests, table, rows-of, round-in, length-good, rows-good, round-good, same, table-refusal}
 use Rattle.rules.specs.Calls.{Call, opening, acting, asking, Reply, refused, first, round-refusal, table-first, refusal, says, leaves, answer, left, run, replies, next-round, after}

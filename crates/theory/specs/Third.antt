@@ -12,7 +12,7 @@ use Rattle.rules.specs.Rows.{Frame, Setup, Row, Round, slots-left, round, chose
 use Rattle.rules.specs.Plan.{plan, total, total-weight, mark, planned}
 use Rattle.rules.specs.Steps.{opened, taken}
 use Rattle.rules.specs.Table.{table, rows-of, round-in, length-good}
-use Rattle.rules.specs.Calls.{taking, marking, totalling, Call, opening, acting, asking, act, deed, Reply, done, ticket, amount, first, round-refusal, table-first, refusal, says, leaves, answer, left, run, replies, next-round, after, round-after}
+use Rattle.rules.specs.Calls.{taking, marking, totalling, Call, opening, acting, asking, act, deed, Reply, done, ticket, amount, first, round-refusal, table-first, refusal, says, leaves, answer, left, run, replies, next-round, after, at}
 use Rattle.rules.specs.Demands.{No-opening, Point, Demand-three}
 use Rattle.theory.specs.Sum.{sum-chosen}
 use Rattle.theory.specs.All.{all-map}
@@ -86,27 +86,27 @@ module _ (t : List ℕ) (k : ℕ) (u : Setup) (long : length t ≡ head-size + r
   unfolding left leaves deed round-in round
   opening-leaves = rw (opening-accepted, rows-are)
 
-  pub at-sane : (cs : List Call) → Sane (round-after k u cs)
-  unfolding round-after
+  pub at-sane : (cs : List Call) → Sane (at k u cs)
+  unfolding at
   at-sane cs = after-sane cs (opened u k) (opened-sane u k fits some few)
 
-  pub run-at : (cs : List Call) → run cs (left (opening u) t) ≡ table (round-after k u cs)
-  unfolding round-after
+  pub run-at : (cs : List Call) → run cs (left (opening u) t) ≡ table (at k u cs)
+  unfolding at
   run-at cs = rw opening-leaves (run-is cs (opened u k) (opened-sane u k fits some few))
 
-pub at-append : (k : ℕ) (u : Setup) (xs ys : List Call) → round-after k u (xs ++ ys) ≡ after ys (round-after k u xs)
-unfolding round-after
+pub at-append : (k : ℕ) (u : Setup) (xs ys : List Call) → at k u (xs ++ ys) ≡ after ys (at k u xs)
+unfolding at
 at-append k u xs ys = after-append xs ys (opened u k)
 
 -- the round after one more call
-pub at-next : (k : ℕ) (u : Setup) (xs : List Call) (c : Call) → round-after k u (xs ++ (c ∷ [])) ≡ next-round c (round-after k u xs)
+pub at-next : (k : ℕ) (u : Setup) (xs : List Call) (c : Call) → at k u (xs ++ (c ∷ [])) ≡ next-round c (at k u xs)
 unfolding after
 at-next k u xs c = at-append k u xs (c ∷ [])
 
-pub at-taken : (k : ℕ) (u : Setup) (xs : List Call) (f : Frame) → round-refusal (acting (taking f)) (round-after k u xs) ≡ 0 →
-    round-after k u (xs ++ (acting (taking f) ∷ [])) ≡ taken (round-after k u xs) f
+pub at-taken : (k : ℕ) (u : Setup) (xs : List Call) (f : Frame) → round-refusal (acting (taking f)) (at k u xs) ≡ 0 →
+    at k u (xs ++ (acting (taking f) ∷ [])) ≡ taken (at k u xs) f
 unfolding next-round leaves deed act
-at-taken k u xs f e = at-next k u xs (acting (taking f)) ∙ rw (eq-eqb (round-refusal (acting (taking f)) (round-after k u xs)) 0 e)
+at-taken k u xs f e = at-next k u xs (acting (taking f)) ∙ rw (eq-eqb (round-refusal (acting (taking f)) (at k u xs)) 0 e)
 
 -- an accepted taking leaves a sound round
 pub taken-sane : (r : Round) → Sane r → (f : Frame) → round-refusal (acting (taking f)) r ≡ 0 → Sane (taken r f)
@@ -115,11 +115,11 @@ taken-sane r s f e =
     let h = next-sane (acting (taking f)) r s in
     let c : eqb (round-refusal (acting (taking f)) r) 0 ≡ true = eq-eqb (round-refusal (acting (taking f)) r) 0 e in rw c at h
 
-pub marks-between : (k : ℕ) (u : Setup) (xs ys : List Call) (s : ℕ) → Sane (round-after k u xs) → No-opening ys → round-after k u (xs ++ ys) .slot ≤ s →
-    s ≤ round-after k u (xs ++ ys) .last → mark (round-after k u xs) s ≤ mark (round-after k u (xs ++ ys)) s
+pub marks-between : (k : ℕ) (u : Setup) (xs ys : List Call) (s : ℕ) → Sane (at k u xs) → No-opening ys → at k u (xs ++ ys) .slot ≤ s →
+    s ≤ at k u (xs ++ ys) .last → mark (at k u xs) s ≤ mark (at k u (xs ++ ys)) s
 marks-between k u xs ys s a n h i =
     let e = at-append k u xs ys in
-    let b = after-stays s ys (round-after k u xs) (a .fine) n in
+    let b = after-stays s ys (at k u xs) (a .fine) n in
     rw e (b .2 (rw e at h) (omega (arith, b .0, rw e at i)))
 
 -- TWO MARKS ANSWERED, with no accepted opening between
@@ -173,19 +173,19 @@ unfolding Demand-three
 demand-three t k u cs e h i j =
     record {
       opens = opening-answers t k u e h i j;
-      points = λ xs ys _. rw (run-at t k u e h i j xs) (point-holds (round-after k u xs) (at-sane t k u e h i j xs));
+      points = λ xs ys _. rw (run-at t k u e h i j xs) (point-holds (at k u xs) (at-sane t k u e h i j xs));
       marks = λ xs ys zs s _ n a b. marks-between k u xs ys s (at-sane t k u e h i j xs) n a b;
       newcomers = λ xs ys f _ a. rw (at-taken k u xs f a)
-          (newcomer (round-after k u xs) (at-sane t k u e h i j xs .fine) f (takes (round-after k u xs) f a));
+          (newcomer (at k u xs) (at-sane t k u e h i j xs .fine) f (takes (at k u xs) f a));
       marks-answered = λ xs ys zs ps qs ts s m n c o a p v.
-          marks-by-replies (round-after k u xs) (at-sane t k u e h i j xs) ys zs qs ts s m n o v
+          marks-by-replies (at k u xs) (at-sane t k u e h i j xs) ys zs qs ts s m n o v
           (after-replies xs (asking (marking s) ∷ (ys ++ (asking (marking s) ∷ zs))) ps (amount m ∷ (qs ++ (amount n ∷ ts))) c a p);
       newcomers-answered = λ xs ys ps qs f k′ a m b c z p.
-          newcomer-by-replies (round-after k u xs) (at-sane t k u e h i j xs) ys qs f k′ a m b
+          newcomer-by-replies (at k u xs) (at-sane t k u e h i j xs) ys qs f k′ a m b
           (after-replies xs (asking totalling ∷ asking (marking (f .due)) ∷ acting (taking f) ∷ asking totalling ∷ ys) ps
           (amount a ∷ amount m ∷ ticket k′ ∷ amount b ∷ qs) c z p);
     }
   where
     after-replies : (xs ys : List Call) (ps qs : List Reply) → cs ≡ xs ++ ys → replies cs (left (opening u) t) ≡ ps ++ qs → length ps ≡ length xs →
-        replies ys (table (round-after k u xs)) ≡ qs
+        replies ys (table (at k u xs)) ≡ qs
     after-replies xs ys ps qs c a p = rw (run-at t k u e h i j xs) at (replies-after xs ys (left (opening u) t) ps qs (rw c at a) p)

@@ -1,9 +1,7 @@
 -- The numbers and values that the definitions of Cases give forget nothing.
-use mathlib.Core.Path.{_≡_, refl, ap}
+use mathlib.Core.Path.{_≡_, refl, sym, ap, _∙_}
 use Prim.Native.Nat.{ℕ}
 use native.Mathlib.Omega.{arith}
-use Rattle.sorts.specs.declared.Slot.{Slot}
-use Rattle.sorts.specs.declared.Weight.{Weight}
 use Rattle.rules.specs.Lines as rules
 use Rattle.lines.specs.declared.Command.{Command}
 use Rattle.lines.specs.declared.Command.the-variants.{Open, Take, Send}
@@ -13,22 +11,19 @@ use Rattle.lines.specs.declared.Written.{Written}
 use Rattle.lines.specs.declared.Written.the-variants.{Length, Refused}
 use Rattle.lines.specs.Cases.{of-command, of-reading, of-written}
 
-slot-once : (a b : Slot) → a .0 ≡ b .0 → a ≡ b
-slot-once a b e i = record { 0 = e i }
+-- the case of a command
+abbrev back : rules.Command → Command
+back (rules.open-line l) = Open record { 0 = l }
+back (rules.take-line d w) = Take record { 0 = d } record { 0 = w }
+back rules.send-line = Send
 
-weight-once : (a b : Weight) → a .0 ≡ b .0 → a ≡ b
-weight-once a b e i = record { 0 = e i }
+back-of : (x : Command) → back (of-command x) ≡ x
+back-of (Open l) = refl
+back-of (Take d w) = refl
+back-of Send = refl
 
 pub command-once : (x y : Command) → of-command x ≡ of-command y → x ≡ y
-command-once (Open a) (Open b) e = ap Open (slot-once a b cc)
-command-once (Take a v) (Take b w) e = let p = slot-once a b cc in let q = weight-once v w cc in cc
-command-once Send Send e = refl
-command-once (Open a) (Take b w) e = let z : _≡_ {A = ℕ} 0 1 = cc in absurd (omega arith)
-command-once (Open a) Send e = let z : _≡_ {A = ℕ} 0 1 = cc in absurd (omega arith)
-command-once (Take a v) (Open b) e = let z : _≡_ {A = ℕ} 0 1 = cc in absurd (omega arith)
-command-once (Take a v) Send e = let z : _≡_ {A = ℕ} 0 1 = cc in absurd (omega arith)
-command-once Send (Open b) e = let z : _≡_ {A = ℕ} 0 1 = cc in absurd (omega arith)
-command-once Send (Take b w) e = let z : _≡_ {A = ℕ} 0 1 = cc in absurd (omega arith)
+command-once x y e = sym (back-of x) ∙ ap back e ∙ back-of y
 
 pub reading-once : (x y : Reading) → of-reading x ≡ of-reading y → x ≡ y
 reading-once (Is c) (Is d) e = ap Is (command-once c d cc)

@@ -100,7 +100,8 @@ CONTRACTS = {
     "questions": "`mark_of`, `plan_total` (`Says`); `substitute_of` (`Looks`)",
     "listing": "`list` (`Lists`): reply and entries, by view",
     "station": "each exported call: the packed reply and the bytes (`Exports`, `Exports-look`)",
-    "lines": "`read_command` (`read`), `payload` (`Part`), `write_line` (`Writes`), `line_end` (`Ends`), the reply writers (`Replies`)",
+    "digits": "`number` (`spelt`), `digits_only` (`all-digits`), `payload_fits` (`payload-fits`), `put_number` (`Puts`)",
+    "lines": "`read_command` (`read`), `payload` (`Payload-part`), `write_line` (`Writes`), `line_end` (`Line-ends`), the reply writers (`Replies`)",
     "turns": "`take_turn_in_room` (`Turns`): a command's call on the table, and its reply's line",
     "serving": "`serve_in_room` (`Serves`): one read, and every byte it leaves; `answer_lines_in_room` (`Answers`); `fresh_table`",
 }

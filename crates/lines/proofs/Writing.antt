@@ -22,7 +22,7 @@ use Rattle.lines.specs.declared.Written.{Written}
 use Rattle.lines.specs.declared.Written.the-variants.{Length, Refused}
 use Rattle.lines.specs.Cases.{out-number, out-ticket}
 use Rattle.lines.specs.declared.forms.Form.{Form}
-use Rattle.lines.specs.Forms.{widths-in, values-in, Has-form, Has-values}
+use Rattle.lines.specs.Forms.{widths-in, values-in, can-stand, Has-form, Has-values}
 use Rattle.lines.proofs.ReadLines.{front-count}
 use Rattle.lines.specs.Writing.{Writes, Replies, step-text}
 
@@ -138,8 +138,7 @@ module _ {c : rules.Command} {k : ℕ} {r : Form} {vs : List ℕ} (number : k �
       sym (length-take-le (r .count) (r .widths) (omega (arith, form .small .few, form .small .room))) ∙ ap length (form-here .widths) ∙ sym (as-many c) in
       ap (λ (m : ℕ). take m vs) n ∙ values .values
 
-  pub stands-here : (ps : List ℕ) →
-      fit-digits (widths-in r) (values-in r vs) && (all-digits ps && payload-fits (r .payload) (length ps)) ≡ stands c ps
+  pub stands-here : (ps : List ℕ) → can-stand r vs ps ≡ stands c ps
   unfolding stands
   stands-here ps = rw (form-here .widths, values-here, form-here .payload)
 

@@ -1,12 +1,12 @@
 -- A line's form as the code has it, a command's values, and the numbers read by a form.
 use mathlib.Core.Path.{_≡_}
-use mathlib.Core.Bool.{true}
+use mathlib.Core.Bool.{Bool, true, _&&_}
 use mathlib.Core.List.{List}
 use Prim.Native.Nat.{ℕ, _≤_}
 use lib.ListN.{length, getD, take, drop}
 use Rattle.rules.specs.Limits.{short-digits}
 use Rattle.rules.specs.Lines as rules
-use Rattle.rules.specs.Lines.{all-digits, count-digits, numbers-at, front-size, Command, values-of}
+use Rattle.rules.specs.Lines.{all-digits, count-digits, fit-digits, numbers-at, front-size, payload-fits, Command, values-of}
 use Rattle.lines.specs.declared.forms.Form.{Form}
 use Rattle.lines.specs.declared.reader.Numbers.{Numbers}
 
@@ -26,6 +26,10 @@ pub record Small (f : Form) : Type 0 where
   pub few : f .count ≤ most-numbers
   pub room : length (f .widths) ≡ most-numbers
   pub narrow : (i : ℕ) → getD (f .widths) i 0 ≤ 8
+
+-- whether values fit their digits, and a payload can follow
+abbrev pub can-stand : Form → (values payload : List ℕ) → Bool
+can-stand f vs ps = fit-digits (widths-in f) (values-in f vs) && (all-digits ps && payload-fits (f .payload) (length ps))
 
 -- THE SAME FORM as the rules'
 pub record Has-form (f : rules.Form) (r : Form) : Type 0 where

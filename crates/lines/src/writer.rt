@@ -1,13 +1,12 @@
 // The line of a command and its payload digits, written into a lent buffer.
 ghost use mathlib.Core.Path.{_≡_};
-ghost use mathlib.Core.Bool.{_&&_};
 ghost use Prim.Native.Nat.{_+_, _≤_};
 ghost use lib.ListN.{length};
 ghost use Rattle.rules.specs.Limits.{short-digits};
-ghost use Rattle.rules.specs.Lines.{all-digits, count-digits, fit-digits, numerals, payload-fits};
+ghost use Rattle.rules.specs.Lines.{count-digits, fit-digits, numerals};
 ghost use Rattle.digits.specs.Spelling.{put};
 ghost use Rattle.lines.specs.Cases.{of-command};
-ghost use Rattle.lines.specs.Forms.{Small, most-numbers, values-in, widths-in};
+ghost use Rattle.lines.specs.Forms.{Small, can-stand, most-numbers, values-in, widths-in};
 ghost use Rattle.lines.specs.Writing.{Writes};
 use crate::Command;
 use crate::LINE_END;
@@ -49,8 +48,7 @@ pub fn write_line(command: Command, payload: &[u8], buffer: &mut [u8]) -> Writte
 
 fn can_stand(form: Form, values: [u32; MOST_NUMBERS], payload: &[u8]) -> bool
     requires { ⌜ Small form × (length values ≡ most-numbers) ⌝ }
-    ensures { λ r. ⌜ r ≡ fit-digits (widths-in form) (values-in form values)
-        && (all-digits (now (payload .entry)) && payload-fits (form .payload) (length (now (payload .entry)))) ⌝ }
+    ensures { λ r. ⌜ r ≡ can-stand form values (now (payload .entry)) ⌝ }
 {
     if !values_fit(form, values) {
         return false;

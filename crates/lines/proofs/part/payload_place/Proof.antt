@@ -20,7 +20,8 @@ enum-told c = search needs
 
 returns : tie.Need-returns
 returns c = (
-  placed-broken (c .before .before .before .before .args .line .now) (c .before .before .read-command .ensures .0) (c .enum-told .given .1) (search needs) (search needs),
+  placed-broken (c .before .before .before .before .args .line .now) (c .before .before .read-command .ensures .0) (c .enum-told .given .1)
+      (search needs) (search needs),
   refl,
 )
 
@@ -31,7 +32,8 @@ form-of-requires : tie.Need-form-of-requires
 form-of-requires c κs = search needs
 
 -- the front of the command's form
-front-here : (c : tie.After-form-of) → c .form-of .result .front ≡ front-size (form-of (of-command (c .before .before .before .command .given .0 .0)))
+front-here : (c : tie.After-form-of) →
+    c .form-of .result .front ≡ front-size (form-of (of-command (c .before .before .before .command .given .0 .0)))
 front-here c = c .form-of .ensures .front ∙ ap (λ k. front-size (form-numbered k)) (c .before .line-number .ensures)
 
 add-if1 : tie.Need-add-if1
@@ -43,20 +45,18 @@ sub-end c = search needs
 returns-2 : tie.Need-returns-2
 returns-2 c =
     let form = c .before in
-    let known = form .before .before .before in (
-      placed-behind (c .before .before .before .before .before .before .before .before .args .line .now)
-          (known .before .before .read-command .ensures .0) (known .command .given .1) (front-here form) (c .if1 .taken) refl refl,
-      refl,
-    )
+    let known = form .before .before .before in
+    let line = c .before .before .before .before .before .before .before .before .args .line .now in
+    let reads = known .before .before .read-command .ensures .0 in
+    (placed-behind line reads (known .command .given .1) (front-here form) (c .if1 .taken) refl refl, refl)
 
 returns-3 : tie.Need-returns-3
 returns-3 c =
     let form = c .before in
-    let known = form .before .before .before in (
-      placed-bare (c .before .before .before .before .before .before .before .before .args .line .now)
-          (known .before .before .read-command .ensures .0) (known .command .given .1) (front-here form) (c .if1 .left) refl refl,
-      refl,
-    )
+    let known = form .before .before .before in
+    let line = c .before .before .before .before .before .before .before .before .args .line .now in
+    let reads = known .before .before .read-command .ensures .0 in
+    (placed-bare line reads (known .command .given .1) (front-here form) (c .if1 .left) refl refl, refl)
 
 pub payload-place-spec : {M : Type 1} → statement M
 payload-place-spec =

@@ -1,8 +1,9 @@
 -- `lines::read_command` meets its contract: each way out is a way in which a line is broken, or the command of its numbers.
 use mathlib.Core.Bool.{true}
 use mathlib.Core.Path.{_≡_, refl, sym, _∙_}
-use Prim.Native.Nat.{_+_, _-_, _≤_, _<_}
+use Prim.Native.Nat.{ℕ, _+_, _-_, _≤_, _<_}
 use native.Mathlib.Omega.{arith}
+use mathlib.Core.List.{List}
 use lib.ListN.{length, take}
 use borrow.Author.Needs.{needs}
 use borrow.Author.Tests.{not-true, not-false}
@@ -50,11 +51,13 @@ returns-3 c =
     let line = c .before .before .before .before .before .before .before .before .args .line .now in
     (foul 0 2 line (search needs) (spelt-nothing (take 2 line) (c .enum-told .given .1) (c .before .before .number .ensures)), refl)
 
--- the line's number is read, and its form found
-begun-here : (c : tie.After-form-of) → Begun (c .before .before .kind .given .0 .0)
-    (c .before .before .before .before .before .before .before .before .before .before .args .line .now)
+-- the line, once its number is read and its form found
+abbrev line-in : tie.After-form-of → List ℕ
+line-in c = c .before .before .before .before .before .before .before .before .before .before .args .line .now
+
+begun-here : (c : tie.After-form-of) → Begun (c .before .before .kind .given .0 .0) (line-in c)
 begun-here c =
-    let line = c .before .before .before .before .before .before .before .before .before .before .args .line .now in
+    let line = line-in c in
     let kind = c .before .before .kind .given in
     begun (kind .0 .0) line (search needs) (search needs) (spelt-number (take 2 line) (kind .1) (c .before .before .before .before .number .ensures))
 
@@ -71,7 +74,8 @@ returns-5 : tie.Need-returns-5
 returns-5 c =
     let form = c .before .before .before in
     let fits = c .before .payload-fits in
-    (unfit-payload (begun-here form) (form .form-of .ensures) (c .before .before .if3 .left) (sym (fits .ensures) ∙ not-true (fits .result) (c .if4 .taken)), refl)
+    let no = sym (fits .ensures) ∙ not-true (fits .result) (c .if4 .taken) in
+    (unfit-payload (begun-here form) (form .form-of .ensures) (c .before .before .if3 .left) no, refl)
 
 part-digits-only-start : tie.Need-part-digits-only-start
 part-digits-only-start c = search needs
@@ -85,17 +89,14 @@ digits-only-requires c κs = search needs
 returns-6 : tie.Need-returns-6
 returns-6 c =
     let form = c .before .before .before .before .before .before in
-    let line = form .before .before .before .before .before .before .before .before .before .before .args .line .now in
+    let line = line-in form in
     let front = form .form-of .result .front in
-    let only = c .before .digits-only in (
-      foul front (length line - 1 - front) line (omega (arith, c .before .before .before .before .before .if3 .left, begun-here form .long))
-          (sym (only .ensures) ∙ not-true (only .result) (c .if5 .taken)),
-      refl,
-    )
+    let only = c .before .digits-only in
+    let within = c .before .before .before .before .before .if3 .left in
+    (foul front (length line - 1 - front) line (omega (arith, within, begun-here form .long)) (sym (only .ensures) ∙ not-true (only .result) (c .if5 .taken)), refl)
 
 numbers-within : (c : tie.Else5) → let form = c .before .before .before .before .before .before in
-    short-digits + count-digits (widths-in (form .form-of .result))
-    < length (form .before .before .before .before .before .before .before .before .before .before .args .line .now)
+    short-digits + count-digits (widths-in (form .form-of .result)) < length (line-in form)
 numbers-within c =
     let form = c .before .before .before .before .before .before in
     omega (arith, front-count (form .form-of .ensures), c .before .before .before .before .before .if3 .left, begun-here form .long)
@@ -107,7 +108,7 @@ returns-7 : tie.Need-returns-7
 returns-7 c =
     let clean = c .before .before .before in
     let form = clean .before .before .before .before .before .before in
-    let line = form .before .before .before .before .before .before .before .before .before .before .args .line .now in
+    let line = line-in form in
     let numbers = c .before .before .read-numbers in (
       foul short-digits (count-digits (widths-in (form .form-of .result))) line (numbers-within clean)
           (sym (numbers .ensures .clean) ∙ not-true (numbers .result .good) (c .if6 .taken)),
@@ -126,7 +127,7 @@ returns-8 c =
     let good = not-false (numbers .result .good) (last .if6 .left) in
     let fits = clean .before .before .before .before .payload-fits in
     let only = clean .before .digits-only in
-    let line = form .before .before .before .before .before .before .before .before .before .before .args .line .now in (
+    let line = line-in form in (
       c .command-of .ensures
           ∙ command-same (form .before .before .kind .given .0 .0) (numbers .result .at) (numbers-at short-digits (widths-in (form .form-of .result)) line)
           (numbers .ensures .values good)

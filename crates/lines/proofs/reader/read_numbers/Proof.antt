@@ -7,7 +7,8 @@ use lib.ListN.{length, getD, take, drop}
 use borrow.Author.Needs.{needs}
 use Rattle.lines.specs.Forms.{widths-in}
 use Rattle.lines.proofs.ReadLines.{spelt-number, spelt-nothing}
-use Rattle.lines.proofs.Collecting.{Collected, collected-none, length-widths, width-in, part-long, part-short, next-within, collected-foul, collected-more, collected-all}
+use Rattle.lines.proofs.Collecting.{length-widths, width-in, part-long, part-short, next-within}
+use Rattle.lines.proofs.Collecting.{Collected, collected-none, collected-foul, collected-more, collected-all}
 use Rattle.lines.proofs.reader.read_numbers.Statement.{statement}
 use Rattle.lines.proofs.reader.read_numbers.Tie as tie
 
@@ -29,8 +30,8 @@ width : (c : tie.In-loop Inv-loop μ-loop) → let f = c .before .before .before
 width c = width-in (c .before .before .before .before .args .form) (c .before .loop .i) (c .loop-test .taken)
 
 ends : (c : tie.In-loop Inv-loop μ-loop) →
-    c .before .loop .from + getD (c .before .before .before .before .args .form .widths) (c .before .loop .i) 0 ≤ length
-    (c .before .before .before .before .args .line .now)
+    c .before .loop .from + getD (c .before .before .before .before .args .form .widths) (c .before .loop .i) 0
+    ≤ length (c .before .before .before .before .args .line .now)
 ends c = omega (arith, next-within (c .before .loop .inv) (within c) (width c), c .before .before .before .before .pre .1)
 
 loop-holds : tie.Need-loop-holds Inv-loop μ-loop

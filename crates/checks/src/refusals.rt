@@ -1,6 +1,6 @@
 // Each call's refusals on a sound table: the number of the first whose test holds, 0 where none does.
 ghost use mathlib.Core.Path.{_≡_};
-ghost use mathlib.Core.Bool.{_||_, cond};
+ghost use mathlib.Core.Bool.{_||_};
 ghost use lib.Dec.{ltb, leb};
 ghost use Rattle.rules.specs.Rows.{framed, until};
 ghost use Rattle.rules.specs.Calls.{first-of, open-tests, take-tests, send-tests, mark-tests};
@@ -11,59 +11,71 @@ use sorts::Weight;
 pub fn opening_refusal(last: Slot) -> u32
     ensures { λ r. ⌜ r ≡ first-of (open-tests (until (last .0))) ⌝ }
 {
-    first(Round::LAST.0 < last.0, 4, 0)
+    if Round::LAST.0 < last.0 {
+        return 4;
+    }
+    0
 }
 
 pub fn taking_refusal(round: Round, due: Slot, weight: Weight) -> u32
     ensures { λ r. ⌜ r ≡ first-of (take-tests (round .slot .0) (round .last .0) (round .next .0) (round .used) (round .room)
         (framed (due .0) (weight .0))) ⌝ }
 {
-    let weightless = (weight.0 == 0) | (Round::WEIGHT.0 < weight.0);
-    let spent = round.next.0 == Round::TICKETS.0;
-    let none_left = first(spent, 8, full(round, 0));
-    over(round, first(weightless, 6, outside(round, due, none_left)))
+    if is_over(round) {
+        return 5;
+    }
+    if (weight.0 == 0) | (Round::WEIGHT.0 < weight.0) {
+        return 6;
+    }
+    if not_ahead(round, due) {
+        return 7;
+    }
+    if round.next.0 == Round::TICKETS.0 {
+        return 8;
+    }
+    if is_full(round) {
+        return 9;
+    }
+    0
 }
 
 // Of a sending, and of every other call that asks for no more than a slot left.
 pub fn sending_refusal(round: Round) -> u32
     ensures { λ r. ⌜ r ≡ first-of (send-tests (round .slot .0) (round .last .0)) ⌝ }
 {
-    over(round, 0)
+    if is_over(round) {
+        return 5;
+    }
+    0
 }
 
 pub fn marking_refusal(round: Round, slot: Slot) -> u32
     ensures { λ r. ⌜ r ≡ first-of (mark-tests (round .slot .0) (round .last .0) (slot .0)) ⌝ }
 {
-    over(round, outside(round, slot, 0))
-}
-
-// The round is over.
-fn over(round: Round, rest: u32) -> u32
-    ensures { λ r. ⌜ r ≡ cond (ltb (round .last .0) (round .slot .0)) 5 rest ⌝ }
-{
-    first(round.last.0 < round.slot.0, 5, rest)
-}
-
-// A slot lies before the current one, or after the last.
-fn outside(round: Round, slot: Slot, rest: u32) -> u32
-    ensures { λ r. ⌜ r ≡ cond (ltb (slot .0) (round .slot .0) || ltb (round .last .0) (slot .0)) 7 rest ⌝ }
-{
-    first((slot.0 < round.slot.0) | (round.last.0 < slot.0), 7, rest)
-}
-
-// No row is left.
-fn full(round: Round, rest: u32) -> u32
-    ensures { λ r. ⌜ r ≡ cond (leb (round .room) (round .used)) 9 rest ⌝ }
-{
-    first(round.room <= round.used, 9, rest)
-}
-
-// A number where its test holds, else what the tests behind it give.
-fn first(holds: bool, number: u32, rest: u32) -> u32
-    ensures { λ r. ⌜ r ≡ cond holds number rest ⌝ }
-{
-    if holds {
-        return number;
+    if is_over(round) {
+        return 5;
     }
-    rest
+    if not_ahead(round, slot) {
+        return 7;
+    }
+    0
+}
+
+fn is_over(round: Round) -> bool
+    ensures { λ r. ⌜ r ≡ ltb (round .last .0) (round .slot .0) ⌝ }
+{
+    round.last.0 < round.slot.0
+}
+
+// Whether a slot lies before the current one or after the last.
+fn not_ahead(round: Round, slot: Slot) -> bool
+    ensures { λ r. ⌜ r ≡ ltb (slot .0) (round .slot .0) || ltb (round .last .0) (slot .0) ⌝ }
+{
+    (slot.0 < round.slot.0) | (round.last.0 < slot.0)
+}
+
+fn is_full(round: Round) -> bool
+    ensures { λ r. ⌜ r ≡ leb (round .room) (round .used) ⌝ }
+{
+    round.room <= round.used
 }

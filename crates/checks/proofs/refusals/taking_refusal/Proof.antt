@@ -1,32 +1,76 @@
--- `checks::refusals::taking_refusal` meets its contract.
+-- `checks::refusals::taking_refusal` meets its contract: each number where the tests before it do not hold.
+use mathlib.Core.Path.{_≡_, sym, _∙_}
+use mathlib.Core.Bool.{false, _||_}
+use lib.Dec.{eqb, ltb}
+use native.Mathlib.Omega.{arith}
 use borrow.Author.Needs.{needs}
+use borrow.Author.Tests.{eq-eqb, ne-eqb}
+use Rattle.rules.specs.Limits.{most-weight, ticket-limit}
 use Rattle.checks.proofs.refusals.taking_refusal.Statement.{statement}
 use Rattle.checks.proofs.refusals.taking_refusal.Tie as tie
 
-full-requires : tie.Need-full-requires
-full-requires c κs = search needs
+is-over-requires : tie.Need-is-over-requires
+is-over-requires c κs = search needs
 
-first-requires : tie.Need-first-requires
-first-requires c κs = search needs
+not-ahead-requires : tie.Need-not-ahead-requires
+not-ahead-requires c κs = search needs
 
-outside-requires : tie.Need-outside-requires
-outside-requires c κs = search needs
+is-full-requires : tie.Need-is-full-requires
+is-full-requires c κs = search needs
 
-first-requires-2 : tie.Need-first-requires-2
-first-requires-2 c κs = search needs
+-- what a test says that did not hold
+going-on : (c : tie.Else1) → ltb (c .before .before .args .round .last .0) (c .before .before .args .round .slot .0) ≡ false
+going-on c = sym (c .before .is-over .ensures) ∙ c .if1 .left
 
-over-requires : tie.Need-over-requires
-over-requires c κs = search needs
+weighed : (c : tie.Else2) → let w = c .before .before .before .before .before .before .args .weight .0 in
+    (eqb w 0 || ltb most-weight w) ≡ false
+weighed c = c .if2 .left
+
+ahead : (c : tie.Else3) → let s = c .before .before .before .before .before .before .before .before .args in
+    (ltb (s .due .0) (s .round .slot .0) || ltb (s .round .last .0) (s .due .0)) ≡ false
+ahead c = sym (c .before .not-ahead .ensures) ∙ c .if3 .left
+
+unspent : (c : tie.Else4) →
+    eqb (c .before .before .before .before .before .before .before .before .before .before .before .args .round .next .0) ticket-limit ≡ false
+unspent c =
+    ne-eqb (c .before .before .before .before .before .before .before .before .before .before .before .args .round .next .0) ticket-limit (λ z. omega (arith, z))
 
 returns : tie.Need-returns
-returns c = rw (
-  c .over .ensures,
-  c .before .first2 .ensures,
-  c .before .before .outside .ensures,
-  c .before .before .before .first .ensures,
-  c .before .before .before .before .full .ensures,
+returns c = rw (sym (c .before .is-over .ensures) ∙ c .if1 .taken)
+
+returns-2 : tie.Need-returns-2
+returns-2 c = rw (going-on (c .before .before .before .before), c .if2 .taken)
+
+returns-3 : tie.Need-returns-3
+returns-3 c = rw (going-on (c .before .before .before .before .before .before), weighed (c .before .before), sym (c .before .not-ahead .ensures) ∙ c .if3 .taken)
+
+returns-4 : tie.Need-returns-4
+returns-4 c = rw (
+  going-on (c .before .before .before .before .before .before .before .before .before),
+  weighed (c .before .before .before .before .before),
+  ahead (c .before .before .before),
+  eq-eqb (c .before .before .before .before .before .before .before .before .before .before .before .args .round .next .0) ticket-limit (omega arith),
+)
+
+returns-5 : tie.Need-returns-5
+returns-5 c = rw (
+  going-on (c .before .before .before .before .before .before .before .before .before .before .before),
+  weighed (c .before .before .before .before .before .before .before),
+  ahead (c .before .before .before .before .before),
+  unspent (c .before .before),
+  sym (c .before .is-full .ensures) ∙ c .if5 .taken,
+)
+
+returns-6 : tie.Need-returns-6
+returns-6 c = rw (
+  going-on (c .before .before .before .before .before .before .before .before .before .before .before),
+  weighed (c .before .before .before .before .before .before .before),
+  ahead (c .before .before .before .before .before),
+  unspent (c .before .before),
+  sym (c .before .is-full .ensures) ∙ c .if5 .left,
 )
 
 pub taking-refusal-spec : {M : Type 1} → statement M
 taking-refusal-spec =
-    tie.close (tie.spec full-requires first-requires outside-requires first-requires-2 over-requires returns)
+    tie.close
+    (tie.spec is-over-requires returns returns-2 not-ahead-requires returns-3 returns-4 is-full-requires returns-5 returns-6)

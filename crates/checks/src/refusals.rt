@@ -27,7 +27,7 @@ pub fn taking_refusal(round: Round, due: Slot, weight: Weight) -> u32
     if (weight.0 == 0) | (Round::WEIGHT.0 < weight.0) {
         return 6;
     }
-    if is_outside(round, due) {
+    if not_ahead(round, due) {
         return 7;
     }
     if round.next.0 == Round::TICKETS.0 {
@@ -55,7 +55,7 @@ pub fn marking_refusal(round: Round, slot: Slot) -> u32
     if is_over(round) {
         return 5;
     }
-    if is_outside(round, slot) {
+    if not_ahead(round, slot) {
         return 7;
     }
     0
@@ -68,7 +68,7 @@ fn is_over(round: Round) -> bool
 }
 
 // Whether a slot lies before the current one or after the last.
-fn is_outside(round: Round, slot: Slot) -> bool
+fn not_ahead(round: Round, slot: Slot) -> bool
     ensures { λ r. ⌜ r ≡ ltb (slot .0) (round .slot .0) || ltb (round .last .0) (slot .0) ⌝ }
 {
     (slot.0 < round.slot.0) | (round.last.0 < slot.0)

@@ -12,8 +12,8 @@ use Rattle.checks.proofs.refusals.taking_refusal.Tie as tie
 is-over-requires : tie.Need-is-over-requires
 is-over-requires c κs = search needs
 
-is-outside-requires : tie.Need-is-outside-requires
-is-outside-requires c κs = search needs
+not-ahead-requires : tie.Need-not-ahead-requires
+not-ahead-requires c κs = search needs
 
 is-full-requires : tie.Need-is-full-requires
 is-full-requires c κs = search needs
@@ -26,9 +26,9 @@ weighed : (c : tie.Else2) → let w = c .before .before .before .before .before 
     (eqb w 0 || ltb most-weight w) ≡ false
 weighed c = c .if2 .left
 
-inside : (c : tie.Else3) → let s = c .before .before .before .before .before .before .before .before .args in
+ahead : (c : tie.Else3) → let s = c .before .before .before .before .before .before .before .before .args in
     (ltb (s .due .0) (s .round .slot .0) || ltb (s .round .last .0) (s .due .0)) ≡ false
-inside c = sym (c .before .is-outside .ensures) ∙ c .if3 .left
+ahead c = sym (c .before .not-ahead .ensures) ∙ c .if3 .left
 
 unspent : (c : tie.Else4) →
     eqb (c .before .before .before .before .before .before .before .before .before .before .before .args .round .next .0) ticket-limit ≡ false
@@ -42,13 +42,13 @@ returns-2 : tie.Need-returns-2
 returns-2 c = rw (going-on (c .before .before .before .before), c .if2 .taken)
 
 returns-3 : tie.Need-returns-3
-returns-3 c = rw (going-on (c .before .before .before .before .before .before), weighed (c .before .before), sym (c .before .is-outside .ensures) ∙ c .if3 .taken)
+returns-3 c = rw (going-on (c .before .before .before .before .before .before), weighed (c .before .before), sym (c .before .not-ahead .ensures) ∙ c .if3 .taken)
 
 returns-4 : tie.Need-returns-4
 returns-4 c = rw (
   going-on (c .before .before .before .before .before .before .before .before .before),
   weighed (c .before .before .before .before .before),
-  inside (c .before .before .before),
+  ahead (c .before .before .before),
   eq-eqb (c .before .before .before .before .before .before .before .before .before .before .before .args .round .next .0) ticket-limit (omega arith),
 )
 
@@ -56,7 +56,7 @@ returns-5 : tie.Need-returns-5
 returns-5 c = rw (
   going-on (c .before .before .before .before .before .before .before .before .before .before .before),
   weighed (c .before .before .before .before .before .before .before),
-  inside (c .before .before .before .before .before),
+  ahead (c .before .before .before .before .before),
   unspent (c .before .before),
   sym (c .before .is-full .ensures) ∙ c .if5 .taken,
 )
@@ -65,7 +65,7 @@ returns-6 : tie.Need-returns-6
 returns-6 c = rw (
   going-on (c .before .before .before .before .before .before .before .before .before .before .before),
   weighed (c .before .before .before .before .before .before .before),
-  inside (c .before .before .before .before .before),
+  ahead (c .before .before .before .before .before),
   unspent (c .before .before),
   sym (c .before .is-full .ensures) ∙ c .if5 .left,
 )
@@ -73,4 +73,4 @@ returns-6 c = rw (
 pub taking-refusal-spec : {M : Type 1} → statement M
 taking-refusal-spec =
     tie.close
-    (tie.spec is-over-requires returns returns-2 is-outside-requires returns-3 returns-4 is-full-requires returns-5 returns-6)
+    (tie.spec is-over-requires returns returns-2 not-ahead-requires returns-3 returns-4 is-full-requires returns-5 returns-6)

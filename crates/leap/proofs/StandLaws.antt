@@ -5,6 +5,7 @@ use mathlib.Core.List.{List, [], _∷_}
 use Prim.Native.Nat.{ℕ, suc, _≤_}
 use native.Mathlib.Omega.{arith}
 use lib.ListN.{length, drop}
+use Rattle.rules.specs.Limits.{head-size}
 use Rattle.rules.specs.Rows.{Row, Round, round, row, All}
 use Rattle.rules.specs.Plan.{plan, tight-after, mark}
 use Rattle.rules.specs.Steps.{changed}
@@ -50,7 +51,7 @@ pub record Stood (t : List ℕ) (h : Head) (xs : List Row) (u : List ℕ) : Type
 head-made : (u : List ℕ) (h : Head) → h .slot .0 ≡ round-in u .slot → h .last .0 ≡ round-in u .last → h .next .0 ≡ round-in u .next →
     h .used ≡ length (round-in u .rows) → h .room ≡ round-in u .room → Head-of u h
 unfolding round-in round
-head-made u h a b c d e = record { slot = a; last = b; next = c; used = d ∙ rows-count (used-in u) (drop 16 u); room = e }
+head-made u h a b c d e = record { slot = a; last = b; next = c; used = d ∙ rows-count (used-in u) (drop head-size u); room = e }
 
 head-next : (t : List ℕ) (h : Head) → Head-of t h → h .next .0 ≡ round-in t .next
 unfolding round-in round

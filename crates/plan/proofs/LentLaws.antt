@@ -5,6 +5,7 @@ use Prim.Native.Nat.{ℕ, zero, suc, _+_, _≤_}
 use native.Mathlib.Omega.{arith}
 use lib.ListN.{length, take, drop, replicate, length-replicate, length-append}
 use lib.Seq.{take-at}
+use Rattle.rules.specs.Limits.{head-size}
 use Rattle.rules.specs.Rows.{round}
 use Rattle.rules.specs.Table.{round-in}
 use Rattle.rules.specs.Conditions.{used-in}
@@ -31,7 +32,7 @@ module _ (t : List ℕ) (h : Head) (ready : Ready t h) where
 
   pub used-rows : h .used ≡ length (round-in t .rows)
   unfolding round-in round
-  used-rows = ready .head .used ∙ sym (rows-count (used-in t) (drop 16 t))
+  used-rows = ready .head .used ∙ sym (rows-count (used-in t) (drop head-size t))
 
   -- every row, where nothing is left out
   pub all-flagged : (x : Reach) (fs : List ℕ) → Reaches (round-in t) x → x .over ≡ 0 → fs ≡ replicate (h .used) 1 → Chosen (round-in t) fs

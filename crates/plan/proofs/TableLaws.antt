@@ -4,6 +4,7 @@ use mathlib.Core.List.{List}
 use Prim.Native.Nat.{ℕ, _≤_, _<_}
 use native.Mathlib.Omega.{arith}
 use lib.ListN.{length, drop}
+use Rattle.rules.specs.Limits.{head-size}
 use Rattle.rules.specs.Rows.{Row, row, round}
 use Rattle.rules.specs.Table.{round-in, table-refusal}
 use Rattle.rules.specs.Conditions.{slot-in, used-in, due-in, weight-in}
@@ -27,7 +28,7 @@ weight-held t j h = ap (λ (x : Row). x .weight) (at-held t j h)
 
 pub rows-held : (t : List ℕ) → length (round-in t .rows) ≡ used-in t
 unfolding round-in round
-rows-held t = rows-count (used-in t) (drop 16 t)
+rows-held t = rows-count (used-in t) (drop head-size t)
 
 pub slot-held : (t : List ℕ) → round-in t .slot ≡ slot-in t
 unfolding round-in round

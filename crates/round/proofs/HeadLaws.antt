@@ -6,6 +6,7 @@ use Prim.Native.Nat.{ℕ, _+_, _*_, _≤_}
 use native.Mathlib.Omega.{arith}
 use lib.Dec.{eqb}
 use lib.ListN.{length, drop}
+use Rattle.rules.specs.Limits.{head-size, row-size, head-zeros-at}
 use Rattle.rules.specs.Rows.{round}
 use Rattle.rules.specs.Table.{field, every, head-tests, round-in, table-refusal}
 use Rattle.rules.specs.Conditions.{used-in}
@@ -19,13 +20,14 @@ use Rattle.round.proofs.ZeroLaws.{zeros-split, zeros-by-number}
 
 -- THE JUDGE of a head
 pub head-is : (t : List ℕ) (h : Round) → Head-of t h →
-    every (head-tests (h .slot .0) (h .last .0) (h .next .0) (h .used) (h .room)) && (eqb (field 10 2 t) 0 && eqb (field 12 4 t) 0) ≡ head-judged t
+    every (head-tests (h .slot .0) (h .last .0) (h .next .0) (h .used) (h .room))
+    && (eqb (field head-zeros-at 2 t) 0 && eqb (field (head-zeros-at + 2) 4 t) 0) ≡ head-judged t
 unfolding head-judged
-head-is t h d = rw (d .slot, d .last, d .next, d .used, d .room, zeros-split t 10 2 4, zeros-by-number t 12 4)
+head-is t h d = rw (d .slot, d .last, d .next, d .used, d .room, zeros-split t head-zeros-at 2 4, zeros-by-number t (head-zeros-at + 2) 4)
 
 -- THE HEAD OF A SOUND TABLE
 pub record Sound-head (t : List ℕ) (h : Round) : Type 0 where
-  pub long : length t ≡ 16 + 24 * h .room
+  pub long : length t ≡ head-size + row-size * h .room
   pub some : 1 ≤ h .room
   pub few : h .room ≤ 1024
   pub used : h .used ≤ h .room
@@ -42,10 +44,10 @@ sound-head t h e k =
     let z = s .sane .size in
     let f = s .sane .fine in
     record {
-      long = sym (ap length (s .bytes)) ∙ length-table r (z .long) ∙ ap (λ (n : ℕ). 16 + 24 * n) (sym (k .room));
+      long = sym (ap length (s .bytes)) ∙ length-table r (z .long) ∙ ap (λ (n : ℕ). head-size + row-size * n) (sym (k .room));
       some = omega (arith, s .sane .some, k .room);
       few = omega (arith, z .room, k .room);
-      used = omega (arith, z .long, k .room, k .used, rows-count (used-in t) (drop 16 t));
+      used = omega (arith, z .long, k .room, k .used, rows-count (used-in t) (drop head-size t));
       last = omega (arith, z .last, k .last);
       slot = omega (arith, f .time, k .slot, k .last);
       least = omega (arith, rising-le 1 (r .next) (r .rows) (f .rising), k .next);

@@ -7,6 +7,7 @@ use native.Mathlib.Omega.{arith}
 use borrow.Author.Tests.{eq-eqb, ne-eqb}
 use lib.ListN.{length, getD}
 use lib.Seq.{sets}
+use Rattle.rules.specs.Limits.{head-size, row-size}
 use Rattle.rules.specs.Rows.{Row, Round, round, row, blank}
 use Rattle.rules.specs.Plan.{plan, tight-after, mark}
 use Rattle.rules.specs.Steps.{changed}
@@ -283,7 +284,7 @@ module _ (r : Round) (fs : List ℕ) (x : Reach) (z : Scene r fs x) (to : ℕ) (
     ]
 
   -- the link that waits stands in the table, which keeps its length
-  pub waiting-long : (e k : ℕ) (t : List ℕ) → length (r .rows) ≤ r .room → Waiting r fs to e k t → length t ≡ 16 + 24 * r .room
+  pub waiting-long : (e k : ℕ) (t : List ℕ) → length (r .rows) ≤ r .room → Waiting r fs to e k t → length t ≡ head-size + row-size * r .room
   waiting-long e k t o (inl a) = ap length (a .2) ∙ length-table r o
   waiting-long e k t o (inr a) =
       let e1 = tight-after r (plan r) (at r (a .row) .due) in

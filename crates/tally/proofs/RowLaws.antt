@@ -4,6 +4,7 @@ use mathlib.Core.List.{List}
 use Prim.Native.Nat.{ℕ, zero, suc, _+_, _≤_, _<_}
 use native.Mathlib.Omega.{arith}
 use lib.ListN.{length, getD, drop}
+use Rattle.rules.specs.Limits.{head-size}
 use Rattle.rules.specs.Rows.{Row, row, round, blank}
 use Rattle.rules.specs.Table.{field, rows-in, round-in}
 use Rattle.rules.specs.Conditions.{row-at, used-in}
@@ -33,7 +34,7 @@ unfolding round-in round
 known t h k =
     let s = sound t (k .sound) .sane in
     let l = length-long t (accepted-length t (k .sound)) in
-    let n = rows-count (used-in t) (drop 16 t) in
+    let n = rows-count (used-in t) (drop head-size t) in
     record {
       fine = s .fine;
       time = omega (arith, k .time, k .head .slot, k .head .last);

@@ -7,6 +7,8 @@ use native.Mathlib.Omega.{arith}
 use lib.ListN.{drop, length-take, length-drop}
 use borrow.Author.Needs.{needs}
 use borrow.Author.Tests.{not-true, not-false}
+use Rattle.rules.specs.Limits.{head-size}
+use Rattle.rules.specs.Conditions.{row-at}
 use Rattle.theory.specs.Judge.{rows-judged}
 use Rattle.round.proofs.RowLaws.{rows-more, rows-none}
 use Rattle.round.proofs.rows.rows_are_sound.Statement.{statement}
@@ -15,8 +17,8 @@ use Rattle.round.proofs.rows.rows_are_sound.Tie as tie
 abbrev Inv-loop : tie.InvT-loop
 Inv-loop table round used previous₀ i₀ previous i =
     (i ≤ used)
-    × (rows-judged used (round .slot .0) (round .last .0) (round .next .0) 0 (drop 16 table)
-    ≡ rows-judged (used - i) (round .slot .0) (round .last .0) (round .next .0) previous (drop (16 + 24 * i) table))
+    × (rows-judged used (round .slot .0) (round .last .0) (round .next .0) 0 (drop head-size table)
+    ≡ rows-judged (used - i) (round .slot .0) (round .last .0) (round .next .0) previous (drop (row-at i) table))
 
 abbrev μ-loop : tie.MeasureT-loop
 μ-loop table round used previous₀ i₀ previous i = used - i

@@ -83,6 +83,7 @@ KINDS = [
 # What the edits of a crate aim at.
 CONTRACTS = {
     "rules": "the definitions, held to the rounds, bytes and lines worked out by hand in crates/rules/proofs",
+    "sorts": "a head as a value: just opened (`new`), and with one more row (`one_more`)",
     "numbers": "numbers in bytes: read (`field`) and written (`low`)",
     "checks": "a table's length (`length-good`), a head's numbers (`head-tests`), and each call's refusals in their order (`first-of`)",
     "packing": "each reply packed (`pack`), and read back (`Unpacks`)",

@@ -1,15 +1,15 @@
 -- The plan's listing written out: what it refuses, answers and leaves, its conditions and what is owed of it are these texts, by definition.
 use mathlib.Core.Path.{_≡_, refl}
-use mathlib.Core.Bool.{cond}
-use mathlib.Core.List.{List, _++_, map}
+use mathlib.Core.Bool.{Bool, true, false, cond}
+use mathlib.Core.List.{List, [], _∷_, _++_, map}
 use Prim.Native.Nat.{ℕ, _≤_, _<_}
 use lib.Dec.{ltb, eqb}
-use lib.ListN.{length, take, drop}
-use Rattle.rules.specs.Rows.{Row, sorted, canonical}
+use lib.ListN.{length, take, drop, replicate}
+use Rattle.rules.specs.Rows.{Row, Round, row, round, sorted, canonical}
 use Rattle.rules.specs.Plan.{planned, listed}
-use Rattle.rules.specs.Table.{round-in, table-refusal}
-use Rattle.rules.specs.Calls.{Reply, refused, amount, number-of, first}
-use Rattle.rules.specs.Looking.{list-refusal, list-answer, list-left, the-plan, shows}
+use Rattle.rules.specs.Table.{low, value, field, put, row-bytes, rows-bytes, head-bytes, table, rows-in, rows-of, round-in, length-good, every, rows-good, round-good, same, table-refusal}
+use Rattle.rules.specs.Calls.{Reply, refused, amount, number-of, _⇒_, first}
+use Rattle.rules.specs.Looking.{Shown, list-refusal, list-answer, list-left, the-plan, shows}
 use Rattle.rules.specs.Conditions.{Bytes, Length-bad, Unsound, Past, when, accepted, list-given}
 use Rattle.rules.specs.Demands.{Refusals, Refused, List-refused-unchanged, Plan-listings}
 
@@ -67,3 +67,27 @@ pub listings-shape : Plan-listings ≡ (
     )
 unfolding Plan-listings list-refusal list-answer list-left shows
 listings-shape = refl
+
+-- THE ORDER AROUND 12, which the plan does not show: two items with a test before 12 and one after it, on a round just opened
+abbrev pub shown-so : (early late : Bool) → Round → Shown ℕ
+shown-so a b r = record { early = (a ⇒ 5) ∷ []; items = 7 ∷ 8 ∷ []; late = (b ⇒ 13) ∷ [] }
+
+abbrev pub just-opened : List ℕ
+just-opened = 0 ∷ 0 ∷ 3 ∷ 0 ∷ 1 ∷ replicate 35 0
+
+pub numbers-around-12 :
+    (list-refusal (shown-so true true) just-opened 1 ∷ list-refusal (shown-so true true) just-opened 2
+    ∷ list-refusal (shown-so false true) just-opened 1 ∷ list-refusal (shown-so false true) just-opened 2
+    ∷ list-refusal (shown-so false false) just-opened 1 ∷ list-refusal (shown-so false false) just-opened 2 ∷ [])
+    ≡ 5 ∷ 5 ∷ 12 ∷ 13 ∷ 12 ∷ 0 ∷ []
+unfolding round row low value field put row-bytes rows-bytes head-bytes table rows-in rows-of round-in length-good every rows-good round-good same
+    table-refusal first list-refusal
+numbers-around-12 = refl
+
+pub entries-around-12 :
+    (list-left (shown-so false true) (λ (x : ℕ). x) just-opened (1 ∷ 2 ∷ 3 ∷ [])
+    ∷ list-left (shown-so false false) (λ (x : ℕ). x) just-opened (1 ∷ 2 ∷ 3 ∷ []) ∷ [])
+    ≡ (1 ∷ 2 ∷ 3 ∷ []) ∷ (7 ∷ 8 ∷ 3 ∷ []) ∷ []
+unfolding round row low value field put row-bytes rows-bytes head-bytes table rows-in rows-of round-in length-good every rows-good round-good same
+    table-refusal first list-refusal list-left
+entries-around-12 = refl

@@ -5,3 +5,4 @@ pub mod JudgeLaws
 pub mod WriteLaws
 pub mod TableLaws
 pub mod ByHead
+pub mod ReadLaws

@@ -3,3 +3,4 @@ pub mod zeros; // zeros.rt: bytes that are zero
 pub mod head; // head.rt: the table's head
 pub mod rows; // rows.rt: a row's bytes
 pub mod sound; // sound.rt: the judge of a whole table
+pub mod read; // read.rt: a sound table's rows read

@@ -1,0 +1,16 @@
+-- One number for a row: greater for the lighter one; of equal weights for the later due slot, then for the later row. So no key is
+-- greater than a heavier row's, and that of a blank, which weighs nothing, is greater than any row's.
+use Prim.Native.Nat.{ℕ, _+_, _*_, _-_}
+use Rattle.rules.specs.Rows.{Round}
+use Rattle.round.specs.Rows.{at}
+
+-- Weight, due slot, two bits that nothing uses yet, and the row.
+unfoldable pub key : (weight due row : ℕ) → ℕ
+key w d i = (16777217 - w) * 16777216 + d * 4096 + i
+
+-- no row
+abbrev pub blank-key : ℕ
+blank-key = 281474993487872
+
+abbrev pub key-at : Round → (row : ℕ) → ℕ
+key-at r i = key (at r i .weight) (at r i .due) i

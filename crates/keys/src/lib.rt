@@ -1,0 +1,55 @@
+// One number for a row, by which rows are compared, and the laws of that number: the only place that knows how a key is made.
+ghost use mathlib.Core.Path.{_≡_};
+ghost use Prim.Native.Nat.{_-_, _/_, _%_, _≤_, _<_, max, min};
+ghost use Rattle.keys.specs.Key.{key};
+use sorts::Slot;
+use sorts::Weight;
+
+// No row: what a blank would have, which weighs nothing.
+pub const BLANK: u64 = 281474993487872;
+
+pub fn key_of(weight: Weight, due: Slot, row: usize) -> u64
+    requires { ⌜ (weight .0 ≤ 16777216) × (due .0 ≤ 4095) × (row < 1024) ⌝ }
+    ensures { λ r. ⌜ r ≡ key (weight .0) (due .0) row ⌝ }
+{
+    BLANK - weight.0 as u64 * 16777216 + (due.0 as u64 * 4096 + row as u64)
+}
+
+// What a key tells: the weight (0 of BLANK), the due slot, the row.
+pub fn weight_of(key: u64) -> u32
+    requires { ⌜ key ≤ 281474993487872 ⌝ }
+    ensures { λ r. ⌜ r ≡ 16777217 - key / 16777216 ⌝ }
+{
+    (16777217 - key / 16777216) as u32
+}
+
+pub fn due_of(key: u64) -> u32
+    ensures { λ r. ⌜ r ≡ key / 4096 % 4096 ⌝ }
+{
+    (key / 4096 % 4096) as u32
+}
+
+pub fn row_of(key: u64) -> usize
+    ensures { λ r. ⌜ r ≡ key % 1024 ⌝ }
+{
+    (key % 1024) as usize
+}
+
+// The lighter of two rows, and the heavier.
+pub fn larger(a: u64, b: u64) -> u64
+    ensures { λ r. ⌜ r ≡ max a b ⌝ }
+{
+    if a < b {
+        return b;
+    }
+    a
+}
+
+pub fn lesser(a: u64, b: u64) -> u64
+    ensures { λ r. ⌜ r ≡ min a b ⌝ }
+{
+    if b < a {
+        return b;
+    }
+    a
+}

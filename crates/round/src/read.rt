@@ -1,0 +1,63 @@
+// A sound table's rows read: ticket, due slot, weight, kind, and the bucket of a due slot.
+ghost use mathlib.Core.Path.{_≡_};
+ghost use Prim.Native.Nat.{_-_, _≤_, _<_, min};
+ghost use Rattle.rules.specs.Table.{round-in};
+ghost use Rattle.round.specs.Rows.{Ready, Ticket-at, Due-at, Weight-at, Kind-at};
+use crate::rows::row_at;
+use numbers::read2;
+use numbers::read4;
+use sorts::Round;
+use sorts::Ticket;
+
+// The last bucket: all rows due later count there, too.
+pub fn top_of(round: Round) -> usize
+    requires { ⌜ round .slot .0 ≤ round .last .0 ⌝ }
+    ensures { λ r. ⌜ r ≡ min (round .used) (round .last .0 - round .slot .0) ⌝ }
+{
+    let left = (round.last.0 - round.slot.0) as usize;
+    if round.used < left {
+        return round.used;
+    }
+    left
+}
+
+pub fn ticket_at(table: &[u8], round: Round, row: usize) -> Ticket
+    requires { ⌜ Ready (now table) round × (row < round .used) ⌝ }
+    ensures { λ r. ⌜ Ticket-at (round-in (now (table .entry))) row (r .0) ⌝ }
+{
+    Ticket(read4(table, row_at(row) + Round::TICKET_AT))
+}
+
+pub fn due_at(table: &[u8], round: Round, row: usize) -> u32
+    requires { ⌜ Ready (now table) round × (row < round .used) ⌝ }
+    ensures { λ r. ⌜ Due-at (round-in (now (table .entry))) row r ⌝ }
+{
+    read2(table, row_at(row) + Round::DUE_AT)
+}
+
+pub fn weight_at(table: &[u8], round: Round, row: usize) -> u32
+    requires { ⌜ Ready (now table) round × (row < round .used) ⌝ }
+    ensures { λ r. ⌜ Weight-at (round-in (now (table .entry))) row r ⌝ }
+{
+    read4(table, row_at(row) + Round::WEIGHT_AT)
+}
+
+// 1 for a kept blank, 0 for a frame.
+pub fn kind_at(table: &[u8], round: Round, row: usize) -> u8
+    requires { ⌜ Ready (now table) round × (row < round .used) ⌝ }
+    ensures { λ r. ⌜ Kind-at (round-in (now (table .entry))) row r ⌝ }
+{
+    table[row_at(row) + Round::KIND_AT]
+}
+
+// Slots from the current one to a due slot, at most top.
+pub fn bucket_of(due: u32, slot: u32, top: usize) -> usize
+    requires { ⌜ slot ≤ due ⌝ }
+    ensures { λ r. ⌜ r ≡ min (due - slot) top ⌝ }
+{
+    let ahead = (due - slot) as usize;
+    if ahead < top {
+        return ahead;
+    }
+    top
+}

@@ -7,11 +7,16 @@ int has_shapes(enum call call)
     return call >= SEND;
 }
 
-/* Marks are asked over the first half of the rows' slots, which most shapes fill. */
+/* Marks are asked over the first half of the rows' slots, which most shapes fill, or over those that are filled. */
+static uint32_t mark_reach(enum shape shape, uint32_t rows)
+{
+    return shape == FALLRISE ? 3 * rows / 8 : rows / 2;
+}
+
 void draw_input(struct input *input, enum call call, enum shape shape, uint32_t rows, uint32_t slots, uint32_t number)
 {
     draw_table(&input->table, shape, rows, call == TAKE, slots, 1000 * shape + number);
-    input->argument = call == MARK ? rows * (2 * number + 1) / (4 * DRAWS) : heaviest_ticket(&input->table);
+    input->argument = call == MARK ? mark_reach(shape, rows) * (2 * number + 1) / (2 * DRAWS) : heaviest_ticket(&input->table);
 }
 
 uint64_t do_call(const struct side *side, enum call call, struct input *input)

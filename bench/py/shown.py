@@ -13,14 +13,19 @@ def ratio(value, other):
     return f"{value / other:.2f}"
 
 
+def floor_of(library, cell):
+    """Soundness alone, of as many rows in use; the slots make no difference."""
+    full = Cell("soundness", "-", cell.rows, 1024)
+    return library.instructions.get(cell._replace(call="soundness", slots=1024), library.instructions[full])
+
+
 def table(library, tuned, times):
     """Instructions; the floor is soundness alone, the library's own, of as many rows in use; times are information."""
     print("\nInstructions a call, and nanoseconds")
     print(COLUMNS.format(*TITLES))
     for cell, theirs in tuned.instructions.items():
         ours, time = library.instructions[cell], times[cell]
-        full = Cell("soundness", "-", cell.rows, cell.slots)
-        floor = library.instructions.get(cell._replace(call="soundness"), library.instructions.get(full, ours))
+        floor = floor_of(library, cell)
         print(COLUMNS.format(*cell, number(ours), number(theirs), ratio(ours, theirs), number(floor), ratio(ours, floor),
                              number(time.library), number(time.tuned), ratio(time.library, max(time.tuned, 1))))
 

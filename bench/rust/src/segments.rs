@@ -63,7 +63,7 @@ impl<const N: usize> Segments<N> {
         };
         let mut open = Open::up_to(busy - 1);
         let (mut kept, mut outside) = (busy, 0);
-        for key in plan.keys[..plan.len].iter().rev() {
+        for key in plan.keys() {
             let ahead = ahead_in(*key);
             if kept > ahead && ahead != open.end {
                 segments.close(&mut pick, &open, outside);

@@ -9,10 +9,16 @@ const OVER: i32 = 2_048;
 pub const STEP: u32 = 1 << 22;
 
 /// What is added to a start for the next slot if there are no rows: what a count begins with is taken back.
-const NEXT_START: u32 = ((1 - OVER) as u32).wrapping_mul(STEP / OVER as u32).wrapping_add(1);
+const NEXT_START: u32 = (NONE_DUE as u32)
+    .wrapping_mul(STEP / OVER as u32)
+    .wrapping_add(1);
 
-/// Rows due so many slots ahead. Those due N ahead or later are not counted: n rows need no more than n slots.
-pub struct Counts<const N: usize>([i32; N]);
+/// What a slot's count begins with.
+pub const NONE_DUE: i32 = 1 - OVER;
+
+/// Rows due so many slots ahead, in an array of `NONE_DUE` lent by the call, which so is never moved. Those due N ahead or
+/// later are not counted: n rows need no more than n slots.
+pub struct Counts<'a, const N: usize>(pub &'a mut [i32; N]);
 
 /// What the counts tell of the plan.
 pub struct Load {
@@ -29,12 +35,7 @@ pub struct Segment {
     pub end: usize,
 }
 
-impl<const N: usize> Counts<N> {
-    #[inline(always)]
-    pub fn none() -> Self {
-        Counts([1 - OVER; N])
-    }
-
+impl<const N: usize> Counts<'_, N> {
     #[inline(always)]
     pub fn add(&mut self, ahead: usize) {
         if let Some(count) = self.0.get_mut(ahead) {

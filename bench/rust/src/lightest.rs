@@ -10,9 +10,12 @@ pub struct Lightest<const N: usize> {
 impl<const N: usize> Lightest<N> {
     #[inline(always)]
     pub fn none() -> Self {
-        let mut keys = [u64::MAX; N];
-        keys[0] = 0;
-        Lightest { keys, len: 0 }
+        let mut lightest = Lightest {
+            keys: [u64::MAX; N],
+            len: 0,
+        };
+        lightest.keys[0] = 0;
+        lightest
     }
 
     /// All of these, where there were none.

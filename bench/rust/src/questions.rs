@@ -1,7 +1,7 @@
 //! The mark of a slot, and the plan's total.
 
 use crate::calls::BAD_SLOT;
-use crate::count::Counts;
+use crate::count::{Counts, NONE_DUE};
 use crate::plan::{ahead_in, weight_in, Plan, OUTSIDE};
 use crate::sound::judge;
 use crate::table::{due, rows, weight, Row, MIDDLE, MIDDLE_ROWS, MOST_ROWS, SMALL, SMALL_ROWS};
@@ -18,7 +18,8 @@ pub fn total(table: &[u8]) -> u64 {
 
 #[inline(never)]
 fn total_in<const N: usize>(table: &[u8]) -> u64 {
-    let mut counts = Counts::<N>::none();
+    let mut array = [NONE_DUE; N];
+    let mut counts = Counts(&mut array);
     let mut total = 0;
     let judged = judge(table, |ahead, weight| {
         counts.add(ahead);
@@ -49,7 +50,8 @@ pub fn mark(slot: u32, table: &[u8]) -> u64 {
 
 #[inline(never)]
 fn mark_in<const N: usize>(slot: u32, table: &[u8]) -> u64 {
-    let mut counts = Counts::<N>::none();
+    let mut array = [NONE_DUE; N];
+    let mut counts = Counts(&mut array);
     let head = match judge(table, |ahead, _| counts.add(ahead)) {
         Ok(head) => head,
         Err(refusal) => return refusal,
@@ -89,7 +91,9 @@ fn mark_of<const N: usize>(plan: &Plan<N>, counts: &Counts<N>, ahead: usize) -> 
     let (before, after) = plan.split(counts, ahead);
     let outside: u64 = before.iter().map(|key| key / OUTSIDE).sum();
     let mut kept = before.len() - outside as usize;
-    let mut lightest = before.iter().fold(u64::MAX, |lightest, key| lightest.min(*key));
+    let mut lightest = before
+        .iter()
+        .fold(u64::MAX, |lightest, key| lightest.min(*key));
     for key in after.iter().rev() {
         lightest = lightest.min(*key);
         kept += usize::from(key & OUTSIDE == 0);

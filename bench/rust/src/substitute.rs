@@ -1,6 +1,6 @@
 //! The substitute for a ticket.
 
-use crate::count::Counts;
+use crate::count::{Counts, NONE_DUE};
 use crate::plan::{ahead_in, Index, Plan, OUTSIDE};
 use crate::sound::judge;
 use crate::table::{
@@ -22,7 +22,8 @@ pub fn substitute(ticket: u32, table: &[u8]) -> u64 {
 
 #[inline(never)]
 fn substitute_in<const N: usize>(ticket: u32, table: &[u8]) -> u64 {
-    let mut counts = Counts::<N>::none();
+    let mut array = [NONE_DUE; N];
+    let mut counts = Counts(&mut array);
     let head = match judge(table, |ahead, _| counts.add(ahead)) {
         Ok(head) => head,
         Err(refusal) => return refusal,

@@ -1,10 +1,11 @@
+/* The header's calls under the names that tuned Rust has when it is linked beside the library. */
+#define lirvedd_open tuned_open
+#define lirvedd_take tuned_take
+#define lirvedd_send tuned_send
+#define lirvedd_mark tuned_mark
+#define lirvedd_total tuned_total
+#define lirvedd_substitute tuned_substitute
+#include "lirvedd.h"
 #include "sides.h"
 
-uint64_t tuned_open(uint32_t last, uint8_t *table, size_t length);
-uint64_t tuned_take(uint32_t due, uint32_t weight, uint8_t *table, size_t length);
-uint64_t tuned_send(uint8_t *table, size_t length);
-uint64_t tuned_mark(uint32_t slot, const uint8_t *table, size_t length);
-uint64_t tuned_total(const uint8_t *table, size_t length);
-uint64_t tuned_substitute(uint32_t ticket, const uint8_t *table, size_t length);
-
-const struct side renamed = {tuned_open, tuned_take, tuned_send, tuned_mark, tuned_total, tuned_substitute};
+const struct side renamed = {lirvedd_open, lirvedd_take, lirvedd_send, lirvedd_mark, lirvedd_total, lirvedd_substitute};

@@ -11,6 +11,8 @@ NEW_MOST = 1.5
 FEW_ROWS_MOST = 1.6
 BUSY_MOST = 1.15
 STACK = 28_000
+# Shapes whose rows are others in a round of more slots.
+BY_SLOTS = ("far", "beyond")
 
 Limit = namedtuple("Limit", "text value most")
 
@@ -62,7 +64,7 @@ def against_fewer_slots(library):
     by_call = {}
     for cell, own in library.instructions.items():
         fewer = library.instructions.get(cell._replace(slots=1024))
-        if cell.rows == 1024 and cell.slots == 4096 and fewer:
+        if cell.rows == 1024 and cell.slots == 4096 and cell.shape not in BY_SLOTS:
             by_call[cell.call] = max(own / fewer, by_call.get(cell.call, 0))
     for call, found in by_call.items():
         yield Limit(f"{call}, 4,096 slots against 1,024", found, 1.05)

@@ -1,7 +1,8 @@
-/* The calls to measure, of whichever archive this is linked with. */
+/* The calls to measure, of either side. */
 #ifndef CALLS_H
 #define CALLS_H
 
+#include "sides.h"
 #include "tables.h"
 
 /* SOUND is a taking of weight 0: refusal 6, given once the table was found sound. */
@@ -22,6 +23,6 @@ struct input {
 #define DRAWS 4
 void draw_input(struct input *input, enum call call, enum shape shape, uint32_t rows, uint32_t slots, uint32_t number);
 
-uint64_t do_call(enum call call, struct input *input);
+uint64_t do_call(const struct side *side, enum call call, struct input *input);
 
 #endif

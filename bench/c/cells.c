@@ -2,41 +2,35 @@
 
 #include <stdio.h>
 
-#define LEAST_CHAIN 4
-#define LEAST_SPARSE 8
-
 #define COUNT(array) (sizeof(array) / sizeof((array)[0]))
 
 static const uint32_t rows_tried[] = {1, 16, 128, 1024};
 static const uint32_t slots_tried[] = {1024, 4096};
 
-static int is_quick(uint32_t rows, uint32_t slots)
+/* Far rows need more slots than the others. */
+static int is_quick(const struct cell *cell)
 {
-    return slots == 1024 && (rows == 16 || rows == 1024);
+    return (cell->rows == 16 || cell->rows == 1024) && cell->slots == (cell->shape == FAR ? 4096 : 1024);
 }
 
-/* Opening does not read the table; where no row is in use, there is no substitute to ask for. */
+/* Full tables are one cell where the shape makes no difference. Opening does not read the table; where no row is in use,
+ * there is no substitute to ask for. */
 static int is_tried(const struct cell *cell)
 {
-    switch (cell->shape) {
-    case HALFOUT:
-        return 1;
-    case CHAIN:
-        return has_shapes(cell->call) && cell->rows >= LEAST_CHAIN;
-    case SPARSE:
-        return cell->call != OPEN && cell->rows >= LEAST_SPARSE;
-    case UNUSED:
-        return cell->call != OPEN && cell->call != SUBSTITUTE;
-    default:
-        return has_shapes(cell->call);
+    if (!is_possible(cell->shape, cell->rows, cell->slots)) {
+        return 0;
     }
+    if (is_partly_used(cell->shape)) {
+        return cell->call != OPEN && !(cell->shape == UNUSED && cell->call == SUBSTITUTE);
+    }
+    return has_shapes(cell->call) || cell->shape == HALFOUT;
 }
 
-static void shapes_of(struct cell cell, void (*measure)(const struct cell *cell))
+static void shapes_of(struct cell cell, int quick, void (*measure)(const struct cell *cell))
 {
     for (int shape = 0; shape < SHAPES; shape++) {
         cell.shape = (enum shape)shape;
-        if (is_tried(&cell)) {
+        if (is_tried(&cell) && (!quick || is_quick(&cell))) {
             measure(&cell);
         }
     }
@@ -47,9 +41,7 @@ void for_each_cell(int quick, void (*measure)(const struct cell *cell))
     for (int call = 0; call < CALLS; call++) {
         for (size_t at = 0; at < COUNT(rows_tried) * COUNT(slots_tried); at++) {
             const uint32_t rows = rows_tried[at / COUNT(slots_tried)], slots = slots_tried[at % COUNT(slots_tried)];
-            if (!quick || is_quick(rows, slots)) {
-                shapes_of((struct cell){(enum call)call, HALFOUT, rows, slots}, measure);
-            }
+            shapes_of((struct cell){(enum call)call, HALFOUT, rows, slots}, quick, measure);
         }
     }
 }

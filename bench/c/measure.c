@@ -1,11 +1,9 @@
-/* measure count|clock|stack [quick]: one line for each cell, its name and what was measured. */
+/* measure count|stack [quick]: one line for each cell, its name and what was measured. */
 #include "cells.h"
 #include "stack.h"
 
 #include <stdio.h>
-#include <stdlib.h>
 #include <string.h>
-#include <time.h>
 #include <valgrind/callgrind.h>
 
 static struct input input;
@@ -27,47 +25,12 @@ static void count(const struct cell *cell)
     uint64_t digest = 0xCBF29CE484222325u;
     for (uint32_t number = 0; number < DRAWS; number++) {
         draw_cell(&input, cell, number);
-        const uint64_t reply = do_call(cell->call, &input);
+        const uint64_t reply = do_call(&linked, cell->call, &input);
         digest = digested(digest, &reply, sizeof reply);
         digest = digested(digest, input.table.bytes, input.table.length);
     }
     CALLGRIND_DUMP_STATS_AT(cell_name(cell));
     printf("%s %016llx %d\n", cell_name(cell), (unsigned long long)digest, DRAWS);
-}
-
-static double now(void)
-{
-    struct timespec time;
-    clock_gettime(CLOCK_MONOTONIC, &time);
-    return (double)time.tv_sec * 1e9 + (double)time.tv_nsec;
-}
-
-static int rising(const void *a, const void *b)
-{
-    const double x = *(const double *)a, y = *(const double *)b;
-    return (x > y) - (x < y);
-}
-
-#define BATCH (4 * DRAWS)
-#define RUNS 9
-
-/* Nanoseconds a call: the median over runs, each of a batch of calls on fresh copies. */
-static void clock_cell(const struct cell *cell)
-{
-    static struct input batch[BATCH];
-    double runs[RUNS];
-    for (int run = 0; run < RUNS; run++) {
-        for (uint32_t number = 0; number < BATCH; number++) {
-            draw_cell(&batch[number], cell, number % DRAWS);
-        }
-        const double began = now();
-        for (int at = 0; at < BATCH; at++) {
-            do_call(cell->call, &batch[at]);
-        }
-        runs[run] = (now() - began) / BATCH;
-    }
-    qsort(runs, RUNS, sizeof runs[0], rising);
-    printf("%s %.0f\n", cell_name(cell), runs[RUNS / 2]);
 }
 
 /* Bytes of stack: the most over the cell's inputs. */
@@ -88,12 +51,10 @@ int main(int count_of, char **words)
     const int quick = count_of > 2 && strcmp(words[2], "quick") == 0;
     if (strcmp(mode, "count") == 0) {
         for_each_cell(quick, count);
-    } else if (strcmp(mode, "clock") == 0) {
-        for_each_cell(quick, clock_cell);
     } else if (strcmp(mode, "stack") == 0) {
         for_each_cell(1, stack);
     } else {
-        fputs("measure count|clock|stack [quick]\n", stderr);
+        fputs("measure count|stack [quick]\n", stderr);
         return 2;
     }
     return 0;

@@ -15,7 +15,7 @@ static int does_it;
 static void run(void)
 {
     if (does_it) {
-        do_call(to_do, &copy);
+        do_call(&linked, to_do, &copy);
     }
 }
 

@@ -3,13 +3,7 @@
 #define TABLES_H
 
 #include "../../tests/c/table.h"
-
-#define MOST_ROWS 1024
-
-/* How many rows are in use, and how due slots and weights are drawn; README.md says it in words. */
-enum shape { INPLAN, HALFOUT, ASC2X, FEWDUE, EQUAL, SPREAD, CHAIN, SPARSE, UNUSED, SHAPES };
-
-extern const char *const shape_names[SHAPES];
+#include "shapes.h"
 
 struct table {
     size_t length;

@@ -9,7 +9,7 @@ ROOT = BENCH.parent
 TARGET = ROOT / "target" / "bench"
 LIBRARY = ROOT / "target" / "staticlib" / "libstation.a"
 CALLS = ("open", "take", "send", "mark", "total", "substitute")
-MEASURE = ("calls", "cells", "measure", "stack", "tables")
+CELLS = ("calls", "cells", "kept", "linked", "shapes", "tables")
 
 
 class Failed(Exception):
@@ -47,11 +47,19 @@ def tuned():
     return target / "release" / "libtuned.a"
 
 
-def program(name, archive):
-    """The measuring program linked with an archive. Everything is bound at its start, so that no call pays for that."""
+def program(name, sources, *archives):
+    """A program of c/ linked with archives. Everything is bound at its start, so that no call pays for that."""
     TARGET.mkdir(parents=True, exist_ok=True)
-    made = TARGET / f"measure_{name}"
-    sources = [BENCH / "c" / f"{source}.c" for source in MEASURE]
-    strict = ["-std=gnu11", "-O2", "-Wall", "-Wextra", "-Werror", f"-I{ROOT / 'include'}"]
-    said("gcc", *strict, *sources, archive, "-Wl,-z,now", "-lgcc_s", "-o", made)
+    made = TARGET / name
+    files = [BENCH / "c" / f"{source}.c" for source in sources]
+    strict = ["-std=gnu11", "-O2", "-Wall", "-Wextra", "-Werror", f"-I{ROOT / 'include'}", f'-DTABLES="{BENCH / "tables"}"']
+    said("gcc", *strict, *files, *archives, "-Wl,-z,now", "-lgcc_s", "-o", made)
+    return made
+
+
+def renamed(archive):
+    """The archive with its calls named tuned_, to be linked beside the library."""
+    made = TARGET / "renamed.a"
+    names = [f"--redefine-sym=lirvedd_{call}=tuned_{call}" for call in CALLS]
+    said("objcopy", *names, archive, made)
     return made

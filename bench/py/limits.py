@@ -1,69 +1,73 @@
 """The limits, and whether they hold."""
 from collections import namedtuple
 
-from measured import Cell
+from known import BY_CALL, NEW, PARTLY_USED, SEVEN
 from shown import most_stack
 
-PLANNING = ("send", "mark", "total")
-FULL = ("inplan", "halfout", "asc2x", "fewdue", "equal", "spread", "chain")
-NOT_FULL = ("sparse", "unused")
-STACK = 34 * 1024
-
-# Tuned Rust counts as tuned if it is within 1.1 of these, in instructions at 1,024 rows and 1,024 slots.
-BEST = {
-    ("soundness", "-"): 22_600,
-    ("soundness", "sparse"): 10_400,
-    ("soundness", "unused"): 9_300,
-    ("open", "-"): 1_400,
-    ("take", "-"): 27_800,
-    ("send", "inplan"): 59_000,
-    ("send", "chain"): 221_000,
-    ("mark", "inplan"): 50_000,
-    ("total", "inplan"): 37_000,
-} | {("send", shape): 170_000 for shape in FULL[1:-1]} | {
-    (call, shape): 164_000 for call in ("mark", "total") for shape in FULL[1:]
-}
+# The library against tuned Rust at 1,024 rows: full tables in the seven shapes.
+FULL = {"soundness": 1.05, "open": 1.05, "take": 1.05, "send": 1.05, "mark": 1.05, "total": 1.12, "substitute": 1.3}
+PARTLY_USED_MOST = 1.3
+NEW_MOST = 1.5
+FEW_ROWS_MOST = 1.6
+BUSY_MOST = 1.15
+STACK = 28_000
+# Shapes whose rows are others in a round of more slots.
+BY_SLOTS = ("far", "beyond")
 
 Limit = namedtuple("Limit", "text value most")
 
 
-def against_best(tuned):
-    for (call, shape), best in BEST.items():
-        value = tuned.instructions[Cell(call, shape, 1024, 1024)] / best
-        yield Limit(f"tuned Rust: {call} {shape} against {best:,}", value, 1.1)
+def at(side, call, shape, rows=1024):
+    """The instructions of these cells, by cell."""
+    return {cell: own for cell, own in side.instructions.items() if cell[:3] == (call, shape, rows)}
 
 
-def worst(library, tuned, call, rows, shape=None):
-    """The greatest ratio over slots and shapes, or over the slots of one shape."""
-    ratios = [
-        own / tuned.instructions[cell]
-        for cell, own in library.instructions.items()
-        if cell.call == call and cell.rows == rows and shape in (None, cell.shape)
-    ]
+def against_known(tuned):
+    """Tuned Rust counts as tuned if it is near the best figures known."""
+    for call, shapes in BY_CALL.items():
+        for shape, best in shapes.items():
+            yield Limit(f"tuned Rust: {call} {shape} against {best:,}", max(at(tuned, call, shape).values()) / best, 1.1)
+
+
+def ratio(library, tuned, call, shape, rows=1024):
+    """The greatest over the slots; None where there is no such cell."""
+    ratios = (own / tuned.instructions[cell] for cell, own in at(library, call, shape, rows).items())
     return max(ratios, default=None)
 
 
+def most_of(call, shape):
+    if shape in PARTLY_USED:
+        return PARTLY_USED_MOST
+    return NEW_MOST if shape in NEW else FULL[call]
+
+
 def against_tuned(library, tuned):
-    for call in ("soundness", "open", "take", "mark", "total"):
-        yield Limit(f"{call}, 1,024 rows", worst(library, tuned, call, 1024), 2.0)
-    for shape in NOT_FULL:
-        yield Limit(f"soundness {shape}, 1,024 rows", worst(library, tuned, "soundness", 1024, shape), 1.2)
-    for shape in FULL + NOT_FULL:
-        yield Limit(f"send {shape}, 1,024 rows (goal 1.5)", worst(library, tuned, "send", 1024, shape), 2.0)
-    for call in PLANNING:
+    for call in FULL:
+        for shape in ("-", *SEVEN, *PARTLY_USED, *NEW):
+            found = ratio(library, tuned, call, shape)
+            if found is not None:
+                yield Limit(f"{call} {shape}, 1,024 rows", found, most_of(call, shape))
+
+
+def with_few_rows(library, tuned):
+    """The greatest over the shapes, and which it is; None where so many rows are left out."""
+    for call in FULL:
         for rows in (16, 128):
-            yield Limit(f"{call}, {rows} rows", worst(library, tuned, call, rows), 2.5)
+            shapes = dict.fromkeys(cell.shape for cell in library.instructions if cell[0::2] == (call, rows))
+            found = [(ratio(library, tuned, call, shape, rows), shape) for shape in shapes]
+            value, shape = max(found, default=(None, "-"))
+            yield Limit(f"{call}, {rows} rows ({shape})", value, FEW_ROWS_MOST)
 
 
 def against_fewer_slots(library):
     """The same rows in a round of 4,096 slots and of 1,024."""
     by_call = {}
     for cell, own in library.instructions.items():
-        if cell.rows == 1024 and cell.slots == 4096:
-            ratio = own / library.instructions[cell._replace(slots=1024)]
-            by_call[cell.call] = max(ratio, by_call.get(cell.call, 0))
-    for call, ratio in by_call.items():
-        yield Limit(f"{call}, 4,096 slots against 1,024", ratio, 1.05)
+        fewer = library.instructions.get(cell._replace(slots=1024))
+        if cell.rows == 1024 and cell.slots == 4096 and cell.shape not in BY_SLOTS:
+            by_call[cell.call] = max(own / fewer, by_call.get(cell.call, 0))
+    for call, found in by_call.items():
+        yield Limit(f"{call}, 4,096 slots against 1,024", found, 1.05)
 
 
 def stacks(library):
@@ -71,9 +75,9 @@ def stacks(library):
         yield Limit(f"{call}, bytes of stack", most_stack(library, call), STACK)
 
 
-def against_calls(whole):
-    ratio = whole and whole.program / whole.calls
-    yield Limit("stationround's lines against the calls alone", ratio, 1.3)
+def of_lines(whole):
+    yield Limit("busy rounds, the library's calls against tuned Rust's", whole.calls / whole.tuned, BUSY_MOST)
+    yield Limit("stationround's lines against the calls alone", whole.program and whole.program / whole.calls, 1.3)
 
 
 def same_answers(library, tuned):
@@ -83,18 +87,26 @@ def same_answers(library, tuned):
     return not wrong
 
 
+def show(limit):
+    verdict = "pass" if limit.value <= limit.most else "FAIL"
+    shown = f"{limit.value:,}" if isinstance(limit.value, int) else f"{limit.value:.3f}"
+    print(f"{verdict}  {limit.text:<54} {shown:>7} of at most {limit.most:,}")
+
+
 def judge(library, tuned, whole):
-    """Prints each limit with its verdict; those of cells left out, or of a program that is not built,
-    are not judged. Returns whether all hold."""
+    """Prints each limit with its verdict, those that do not hold once more at the end. Those of cells left out, or of a
+    program that is not built, are not judged. Returns whether all hold."""
     print("\nLimits")
-    every = [*against_best(tuned), *against_tuned(library, tuned), *against_fewer_slots(library), *stacks(library),
-             *against_calls(whole)]
+    every = [*against_known(tuned), *against_tuned(library, tuned), *with_few_rows(library, tuned),
+             *against_fewer_slots(library), *stacks(library), *of_lines(whole)]
     found = [limit for limit in every if limit.value is not None]
     for limit in found:
-        verdict = "pass" if limit.value <= limit.most else "FAIL"
-        shown = f"{limit.value:,}" if isinstance(limit.value, int) else f"{limit.value:.2f}"
-        print(f"{verdict}  {limit.text:<50} {shown:>7} of at most {limit.most:,}")
+        show(limit)
+    failed = [limit for limit in found if limit.value > limit.most]
+    if failed:
+        print("\nLimits that do not hold")
+        for limit in failed:
+            show(limit)
     same = same_answers(library, tuned)
-    failed = sum(limit.value > limit.most for limit in found)
-    print(f"{len(found) - failed} limits hold, {failed} do not; {len(every) - len(found)} not judged")
-    return same and failed == 0
+    print(f"{len(found) - len(failed)} limits hold, {len(failed)} do not; {len(every) - len(found)} not judged")
+    return same and not failed

@@ -1,4 +1,4 @@
-"""Stationround on a long file of busy rounds, against the calls alone on the same input."""
+"""Busy rounds: the same lines played by the calls of either side, and by stationround."""
 import os
 import random
 from collections import namedtuple
@@ -9,8 +9,10 @@ from measured import ONCE, total
 PROGRAM = ROOT / "target" / "bin" / "stationround"
 LAST = 4095
 REACH = 256
+TOGGLES = [f"lirvedd_{call}" for call in ("open", "take", "send")]
 
-Lines = namedtuple("Lines", "count program calls")
+# Instructions of the calls alone, the library's and tuned Rust's, and of the whole program, or None.
+Lines = namedtuple("Lines", "count calls tuned program")
 
 
 def busy(count):
@@ -36,7 +38,7 @@ def replay(archive):
     return made
 
 
-def counted(words, toggles, stdin):
+def counted(words, toggles, stdin=os.devnull):
     """Instructions, all or inside some functions alone, and what is printed."""
     out = TARGET / "lines.callgrind"
     options = [f"--callgrind-out-file={out}", *(f"--toggle-collect={name}" for name in toggles)]
@@ -47,24 +49,31 @@ def counted(words, toggles, stdin):
     return instructions, printed
 
 
-def measure(archive, quick, program=None):
+def of_program(program, given, wanted):
     """None where the program is not built."""
-    program = program or PROGRAM
     if not program.is_file():
         print(f"No {program}: its lines are not measured.")
         return None
-    count = 10_000 if quick else 100_000
-    given = TARGET / "busy_lines"
-    given.write_text("".join(f"{line}\n" for line in busy(count)), encoding="ascii")
-    toggles = [f"lirvedd_{call}" for call in ("open", "take", "send")]
-    calls, wanted = counted([replay(archive), given], toggles, os.devnull)
     own, printed = counted([program], [], given)
     if printed != wanted:
         raise Failed(f"{program}: it prints other replies than the calls give")
-    return Lines(count, own, calls)
+    return own
+
+
+def measure(library, tuned, quick, program=None):
+    count = 10_000 if quick else 100_000
+    given = TARGET / "busy_lines"
+    given.write_text("".join(f"{line}\n" for line in busy(count)), encoding="ascii")
+    calls, wanted = counted([replay(library), given], TOGGLES)
+    theirs, printed = counted([replay(tuned), given], TOGGLES)
+    if printed != wanted:
+        raise Failed("the library and tuned Rust play the busy rounds differently")
+    return Lines(count, calls, theirs, of_program(program or PROGRAM, given, wanted))
 
 
 def show(lines):
-    if lines:
-        print(f"\nStationround, {lines.count:,} lines of busy rounds: {lines.program:,} instructions, {lines.calls:,} of "
-              f"the calls alone; {(lines.program - lines.calls) / lines.count:,.0f} more a line")
+    print(f"\nBusy rounds, {lines.count:,} lines: {lines.calls:,} instructions in the library's calls, {lines.tuned:,} in "
+          f"tuned Rust's; ratio {lines.calls / lines.tuned:.2f}")
+    if lines.program:
+        print(f"Stationround, the same lines: {lines.program:,} instructions; "
+              f"{(lines.program - lines.calls) / lines.count:,.0f} more a line than the calls alone")

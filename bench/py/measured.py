@@ -1,16 +1,16 @@
-"""One side, library or tuned Rust: its instructions, time and stack by cell."""
+"""One side, library or tuned Rust: its instructions and stack by cell."""
 import os
 import re
 import shutil
 from collections import namedtuple
 
-from build import CALLS, TARGET, Failed, program, said
+from build import CALLS, CELLS, TARGET, Failed, program, said
 
 # Callgrind counts an instruction that repeats, as memset and memmove may use, once a byte: they are to do without it.
 ONCE = {"GLIBC_TUNABLES": "glibc.cpu.x86_rep_stosb_threshold=99999999:glibc.cpu.x86_rep_movsb_threshold=99999999"}
 
 Cell = namedtuple("Cell", "call shape rows slots")
-Side = namedtuple("Side", "instructions digest time stack")
+Side = namedtuple("Side", "instructions digest stack")
 
 
 def cell(text):
@@ -20,7 +20,7 @@ def cell(text):
 
 
 def lines(printed):
-    """What the measuring program printed after each cell's name."""
+    """What a measuring program printed after each cell's name."""
     return dict(map(cell, printed.splitlines()))
 
 
@@ -55,9 +55,7 @@ def total(text):
 
 
 def side(name, archive, quick):
-    made = program(name, archive)
-    words = ["quick"] if quick else []
-    instructions, digest = counted(made, words)
-    time = {at: float(number) for at, (number,) in lines(said(made, "clock", *words)).items()}
+    made = program(f"measure_{name}", (*CELLS, "measure", "stack"), archive)
+    instructions, digest = counted(made, ["quick"] if quick else [])
     stack = {at: int(number) for at, (number,) in lines(said(made, "stack")).items()}
-    return Side(instructions, digest, time, stack)
+    return Side(instructions, digest, stack)

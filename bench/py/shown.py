@@ -1,8 +1,8 @@
 """The measured cells as a table."""
 from measured import Cell
 
-COLUMNS = "{:<11}{:<9}{:>5}{:>6} |{:>9}{:>9}{:>7} |{:>9}{:>8} |{:>9}{:>9}"
-TITLES = ["call", "shape", "rows", "slots", "library", "tuned", "ratio", "floor", "/ floor", "lib. ns", "tuned ns"]
+COLUMNS = "{:<11}{:<12}{:>5}{:>6} |{:>9}{:>9}{:>7} |{:>9}{:>8} |{:>9}{:>9}{:>7}"
+TITLES = ["call", "shape", "rows", "slots", "library", "tuned", "ratio", "floor", "/ floor", "lib. ns", "tuned ns", "ratio"]
 
 
 def number(value):
@@ -13,16 +13,21 @@ def ratio(value, other):
     return f"{value / other:.2f}"
 
 
-def table(library, tuned):
+def floor_of(library, cell):
+    """Soundness alone, of as many rows in use; the slots make no difference."""
+    full = Cell("soundness", "-", cell.rows, 1024)
+    return library.instructions.get(cell._replace(call="soundness", slots=1024), library.instructions[full])
+
+
+def table(library, tuned, times):
     """Instructions; the floor is soundness alone, the library's own, of as many rows in use; times are information."""
     print("\nInstructions a call, and nanoseconds")
     print(COLUMNS.format(*TITLES))
     for cell, theirs in tuned.instructions.items():
-        ours = library.instructions[cell]
-        full = Cell("soundness", "-", cell.rows, cell.slots)
-        floor = library.instructions.get(cell._replace(call="soundness"), library.instructions[full])
+        ours, time = library.instructions[cell], times[cell]
+        floor = floor_of(library, cell)
         print(COLUMNS.format(*cell, number(ours), number(theirs), ratio(ours, theirs), number(floor), ratio(ours, floor),
-                             number(library.time[cell]), number(tuned.time[cell])))
+                             number(time.library), number(time.tuned), ratio(time.library, max(time.tuned, 1))))
 
 
 def most_stack(side, call):

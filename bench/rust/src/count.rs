@@ -5,8 +5,20 @@
 
 const OVER: i32 = 2_048;
 
-/// Rows due so many slots ahead. Those due N ahead or later are not counted: n rows need no more than n slots.
-pub struct Counts<const N: usize>([i32; N]);
+/// One place in what `starts` gives: a place above, the slots ahead below.
+pub const STEP: u32 = 1 << 22;
+
+/// What is added to a start for the next slot if there are no rows: what a count begins with is taken back.
+const NEXT_START: u32 = (NONE_DUE as u32)
+    .wrapping_mul(STEP / OVER as u32)
+    .wrapping_add(1);
+
+/// What a slot's count begins with.
+pub const NONE_DUE: i32 = 1 - OVER;
+
+/// Rows due so many slots ahead, in an array of `NONE_DUE` lent by the call, which so is never moved. Those due N ahead or
+/// later are not counted: n rows need no more than n slots.
+pub struct Counts<'a, const N: usize>(pub &'a mut [i32; N]);
 
 /// What the counts tell of the plan.
 pub struct Load {
@@ -23,12 +35,7 @@ pub struct Segment {
     pub end: usize,
 }
 
-impl<const N: usize> Counts<N> {
-    #[inline(always)]
-    pub fn none() -> Self {
-        Counts([1 - OVER; N])
-    }
-
+impl<const N: usize> Counts<'_, N> {
     #[inline(always)]
     pub fn add(&mut self, ahead: usize) {
         if let Some(count) = self.0.get_mut(ahead) {
@@ -56,33 +63,56 @@ impl<const N: usize> Counts<N> {
         }
     }
 
-    /// The segment of a busy slot when nothing is left out.
+    /// The segment of a busy slot when nothing is left out: a slot is tight if the sum up to it is positive.
     #[inline(always)]
     pub fn segment(&self, ahead: usize) -> Segment {
-        let (mut sum, mut start) = (0, 0);
-        for (end, count) in self.0.iter().enumerate() {
-            sum += count;
-            if sum > 0 {
-                if end >= ahead {
-                    return Segment { start, end };
-                }
-                start = end + 1;
-            }
+        let before = self.0[..ahead].iter().sum();
+        let (mut start, mut sum): (usize, i32) = (ahead % N, before);
+        while start > 0 && sum <= 0 {
+            start -= 1;
+            sum -= self.0[start];
         }
-        Segment { start, end: start }
+        let end = self.tight_from(ahead, before);
+        Segment { start, end }
     }
 
-    /// In place of each busy slot's count, where its rows start in due order; and how many rows there are.
+    /// The first tight slot from this one on when nothing is left out.
     #[inline(always)]
-    pub fn starts(&mut self, busy: usize) -> (&mut [i32], usize) {
-        let starts = &mut self.0[..busy];
-        let mut place = 0;
-        for count in starts.iter_mut() {
-            let start = place;
-            place += rows(*count);
-            *count = start as i32;
+    pub fn tight(&self, ahead: usize) -> usize {
+        self.tight_from(ahead, self.0[..ahead].iter().sum())
+    }
+
+    #[inline(always)]
+    fn tight_from(&self, ahead: usize, mut sum: i32) -> usize {
+        for (steps, count) in self.0[ahead..].iter().enumerate() {
+            sum += count;
+            if sum > 0 {
+                return ahead + steps;
+            }
         }
-        (starts, place)
+        ahead
+    }
+
+    /// After the rows were put in their places from `starts` on: the last place taken by rows due up to this busy slot.
+    /// If none is, it is N; if all are, a multiple of N.
+    #[inline(always)]
+    pub fn last_place(&self, ahead: usize) -> usize {
+        (self.0[ahead] as u32 / STEP + 1) as usize
+    }
+
+    /// In place of each busy slot's count, the first place of its rows in due order from N − 1 down, in steps, and the
+    /// slots ahead below it.
+    #[inline(always)]
+    pub fn starts(&mut self, busy: usize) -> &mut [i32] {
+        let starts = &mut self.0[..busy];
+        let mut start = (N as u32 - 1) * STEP;
+        for count in starts.iter_mut() {
+            let rows = (*count as u32).wrapping_mul(STEP / OVER as u32);
+            *count = start as i32;
+            // One slot ahead more, and as many places on as there are rows.
+            start = start.wrapping_sub(rows).wrapping_add(NEXT_START);
+        }
+        starts
     }
 }
 

@@ -1,6 +1,6 @@
 //! A leap's changes beside p's leaving. Marks are those before the slot.
 
-use crate::plan::{ahead_in, place_in, weight_in, Plan};
+use crate::plan::{ahead_in, weight_in, Index, Plan};
 use crate::segments::{Pick, Segments};
 use crate::table::{set, Row, KIND};
 
@@ -9,13 +9,14 @@ pub fn leap<const N: usize>(
     rows: &mut [Row],
     slot: u32,
     plan: &Plan<N>,
+    index: &Index<N>,
     segments: &mut Segments<N>,
     pick: &Pick,
 ) -> bool {
     let own = pick.segment;
     if pick.substitute == 0 {
         let mark = marks(segments, own);
-        let row = &mut rows[usize::from(plan.index[place_in(pick.key)])];
+        let row = &mut rows[index.of(pick.key)];
         set(row, slot + u32::from(segments.end[own + 1]) + 1, mark);
         KIND.put(row, 1);
         return true;
@@ -26,8 +27,8 @@ pub fn leap<const N: usize>(
         .rposition(|end| usize::from(*end) >= due);
     let last = later.unwrap_or(0);
     let mark = marks(segments, last);
-    shift(rows, slot, plan, segments, last, own);
-    let row = &mut rows[usize::from(plan.index[place_in(pick.substitute)])];
+    shift(rows, slot, plan, index, segments, last, own);
+    let row = &mut rows[index.of(pick.substitute)];
     set(row, slot + due as u32, mark);
     false
 }
@@ -50,16 +51,17 @@ fn shift<const N: usize>(
     rows: &mut [Row],
     slot: u32,
     plan: &Plan<N>,
+    index: &Index<N>,
     segments: &Segments<N>,
     last: usize,
     own: usize,
 ) {
     let mut moved = 0;
     for at in last..=own {
-        let key = plan.keys[usize::from(segments.heaviest[at]) % N];
+        let key = plan.at(usize::from(segments.heaviest[at]));
         if key > moved || at == own {
             if moved != 0 {
-                let row = &mut rows[usize::from(plan.index[place_in(moved)])];
+                let row = &mut rows[index.of(moved)];
                 let weight = weight_in(moved) as u32;
                 set(
                     row,

@@ -48,13 +48,18 @@ impl Open {
 
 impl<const N: usize> Segments<N> {
     #[inline(always)]
-    pub fn of(plan: &Plan<N>, busy: usize) -> (Self, Pick) {
-        let mut segments = Segments {
+    pub fn none() -> Self {
+        Segments {
             end: [0; N],
             heaviest: [0; N],
             lightest: [0; N],
             len: 0,
-        };
+        }
+    }
+
+    /// Those of the plan, where there were none, and its pick.
+    #[inline(always)]
+    pub fn fill(&mut self, plan: &Plan<N>, busy: usize) -> Pick {
         let mut pick = Pick {
             score: 0,
             key: 0,
@@ -63,10 +68,10 @@ impl<const N: usize> Segments<N> {
         };
         let mut open = Open::up_to(busy - 1);
         let (mut kept, mut outside) = (busy, 0);
-        for key in plan.keys[..plan.len].iter().rev() {
+        for key in plan.keys() {
             let ahead = ahead_in(*key);
             if kept > ahead && ahead != open.end {
-                segments.close(&mut pick, &open, outside);
+                self.close(&mut pick, &open, outside);
                 open = Open::up_to(ahead);
             }
             if key & OUTSIDE != 0 {
@@ -78,8 +83,8 @@ impl<const N: usize> Segments<N> {
             }
         }
         let lightest = open.lightest;
-        segments.close(&mut pick, &open, lightest);
-        (segments, pick)
+        self.close(&mut pick, &open, lightest);
+        pick
     }
 
     /// Among equals the earlier segment's member goes.

@@ -1,10 +1,10 @@
 //! Sending a slot.
 
 use crate::close::close_up;
-use crate::count::{Counts, Load};
+use crate::count::{Counts, Load, NONE_DUE};
 use crate::easy;
 use crate::leap::leap;
-use crate::plan::{place_in, Plan};
+use crate::plan::{Index, Plan};
 use crate::segments::{score, Segments};
 use crate::sound::judge;
 use crate::table::{
@@ -69,7 +69,8 @@ pub fn send(table: &mut [u8]) -> u64 {
 
 #[inline(never)]
 fn send_in<const N: usize>(table: &mut [u8]) -> u64 {
-    let mut counts = Counts::<N>::none();
+    let mut array = [NONE_DUE; N];
+    let mut counts = Counts(&mut array);
     let head = match judge(table, |ahead, _| counts.add(ahead)) {
         Ok(head) => head,
         Err(refusal) => return refusal,
@@ -104,14 +105,19 @@ fn crowded<const N: usize>(
     load: &Load,
 ) -> Step {
     let mut late = Heaviest::NONE;
-    let plan = Plan::of(rows, slot, counts, load, |row, index| late.see(row, index));
-    let (mut segments, pick) = Segments::of(&plan, load.busy);
+    let mut index = Index::<N>::none();
+    let placed = |place, at| index.put(place, at);
+    let mut plan = Plan::sorted(rows, slot, counts, load, placed, |row, at| {
+        late.see(row, at)
+    });
+    plan.leave_out(load.left_out);
+    let mut segments = Segments::<N>::none();
+    let pick = segments.fill(&plan, load.busy);
     if score(u64::from(late.weight), 0) > pick.score {
         return Step::of(rows, late.index, true);
     }
     let is_leap = pick.segment + 1 < segments.len;
-    let index = usize::from(plan.index[place_in(pick.key)]);
-    let mut step = Step::of(rows, index, is_leap);
-    step.leaves = !(is_leap && leap(rows, slot, &plan, &mut segments, &pick));
+    let mut step = Step::of(rows, index.of(pick.key), is_leap);
+    step.leaves = !(is_leap && leap(rows, slot, &plan, &index, &mut segments, &pick));
     step
 }

@@ -77,10 +77,14 @@ fn used_are_sound(used: &[Row], head: Head, mut each: impl FnMut(usize, u32)) ->
     zeros == 0 && rising == used.len() && timely == used.len() && previous < head.next
 }
 
-/// A branch for each eight bytes, as document 02 asks (L8).
+/// A branch for each eight bytes, as document 02 asks (L8), of four rows in a turn.
 #[inline(always)]
 fn are_zero(unused: &[Row]) -> bool {
-    unused
-        .iter()
-        .all(|row| word(row, 0) == 0 && word(row, WORD) == 0 && word(row, 2 * WORD) == 0)
+    let (fours, rest) = unused.as_chunks::<4>();
+    fours.iter().all(|four| four.iter().all(is_zero)) && rest.iter().all(is_zero)
+}
+
+#[inline(always)]
+fn is_zero(row: &Row) -> bool {
+    word(row, 0) == 0 && word(row, WORD) == 0 && word(row, 2 * WORD) == 0
 }

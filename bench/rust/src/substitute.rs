@@ -1,7 +1,7 @@
 //! The substitute for a ticket.
 
-use crate::count::Counts;
-use crate::plan::{ahead_in, place_in, Plan, OUTSIDE};
+use crate::count::{Counts, NONE_DUE};
+use crate::plan::{ahead_in, Index, Plan, OUTSIDE};
 use crate::sound::judge;
 use crate::table::{
     due, rows, ticket as ticket_of, weight, Row, MIDDLE, MIDDLE_ROWS, MOST_ROWS, SMALL, SMALL_ROWS,
@@ -22,7 +22,8 @@ pub fn substitute(ticket: u32, table: &[u8]) -> u64 {
 
 #[inline(never)]
 fn substitute_in<const N: usize>(ticket: u32, table: &[u8]) -> u64 {
-    let mut counts = Counts::<N>::none();
+    let mut array = [NONE_DUE; N];
+    let mut counts = Counts(&mut array);
     let head = match judge(table, |ahead, _| counts.add(ahead)) {
         Ok(head) => head,
         Err(refusal) => return refusal,
@@ -40,8 +41,21 @@ fn substitute_in<const N: usize>(ticket: u32, table: &[u8]) -> u64 {
     if load.left_out == 0 {
         return among_all(used, head.slot, &counts, ahead);
     }
-    let plan = Plan::of(used, head.slot, &mut counts, &load, |_, _| ());
-    planned(&plan, used, head.slot, index, ahead)
+    let mut places = Index::<N>::none();
+    let placed = |place, at| places.put(place, at);
+    let mut plan = Plan::sorted(used, head.slot, &mut counts, &load, placed, |_, _| ());
+    plan.leave_out(load.left_out);
+    let mut own = counts.last_place(ahead);
+    while places.at(own) != index {
+        own += 1;
+    }
+    if plan.at(own) & OUTSIDE != 0 {
+        return NOT_PLANNED;
+    }
+    match planned(&plan, &counts, ahead) {
+        Planned::By(key) => row(&used[places.of(key)]),
+        Planned::Blank(start) => blank(head.slot + start as u32),
+    }
 }
 
 #[inline(always)]
@@ -91,26 +105,20 @@ fn among_all<const N: usize>(rows: &[Row], slot: u32, counts: &Counts<N>, ahead:
     lightest.map_or(0, row)
 }
 
-/// In a busy slot when rows are left out.
-fn planned<const N: usize>(
-    plan: &Plan<N>,
-    rows: &[Row],
-    slot: u32,
-    index: usize,
-    ahead: usize,
-) -> u64 {
-    let keys = &plan.keys[..plan.len];
-    let at = |key: &u64| usize::from(plan.index[place_in(*key)]);
-    let own = keys
-        .iter()
-        .find(|key| ahead_in(**key) == ahead && at(key) == index);
-    if own.is_none_or(|key| key & OUTSIDE != 0) {
-        return NOT_PLANNED;
-    }
+/// The substitute of a plan member: the row of a key, or a blank due this slot ahead.
+enum Planned {
+    By(u64),
+    Blank(usize),
+}
+
+/// In a busy slot when rows are left out: by the lightest of the first segment, or the heaviest outside that is due in
+/// its own or a later one. Keys of rows outside are the greatest.
+#[inline(always)]
+fn planned<const N: usize>(plan: &Plan<N>, counts: &Counts<N>, ahead: usize) -> Planned {
     let (mut kept, mut start, mut lightest) = (0, 0, u64::MAX);
-    for key in keys.iter().filter(|key| **key & OUTSIDE == 0) {
+    for key in plan.keys().iter().rev() {
         lightest = lightest.min(*key);
-        kept += 1;
+        kept += usize::from(key & OUTSIDE == 0);
         if kept > ahead_in(*key) {
             if kept > ahead {
                 break;
@@ -119,12 +127,12 @@ fn planned<const N: usize>(
         }
     }
     if start == 0 {
-        return row(&rows[at(&lightest)]);
+        return Planned::By(lightest);
     }
-    let later = keys
-        .iter()
-        .filter(|key| **key & OUTSIDE != 0 && ahead_in(**key) >= start);
-    later
-        .max()
-        .map_or(blank(slot + start as u32), |key| row(&rows[at(key)]))
+    let (_, later) = plan.split(counts, start);
+    let heaviest = later.iter().fold(0, |heaviest, key| heaviest.max(*key));
+    match heaviest < OUTSIDE {
+        true => Planned::Blank(start),
+        false => Planned::By(heaviest),
+    }
 }

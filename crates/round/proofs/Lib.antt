@@ -3,5 +3,6 @@ pub mod RowLaws
 pub mod HeadLaws
 pub mod JudgeLaws
 pub mod WriteLaws
+pub mod StoreLaws
 pub mod TableLaws
 pub mod ByHead

@@ -147,9 +147,9 @@ module _ (t u : List ℕ) (k f e i : ℕ) (m : Moved t (row-at k) (row-at f) (ro
       moved-all m (omega (arith, b)) ∙ ap (λ (w : ℕ). paste t (row-at k) (drop (row-at f) t) w) n
 
 -- A RUN slid down by so many rows is the run behind those kept
-pub slid-run : (t u : List ℕ) (f e k o x y z : ℕ) → k ≤ f → f ≤ e → o ≡ f - k → x ≡ row-at f → y ≡ row-at e → z ≡ row-size * o →
+pub slid-run : (t u : List ℕ) (f e k x y z : ℕ) → k ≤ f → f ≤ e → x ≡ row-at f → y ≡ row-at e → z ≡ row-size * (f - k) →
     u ≡ paste t (x - z) (drop x t) (y - x) → u ≡ paste t (row-at k) (drop (row-at f) t) (row-size * (e - f))
-slid-run t u f e k o x y z h b c p q j d =
+slid-run t u f e k x y z h b p q j d =
     let n : y - x ≡ row-size * (e - f) = omega (arith, b, p, q) in
-    let a : x - z ≡ row-at k = omega (arith, h, c, p, j) in
+    let a : x - z ≡ row-at k = omega (arith, h, p, j) in
     d ∙ ap₂ (λ (v w : ℕ). paste t v (drop x t) w) a n ∙ ap (λ (w : ℕ). paste t (row-at k) (drop w t) (row-size * (e - f))) p

@@ -27,13 +27,21 @@ next-leaving-requires-2 : tie.Need-next-leaving-requires-2 Inv-loop μ-loop
 next-leaving-requires-2 c κs = search (search-more, needs)
 
 move-run-requires : tie.Need-move-run-requires Inv-loop μ-loop
-move-run-requires c κs = search (run-room, needs)
+move-run-requires c κs =
+    let l = c .before .before .before .before .before .before in
+    let s = l .before .before .before .before in
+    run-room (s .pre .0) (s .pre .1) (s .pre .2) (l .loop .inv) (search needs) (c .before .before .before .left-behind .ensures) (c .before .next-leaving2 .ensures)
 
 sub-kept : tie.Need-sub-kept Inv-loop μ-loop
 sub-kept c = search needs
 
 add-kept : tie.Need-add-kept Inv-loop μ-loop
-add-kept c = search needs
+add-kept c =
+    let l = c .before .before .before .before .before .before .before .before .before in
+    let s = l .before .before .before .before in
+    let r = run-room (s .pre .0) (s .pre .1) (s .pre .2) (l .loop .inv) (search needs) (c .before .before .before .before .before .before .left-behind .ensures)
+    (c .before .before .before .before .next-leaving2 .ensures) in
+    search needs
 
 loop-less : tie.Need-loop-less Inv-loop μ-loop
 loop-less c = search needs

@@ -11,7 +11,8 @@ returns : tie.Need-returns
 returns c = search (leaving-last, needs)
 
 next-due-requires : tie.Need-next-due-requires
-next-due-requires c κs = search (search-room, needs)
+next-due-requires c κs =
+    let s = c .before .before .before in search-room (s .pre) (c .before .search-end .ensures)
 
 returns-2 : tie.Need-returns-2
 returns-2 c = search (leaving-found, needs)

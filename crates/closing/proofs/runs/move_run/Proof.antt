@@ -1,5 +1,8 @@
 -- `closing::runs::move_run` meets its contract.
+use mathlib.Core.Path.{_≡_}
+use Prim.Native.Nat.{_*_, _-_}
 use borrow.Author.Needs.{needs}
+use Rattle.rules.specs.Limits.{row-size}
 use Rattle.closing.proofs.CopyLaws.{slid-run}
 use Rattle.closing.proofs.runs.move_run.Statement.{statement}
 use Rattle.closing.proofs.runs.move_run.Tie as tie
@@ -20,7 +23,10 @@ same-length : tie.Need-same-length
 same-length c = search needs
 
 returns : tie.Need-returns
-returns c = search (slid-run, needs)
+returns c =
+    let s = c .before .before .before .before .before .before .before .before in
+    let z : 24 ≡ row-size * (s .args .from - s .args .kept) = search needs in
+    search (slid-run, needs)
 
 mul-slide : tie.Need-mul-slide
 mul-slide c = search needs
@@ -32,7 +38,10 @@ same-length-2 : tie.Need-same-length-2
 same-length-2 c = search needs
 
 returns-2 : tie.Need-returns-2
-returns-2 c = search (slid-run, needs)
+returns-2 c =
+    let s = c .before .before .before .before .before .before .before .before .before in
+    let z : 48 ≡ row-size * (s .args .from - s .args .kept) = search needs in
+    search (slid-run, needs)
 
 mul-slide-2 : tie.Need-mul-slide-2
 mul-slide-2 c = search needs
@@ -44,7 +53,10 @@ same-length-3 : tie.Need-same-length-3
 same-length-3 c = search needs
 
 returns-3 : tie.Need-returns-3
-returns-3 c = search (slid-run, needs)
+returns-3 c =
+    let s = c .before .before .before .before .before .before .before .before .before .before in
+    let z : 72 ≡ row-size * (s .args .from - s .args .kept) = search needs in
+    search (slid-run, needs)
 
 mul-slide-3 : tie.Need-mul-slide-3
 mul-slide-3 c = search needs
@@ -56,7 +68,10 @@ same-length-4 : tie.Need-same-length-4
 same-length-4 c = search needs
 
 returns-4 : tie.Need-returns-4
-returns-4 c = search (slid-run, needs)
+returns-4 c =
+    let s = c .before .before .before .before .before .before .before .before .before .before .before in
+    let z : 96 ≡ row-size * (s .args .from - s .args .kept) = search needs in
+    search (slid-run, needs)
 
 move-each-requires : tie.Need-move-each-requires
 move-each-requires c κs = search needs

@@ -415,11 +415,12 @@ module _ {s k : ℕ} {t w : List ℕ} {n : ℕ} (q : Closed-rows s k t w n) (e :
       )
 
 -- the same with the head's numbers
-pub closed-written : {t w v x y : List ℕ} {h : Head} {k n s from end : ℕ} → table-refusal t ≡ 0 → Head-of t h → s ≡ h .slot .0 + 1 → Closed-rows s k t w n →
+pub closed-written : {t w v x y : List ℕ} {h : Head} {k n from end : ℕ} → table-refusal t ≡ 0 → Head-of t h → Closed-rows (suc (h .slot .0)) k t w n →
     from ≡ row-at n → end ≡ row-at (h .used) → v ≡ take from (take end w) ++ replicate (length (take end w) - from) 0 →
-    x ≡ sets (v ++ drop end w) slot-at (low slot-bytes s) → y ≡ sets x used-at (low slot-bytes n) → y ≡ closed-up k t
-closed-written {t} {w} {v} {x} {y} {h} {k} {n} {s} {from} {end} e d i q a b c f g =
-    let j : s ≡ suc (round-in t .slot) = omega (arith, head-slot d) in
+    x ≡ sets (v ++ drop end w) slot-at (low slot-bytes (h .slot .0 + 1)) → y ≡ sets x used-at (low slot-bytes n) → y ≡ closed-up k t
+closed-written {t} {w} {v} {x} {y} {h} {k} {n} {from} {end} e d q a b c f g =
+    let i : suc (h .slot .0) ≡ suc (round-in t .slot) = omega (arith, head-slot d) in
+    let j : h .slot .0 + 1 ≡ suc (round-in t .slot) = omega (arith, head-slot d) in
     g
-    ∙ closed-table k t w n e (subst (λ (m : ℕ). Closed-rows m k t w n) j q) (v ++ drop end w) x from end a (b ∙ ap row-at (head-used d))
+    ∙ closed-table k t w n e (subst (λ (m : ℕ). Closed-rows m k t w n) i q) (v ++ drop end w) x from end a (b ∙ ap row-at (head-used d))
     (ap (λ (bs : List ℕ). bs ++ drop end w) c) (f ∙ ap (λ (m : ℕ). sets (v ++ drop end w) slot-at (low slot-bytes m)) j)

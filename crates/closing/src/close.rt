@@ -50,7 +50,14 @@ fn search_end(from: usize, used: usize, gone: usize) -> usize
 }
 
 // The next row that leaves, or how many there are. With no row due now left there is nothing to search.
-fn next_leaving(table: &[u8], from: usize, used: usize, slot: Slot, left: usize, gone: usize) -> usize
+fn next_leaving(
+    table: &[u8],
+    from: usize,
+    used: usize,
+    slot: Slot,
+    left: usize,
+    gone: usize,
+) -> usize
     requires { ⌜ Search (slot .0) gone from used left (now table) ⌝ }
     ensures { λ r. ⌜ Next-leaving (slot .0) gone from used (now (table .entry)) r ⌝ }
 {

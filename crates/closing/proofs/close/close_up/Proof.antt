@@ -1,60 +1,81 @@
+-- `closing::close::close_up` meets its contract.
+use mathlib.Core.Path.{sym}
+use native.Mathlib.Omega.{arith}
 use borrow.Author.Needs.{needs}
+use lib.Seq.{length-take-le}
+use Rattle.closing.proofs.HeadLaws.{slot-small}
+use Rattle.closing.proofs.CloseLaws.{kept-few, closed-written}
 use Rattle.closing.proofs.close.close_up.Statement.{statement}
 use Rattle.closing.proofs.close.close_up.Tie as tie
-use Rattle.closing.proofs.close.close_up.Reads as reads
-use Rattle.closing.proofs.close.close_up.Lts as lts
-use Rattle.closing.proofs.close.close_rows.Reads as close-rows-reads
-use Rattle.numbers.proofs.write2.Reads as write2-reads
-use Rattle.round.proofs.rows.row_at.Reads as row-at-reads
-use Rattle.round.proofs.zeros.clear.Reads as clear-reads
 
--- src/close.rt:100:9
 close-rows-requires : tie.Need-close-rows-requires
 close-rows-requires c κs = search needs
 
--- src/close.rt:101:9
 row-at-requires : tie.Need-row-at-requires
-row-at-requires c κs = ?
+row-at-requires c κs =
+    let s = c .before .before .before .before .before in
+    kept-few (c .before .before .close-rows .ensures) (s .pre .0) (s .pre .1) .1
 
--- src/close.rt:102:9
 row-at-requires-2 : tie.Need-row-at-requires-2
-row-at-requires-2 c κs = ?
+row-at-requires-2 c κs =
+    let s = c .before .before .before .before .before .before in
+    omega (arith, kept-few (c .before .before .before .close-rows .ensures) (s .pre .0) (s .pre .1))
 
--- src/close.rt:103:11
 slice-relend-prefix-clear : tie.Need-slice-relend-prefix-clear
-slice-relend-prefix-clear c = ?
+slice-relend-prefix-clear c =
+    let s = c .before .before .before .before .before .before .before in
+    omega (arith, kept-few (c .before .before .before .before .close-rows .ensures) (s .pre .0) (s .pre .1), c .before .row-at .ensures)
 
--- src/close.rt:103:11
 slice-aggregate-clear : tie.Need-slice-aggregate-clear
-slice-aggregate-clear c = ?
+slice-aggregate-clear c =
+    let s = c .before .before .before .before .before .before .before .before in
+    sym (length-take-le _ _ (omega (
+      arith,
+      kept-few (c .before .before .before .before .before .close-rows .ensures) (s .pre .0) (s .pre .1),
+      c .before .before .row-at .ensures,
+    )))
 
--- src/close.rt:103:5
 clear-requires : tie.Need-clear-requires
-clear-requires c κs = ?
+clear-requires c κs =
+    let s = c .before .before .before .before .before .before .before .before in
+    let k = kept-few (c .before .before .before .before .before .close-rows .ensures) (s .pre .0) (s .pre .1) in
+    omega (
+      arith,
+      k,
+      length-take-le (c .before .before .row-at .result) (c .before .before .before .before .before .close-rows .last .0)
+          (omega (arith, k, c .before .before .row-at .ensures)),
+      c .before .before .row-at .ensures,
+      c .before .row-at2 .ensures,
+    )
 
--- src/close.rt:104:35
 add-write2 : tie.Need-add-write2
-add-write2 c = ?
+add-write2 c =
+    let s = c .before .before .before .before .before .before .before .before .before .before .before .before .before in omega (arith, slot-small (s .pre .0) (s .pre .1))
 
--- src/close.rt:104:5
 write2-requires : tie.Need-write2-requires
 write2-requires c κs = search needs
 
--- src/close.rt:105:35
 cast-write2 : tie.Need-cast-write2
-cast-write2 c = ?
+cast-write2 c =
+    let closed = c .before .before .before .before .before .before .before .before .before .before .before .before .before .before in
+    let entry = closed .before .before .before in
+    omega (arith, kept-few (closed .close-rows .ensures) (entry .pre .0) (entry .pre .1))
 
--- src/close.rt:105:5
 write2-requires-2 : tie.Need-write2-requires-2
 write2-requires-2 c κs = search needs
 
--- src/close.rt:96:1
 same-length : tie.Need-same-length
 same-length c = search needs
 
--- src/close.rt:96:1
 returns : tie.Need-returns
-returns c = ?
+returns c =
+    let written = c .before .before .before .before .before .before in
+    let cleared = written .before .before .before .before .before in
+    let ends = cleared .before .before in
+    let closed = ends .before .before .before .before in
+    let entry = closed .before .before .before in
+    closed-written (entry .pre .0) (entry .pre .1) (closed .close-rows .ensures) (ends .row-at2 .ensures)
+    (ends .before .row-at .ensures) (cleared .clear .ensures) (written .write2 .ensures) (c .before .before .write22 .ensures)
 
 pub close-up-spec : {M : Type 1} → statement M
 close-up-spec =

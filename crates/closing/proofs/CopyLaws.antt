@@ -131,6 +131,18 @@ moved-byte {t} {u} {f} {e} {i} b m h l k =
     moved-more 1 (i - b) i m (omega arith) l (omega arith) (omega (arith, m .onward)) refl (length-set u (i - b) (getD u i 0))
     (copied-one u (i - b) i (omega arith) (omega (arith, m .long)))
 
+-- a block of bytes, and all that are left
+module _ (t u v : List ℕ) (f e b i : ℕ) (m : Moved t (f - b) f e i u) (h : b ≤ f) (l : e ≤ length t) (j : length v ≡ length u) where
+  pub moved-block : (n : ℕ) → n ≤ e - i → v ≡ paste u (i - b) (drop i u) (i + n - i) → Moved t (f - b) f e (i + n) v
+  moved-block n k d =
+      let c : i + n - i ≡ n = omega arith in
+      moved-more n (i - b) i m (omega arith) l (omega (arith, k, m .by)) (omega (arith, m .onward)) refl j
+      (d ∙ ap (λ (w : ℕ). paste u (i - b) (drop i u) w) c)
+
+  pub moved-last : v ≡ paste u (i - b) (drop i u) (e - i) → v ≡ paste t (f - b) (drop f t) (e - f)
+  moved-last d =
+      moved-all (moved-more (e - i) (i - b) i m (omega arith) l (omega (arith, m .by)) (omega (arith, m .onward)) refl j d) (omega (arith, m .by))
+
 -- ROWS: one more, and all
 module _ (t u : List ℕ) (k f e i : ℕ) (m : Moved t (row-at k) (row-at f) (row-at e) (row-at i) u) where
   pub moved-row : (v : List ℕ) (x y o : ℕ) → k ≤ f → row-at e ≤ length t → i < e → o ≡ f - k → x ≡ row-at (i - o) → y ≡ row-at i →

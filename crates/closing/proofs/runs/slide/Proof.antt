@@ -1,10 +1,7 @@
 -- `closing::runs::slide` meets its contract.
-use mathlib.Core.Path.{_∙_}
 use Prim.Native.Nat.{_-_}
-use native.Mathlib.Omega.{arith}
-use lib.ListN.{length-set}
 use borrow.Author.Needs.{needs}
-use Rattle.closing.proofs.CopyLaws.{Moved, moved-none, moved-byte, moved-all}
+use Rattle.closing.proofs.CopyLaws.{Moved, moved-none, moved-block, moved-last}
 use Rattle.closing.proofs.runs.slide.Statement.{statement}
 use Rattle.closing.proofs.runs.slide.Tie as tie
 
@@ -15,16 +12,16 @@ abbrev μ-loop : tie.MeasureT-loop
 μ-loop table₀ from end by i₀ table i = end - i
 
 loop-holds : tie.Need-loop-holds Inv-loop μ-loop
-loop-holds c = moved-none _ _ _ _ (c .pre .1)
+loop-holds c = moved-none _ _ _ _ (search needs)
 
-slice-read-table : tie.Need-slice-read-table Inv-loop μ-loop
-slice-read-table c = search needs
+sub-loop : tie.Need-sub-loop Inv-loop μ-loop
+sub-loop c = search needs
 
-sub-table : tie.Need-sub-table Inv-loop μ-loop
-sub-table c = search needs
+add-shift : tie.Need-add-shift Inv-loop μ-loop
+add-shift c = search needs
 
-slice-write-table : tie.Need-slice-write-table Inv-loop μ-loop
-slice-write-table c = search needs
+shift-requires : tie.Need-shift-requires Inv-loop μ-loop
+shift-requires c κs = search needs
 
 add-i : tie.Need-add-i Inv-loop μ-loop
 add-i c = search needs
@@ -33,13 +30,16 @@ loop-less : tie.Need-loop-less Inv-loop μ-loop
 loop-less c = search needs
 
 loop-again : tie.Need-loop-again Inv-loop μ-loop
-loop-again c = let s = c .before .before .before in moved-byte (s .args .by) (c .before .before .loop .inv) (s .pre .0) (s .pre .2) (search needs)
+loop-again c = search (moved-block, needs)
+
+shift-requires-2 : tie.Need-shift-requires-2 Inv-loop μ-loop
+shift-requires-2 c κs = search needs
 
 same-length : tie.Need-same-length Inv-loop μ-loop
-same-length c = c .before .loop .inv .long
+same-length c = search needs
 
 returns : tie.Need-returns Inv-loop μ-loop
-returns c = moved-all (c .before .loop .inv) (search needs)
+returns c = search (moved-last, needs)
 
 pub slide-spec : {M : Type 1} → statement M
 slide-spec =
@@ -48,11 +48,12 @@ slide-spec =
     Inv-loop
     μ-loop
     loop-holds
-    slice-read-table
-    sub-table
-    slice-write-table
+    sub-loop
+    add-shift
+    shift-requires
     add-i
     loop-less
     loop-again
+    shift-requires-2
     same-length
     returns)

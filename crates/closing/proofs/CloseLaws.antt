@@ -49,6 +49,17 @@ used-held : (t : List ℕ) → length (round-in t .rows) ≡ used-in t
 unfolding round-in round
 used-held t = rows-count (used-in t) (drop head-size t)
 
+-- THE TICKET THAT GOES is the one of its row; past the last row there is none
+pub gone-held : (t : List ℕ) (g : ℕ) → g < used-in t → gone-ticket t g ≡ ticket-in t g
+gone-held t g h = rw (lt-ltb g (used-in t) h)
+
+pub gone-nothing : (t : List ℕ) (g : ℕ) → used-in t ≤ g → gone-ticket t g ≡ 0
+gone-nothing t g h = rw (le-ltb g (used-in t) h)
+
+pub gone-row : (t : List ℕ) (g : ℕ) → g < used-in t → gone-ticket t g ≡ getD (round-in t .rows) g (blank 0) .ticket
+unfolding row
+gone-row t g h = gone-held t g h ∙ sym (ap (λ (x : Row). x .ticket) (at-held t g h))
+
 -- whether a row stays
 stays-yes : (s k : ℕ) (x : Row) → s ≤ x .due → (x .ticket ≡ k → ⊥) → stays s k x ≡ true
 unfolding stays
@@ -153,10 +164,6 @@ module _ {t : List ℕ} {h : Head} {g : ℕ} (e : table-refusal t ≡ 0) (d : He
   unfolding row
   due-is j l = sym (ap (λ (x : Row). x .due) (at-held t j (omega (arith, l, used-held t))))
 
-  ticket-is : (j : ℕ) → j < length xs → ticket-in t j ≡ row-of j .ticket
-  unfolding row
-  ticket-is j l = sym (ap (λ (x : Row). x .ticket) (at-held t j (omega (arith, l, used-held t))))
-
   due-from : (j : ℕ) → j < length xs → round-in t .slot ≤ row-of j .due
   due-from j l = all-in (Row-fine (round-in t)) (row-of j) xs (sound t e .sane .fine .fine) (getD-in xs (blank 0) j l) .due-from
 
@@ -164,10 +171,10 @@ module _ {t : List ℕ} {h : Head} {g : ℕ} (e : table-refusal t ≡ 0) (d : He
   ticket-some j l = rising-above 1 (round-in t .next) (row-of j) xs (sound t e .sane .fine .rising) (getD-in xs (blank 0) j l)
 
   gone-is : g < length xs → k ≡ row-of g .ticket
-  gone-is l = rw (lt-ltb g (used-in t) (omega (arith, l, used-held t))) (ticket-is g l)
+  gone-is l = gone-row t g (omega (arith, l, used-held t))
 
   gone-none : length xs ≤ g → k ≡ 0
-  gone-none l = rw (le-ltb g (used-in t) (omega (arith, l, used-held t)))
+  gone-none l = gone-nothing t g (omega (arith, l, used-held t))
 
   -- the row that goes has its ticket, and no other has
   ticket-same : (j : ℕ) → j < length xs → j ≡ g → row-of j .ticket ≡ k
@@ -415,12 +422,12 @@ module _ {s k : ℕ} {t w : List ℕ} {n : ℕ} (q : Closed-rows s k t w n) (e :
       )
 
 -- the same with the head's numbers
-pub closed-written : {t w v x y : List ℕ} {h : Head} {k n from end : ℕ} → table-refusal t ≡ 0 → Head-of t h → Closed-rows (suc (h .slot .0)) k t w n →
+pub closed-written : (t w v x y : List ℕ) (h : Head) (k n s from end : ℕ) → table-refusal t ≡ 0 → Head-of t h → Closed-rows (suc (h .slot .0)) k t w n →
     from ≡ row-at n → end ≡ row-at (h .used) → v ≡ take from (take end w) ++ replicate (length (take end w) - from) 0 →
-    x ≡ sets (v ++ drop end w) slot-at (low slot-bytes (h .slot .0 + 1)) → y ≡ sets x used-at (low slot-bytes n) → y ≡ closed-up k t
-closed-written {t} {w} {v} {x} {y} {h} {k} {n} {from} {end} e d q a b c f g =
+    x ≡ sets (v ++ drop end w) slot-at (low slot-bytes s) → s ≡ h .slot .0 + 1 → y ≡ sets x used-at (low slot-bytes n) → y ≡ closed-up k t
+closed-written t w v x y h k n s from end e d q a b c f o g =
     let i : suc (h .slot .0) ≡ suc (round-in t .slot) = omega (arith, head-slot d) in
-    let j : h .slot .0 + 1 ≡ suc (round-in t .slot) = omega (arith, head-slot d) in
+    let j : s ≡ suc (round-in t .slot) = omega (arith, head-slot d, o) in
     g
     ∙ closed-table k t w n e (subst (λ (m : ℕ). Closed-rows m k t w n) i q) (v ++ drop end w) x from end a (b ∙ ap row-at (head-used d))
     (ap (λ (bs : List ℕ). bs ++ drop end w) c) (f ∙ ap (λ (m : ℕ). sets (v ++ drop end w) slot-at (low slot-bytes m)) j)

@@ -68,14 +68,7 @@ same-length : tie.Need-same-length
 same-length c = search needs
 
 returns : tie.Need-returns
-returns c =
-    let written = c .before .before .before .before .before .before in
-    let cleared = written .before .before .before .before .before in
-    let ends = cleared .before .before in
-    let closed = ends .before .before .before .before in
-    let entry = closed .before .before .before in
-    closed-written (entry .pre .0) (entry .pre .1) (closed .close-rows .ensures) (ends .row-at2 .ensures)
-    (ends .before .row-at .ensures) (cleared .clear .ensures) (written .write2 .ensures) (c .before .before .write22 .ensures)
+returns c = search (closed-written, needs)
 
 pub close-up-spec : {M : Type 1} → statement M
 close-up-spec =

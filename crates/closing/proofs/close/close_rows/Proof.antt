@@ -30,7 +30,9 @@ move-run-requires : tie.Need-move-run-requires Inv-loop μ-loop
 move-run-requires c κs =
     let l = c .before .before .before .before .before .before in
     let s = l .before .before .before .before in
-    run-room (s .pre .0) (s .pre .1) (s .pre .2) (l .loop .inv) (search needs) (c .before .before .before .left-behind .ensures) (c .before .next-leaving2 .ensures)
+    let r = run-room (s .pre .0) (s .pre .1) (s .pre .2) (l .loop .inv) (search needs) (c .before .before .before .left-behind .ensures)
+    (c .before .next-leaving2 .ensures) in
+    search needs
 
 sub-kept : tie.Need-sub-kept Inv-loop μ-loop
 sub-kept c = search needs
@@ -47,7 +49,11 @@ loop-less : tie.Need-loop-less Inv-loop μ-loop
 loop-less c = search needs
 
 loop-again : tie.Need-loop-again Inv-loop μ-loop
-loop-again c = search (runs-more, needs)
+loop-again c =
+    let l = c .before .before .before .before .before .before .before .before .before in
+    let s = l .before .before .before .before in
+    runs-more (s .pre .0) (s .pre .1) (s .pre .2) (l .loop .inv) (search needs) (c .before .before .before .before .before .before .left-behind .ensures)
+    (c .before .before .before .before .next-leaving2 .ensures) (search needs) (search needs)
 
 same-length : tie.Need-same-length Inv-loop μ-loop
 same-length c = c .before .loop .inv .long

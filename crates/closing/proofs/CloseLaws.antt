@@ -5,17 +5,16 @@ use mathlib.Core.Bool.{Bool, true, false, _&&_}
 use mathlib.Core.List.{List, _++_, append-assoc}
 use Prim.Native.Nat.{ℕ, zero, suc, _+_, _*_, _-_, _≤_, _<_}
 use native.Mathlib.Omega.{arith}
-use lib.Dec.{leb, eqb, ltb}
+use lib.Dec.{leb}
 use borrow.Author.Tests.{le-leb, lt-leb, lt-ltb, le-ltb, ne-eqb, eq-eqb}
 use lib.ListN.{length, getD, take, drop, replicate, length-append}
-use lib.Seq.{sets, paste, paste-zero, length-paste, take-take, drop-at, drop-cons, drop-length, length-take-le}
+use lib.Seq.{sets, paste, paste-zero, take-take, drop-at, drop-cons, drop-length, length-take-le}
 use Rattle.rules.specs.Limits.{head-size, row-size, slot-at, used-at, due-at, slot-bytes}
 use Rattle.rules.specs.Rows.{Row, Round, row, round, blank}
 use Rattle.rules.specs.Conditions.{row-at, used-in, ticket-in, due-in}
 use Rattle.rules.specs.Table.{low, field, head-bytes, rows-bytes, rows-in, table, round-in, table-refusal}
 use Rattle.theory.specs.Tests.{ltb?, eqb?}
 use Rattle.theory.specs.All.{all-in}
-use Rattle.theory.specs.Sum.{sum}
 use Rattle.theory.specs.Feas.{below, num, below-yes}
 use Rattle.theory.specs.Back.{zero-byte, head-of, length-head-of, table-is}
 use Rattle.theory.specs.Fields.{field-drop}
@@ -23,13 +22,13 @@ use Rattle.theory.specs.Bounds.{Row-fine}
 use Rattle.theory.specs.Change.{rising-above}
 use Rattle.theory.specs.Soundness.{row-in, row-there, row-next}
 use Rattle.theory.specs.Clauses.{rows-count}
-use Rattle.theory.specs.Sane.{Sane, sound}
+use Rattle.theory.specs.Sane.{sound}
 use Rattle.theory.specs.Keys.{getD-in, tickets-less}
 use Rattle.theory.specs.Close.{stays, closed, after-slot, kept-of, kept-most, closing-start, kept-more, kept-still, closing-skip, closing-copy, closing-paste, closing-rows, length-closed, rows-split, rows-long}
 use Rattle.theory.specs.Write.{head-sets, zeros-join}
 use Rattle.round.specs.Head.{Head-of}
 use Rattle.sorts.specs.declared.Round.{Round as Head}
-use Rattle.closing.specs.Close.{Due-now, gone-ticket, None-due, Search, Next-leaving, Some-left, Left-behind, Closing-in, Closed-rows, closed-up}
+use Rattle.closing.specs.Close.{Due-now, gone-ticket, Search, Next-leaving, Some-left, Left-behind, Closing-in, Closed-rows, closed-up}
 use Rattle.closing.proofs.CopyLaws.{paste-next}
 use Rattle.closing.proofs.HeadLaws.{head-slot, head-used, table-room}
 

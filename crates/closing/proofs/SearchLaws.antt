@@ -1,9 +1,9 @@
 -- Rows searched for the next one that leaves.
-use mathlib.Core.Path.{_≡_, ap, _∙_}
+use mathlib.Core.Path.{_≡_, sym, ap, _∙_}
 use mathlib.Core.Logic.{inl, inr}
 use mathlib.Core.Bool.{cond}
 use mathlib.Core.List.{List}
-use Prim.Native.Nat.{ℕ, suc, _+_, _≤_, _<_}
+use Prim.Native.Nat.{ℕ, _+_, _≤_, _<_}
 use native.Mathlib.Omega.{arith}
 use lib.Dec.{leb}
 use lib.ListN.{length}
@@ -26,13 +26,10 @@ module _ {s f e : ℕ} {t : List ℕ} {i : ℕ} (q : None-due s f e t i) where
         onward = omega (arith, q .onward);
         by = omega (arith, h);
         none = λ j a b d. elim (eqb? j i) [
-          | inl c ↦ k (ap (due-in t) (sym-of (c .1)) ∙ d)
+          | inl c ↦ k (ap (due-in t) (sym (c .1)) ∙ d)
           | inr c ↦ let n = c .1 in q .none j a (omega (arith, b)) d
         ];
       }
-    where
-      sym-of : {m n : ℕ} → m ≡ n → n ≡ m
-      sym-of {m} {n} p = omega (arith, p)
 
   pub next-found : due-in t i ≡ s → Next-due s f e t i
   next-found d = record { before = q; due = λ _. d }

@@ -5,7 +5,7 @@ ghost use Prim.Native.Nat.{suc, _≤_, _<_};
 ghost use lib.Dec.{leb};
 ghost use lib.ListN.{length};
 ghost use Rattle.rules.specs.Conditions.{row-at, due-in};
-ghost use Rattle.rules.specs.Table.{round-in, table-refusal};
+ghost use Rattle.rules.specs.Table.{table-refusal};
 ghost use Rattle.round.specs.Head.{Head-of};
 ghost use Rattle.closing.specs.Close.{Due-now, gone-ticket, Next-due, Search, Next-leaving, Some-left, Left-behind, Closed-rows, closed-up};
 use crate::runs::move_run;

@@ -1,9 +1,8 @@
 -- `closing::close::left_behind` meets its contract.
 use mathlib.Core.Logic.{inl, inr}
-use mathlib.Core.Path.{refl, sym, _∙_}
+use mathlib.Core.Path.{refl}
 use native.Mathlib.Omega.{arith}
 use borrow.Author.Needs.{needs}
-use borrow.Author.Tests.{eqb-true, eqb-false}
 use Rattle.closing.proofs.close.left_behind.Statement.{statement}
 use Rattle.closing.proofs.close.left_behind.Tie as tie
 

@@ -1,9 +1,6 @@
 -- `closing::close::next_due` meets its contract.
-use mathlib.Core.Path.{sym, _∙_}
 use Prim.Native.Nat.{_-_}
-use native.Mathlib.Omega.{arith}
 use borrow.Author.Needs.{needs}
-use borrow.Author.Tests.{eqb-true, eqb-false}
 use Rattle.closing.specs.Close.{None-due}
 use Rattle.closing.proofs.SearchLaws.{none-start, none-more, next-found, next-none}
 use Rattle.closing.proofs.close.next_due.Statement.{statement}

@@ -1,7 +1,5 @@
 -- `closing::close::search_end` meets its contract.
-use native.Mathlib.Omega.{arith}
 use borrow.Author.Tests.{le-leb, lt-leb}
-use borrow.Author.Needs.{needs}
 use Rattle.closing.proofs.close.search_end.Statement.{statement}
 use Rattle.closing.proofs.close.search_end.Tie as tie
 

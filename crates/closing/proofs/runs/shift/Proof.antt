@@ -1,8 +1,5 @@
 -- `closing::runs::shift` meets its contract.
-use mathlib.Core.Path.{_∙_}
 use Prim.Native.Nat.{_-_}
-use native.Mathlib.Omega.{arith}
-use lib.ListN.{length-set}
 use borrow.Author.Needs.{needs}
 use Rattle.closing.proofs.CopyLaws.{Moved, moved-none, moved-byte, moved-all}
 use Rattle.closing.proofs.runs.shift.Statement.{statement}

@@ -1,5 +1,6 @@
 pub mod Head
 pub mod Numbers
-pub mod Judge
 pub mod Rows
 pub mod Buckets
+pub mod Seen
+pub mod Judge

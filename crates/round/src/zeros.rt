@@ -10,12 +10,27 @@ ghost use Rattle.theory.specs.Fields.{Zeros};
 use numbers::read8;
 use sorts::Round;
 
-// Whether all bytes from a place on are zero; whole rows follow it.
+// Whether all bytes from a place on are zero; whole rows follow it, four of them a turn while they last.
 pub fn zeros_from(table: &[u8], from: usize) -> bool
     requires { ⌜ (from ≤ length (now table)) × ((length (now table) - from) % row-size ≡ 0) ⌝ }
     ensures { λ r. ⌜ r ≡ zeros (drop from (now (table .entry))) ⌝ }
 {
     let mut at = from;
+    while 4 * Round::ROW_SIZE <= table.len() - at {
+        if !row_is_zero(table, at) {
+            return false;
+        }
+        if !row_is_zero(table, at + Round::ROW_SIZE) {
+            return false;
+        }
+        if !row_is_zero(table, at + 2 * Round::ROW_SIZE) {
+            return false;
+        }
+        if !row_is_zero(table, at + 3 * Round::ROW_SIZE) {
+            return false;
+        }
+        at += 4 * Round::ROW_SIZE;
+    }
     while at < table.len() {
         if !row_is_zero(table, at) {
             return false;

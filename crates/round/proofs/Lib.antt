@@ -6,3 +6,5 @@ pub mod WriteLaws
 pub mod TableLaws
 pub mod ByHead
 pub mod ReadLaws
+pub mod CountLaws
+pub mod ScanLaws

@@ -1,3 +1,4 @@
+pub mod Zeros
 pub mod Head
 pub mod Numbers
 pub mod Rows

@@ -41,7 +41,12 @@ pub fn rows_are_sound(table: &[u8], round: Round) -> bool
     }
     let span = round.last.0 - slot;
     let used = round.used;
-    let mut seen = Seen { ticket: 0, ahead: 0, weights: 0, plain: 0 };
+    let mut seen = Seen {
+        ticket: 0,
+        ahead: 0,
+        weights: 0,
+        plain: 0,
+    };
     let mut i: usize = 0;
     while i < used {
         let a = row_at(i);
@@ -68,7 +73,12 @@ pub fn rows_are_counted(table: &[u8], counts: &mut [u32], round: Round) -> bool
     let span = round.last.0 - slot;
     let top = top_of(round);
     let used = round.used;
-    let mut seen = Seen { ticket: 0, ahead: 0, weights: 0, plain: 0 };
+    let mut seen = Seen {
+        ticket: 0,
+        ahead: 0,
+        weights: 0,
+        plain: 0,
+    };
     let mut i: usize = 0;
     while i < used {
         let a = row_at(i);

@@ -1,4 +1,4 @@
-// The judge of a whole table.
+// The judge of a whole table, and the scan: the same, with the rows counted by bucket.
 ghost use Rattle.round.specs.Judge.{Judge-says, Scan-asks, Scan-says};
 use crate::head::head_is_sound;
 use crate::head::read_head;
@@ -34,7 +34,7 @@ pub fn judge(table: &[u8]) -> Judged
     Judged::Sound(round)
 }
 
-// The same, and 2,048 for each row counted in its bucket.
+// Where a slot is left, counts gets 2,048 for each row in its bucket.
 pub fn scan(table: &[u8], counts: &mut [u32]) -> Judged
     requires { ⌜ Scan-asks (now table) (now counts) ⌝ }
     ensures { λ r. ⌜ Scan-says (now (table .entry)) (now (counts .exit)) r ⌝ }

@@ -9,7 +9,7 @@ row-is-zero-requires : tie.Need-row-is-zero-requires
 row-is-zero-requires c κs = search needs
 
 returns : tie.Need-returns
-returns c = 
+returns c =
     let s = c .before .before .before .args in
     four-foul (s .table .now) (s .at) _ _ (c .before .row-is-zero .ensures) (not-true _ (c .if1 .taken)) (search needs) (search needs)
 
@@ -20,7 +20,7 @@ row-is-zero-requires-2 : tie.Need-row-is-zero-requires-2
 row-is-zero-requires-2 c κs = search needs
 
 returns-2 : tie.Need-returns-2
-returns-2 c = 
+returns-2 c =
     let s = c .before .before .before .before .before .args in
     four-foul (s .table .now) (s .at) _ _ (c .before .row-is-zero2 .ensures) (not-true _ (c .if2 .taken)) (search needs) (search needs)
 
@@ -34,7 +34,7 @@ row-is-zero-requires-3 : tie.Need-row-is-zero-requires-3
 row-is-zero-requires-3 c κs = search needs
 
 returns-3 : tie.Need-returns-3
-returns-3 c = 
+returns-3 c =
     let s = c .before .before .before .before .before .before .before .args in
     four-foul (s .table .now) (s .at) _ _ (c .before .row-is-zero3 .ensures) (not-true _ (c .if3 .taken)) (search needs) (search needs)
 
@@ -48,7 +48,7 @@ row-is-zero-requires-4 : tie.Need-row-is-zero-requires-4
 row-is-zero-requires-4 c κs = search needs
 
 returns-4 : tie.Need-returns-4
-returns-4 c = 
+returns-4 c =
     let s = c .before .before .before .before .before .before .before .before .args in
     four-last (s .table .now) (s .at) _ _ _ _ _ _ _ (c .before .before .before .before .before .before .row-is-zero .ensures) (c .before .before .before .before .row-is-zero2 .ensures)
     (c .before .before .row-is-zero3 .ensures) (c .row-is-zero4 .ensures) (not-false _ (c .before .before .before .before .before .if1 .left)) (not-false _ (c .before .before .before .if2 .left))

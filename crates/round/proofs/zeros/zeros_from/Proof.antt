@@ -35,7 +35,7 @@ four-are-zero-requires : tie.Need-four-are-zero-requires Inv-loop μ-loop Inv-lo
 four-are-zero-requires c κs = search needs
 
 returns : tie.Need-returns Inv-loop μ-loop Inv-loop2 μ-loop2
-returns c = 
+returns c =
     let s = c .before .before .before .before .before in
     sym (zeros-more (s .args .table .now) (s .args .from) (c .before .before .before .loop .at) _ _ false (c .before .four-are-zero .ensures) (not-true _ (c .if1 .taken))
     (c .before .before .before .loop .inv .2))
@@ -50,7 +50,7 @@ loop-less : tie.Need-loop-less Inv-loop μ-loop Inv-loop2 μ-loop2
 loop-less c = search needs
 
 loop-again : tie.Need-loop-again Inv-loop μ-loop Inv-loop2 μ-loop2
-loop-again c = 
+loop-again c =
     let s = c .before .before .before .before .before in (
       search needs,
       search needs,
@@ -65,7 +65,7 @@ row-is-zero-requires : tie.Need-row-is-zero-requires Inv-loop μ-loop Inv-loop2 
 row-is-zero-requires c κs = search needs
 
 returns-2 : tie.Need-returns-2 Inv-loop μ-loop Inv-loop2 μ-loop2
-returns-2 c = 
+returns-2 c =
     let s = c .before .before .before .before .before .before .before in
     sym (zeros-more (s .args .table .now) (s .args .from) (c .before .before .before .loop2 .at) _ _ false (c .before .row-is-zero .ensures) (not-true _ (c .if2 .taken))
     (c .before .before .before .loop2 .inv .2))
@@ -77,7 +77,7 @@ loop2-less : tie.Need-loop2-less Inv-loop μ-loop Inv-loop2 μ-loop2
 loop2-less c = search needs
 
 loop2-again : tie.Need-loop2-again Inv-loop μ-loop Inv-loop2 μ-loop2
-loop2-again c = 
+loop2-again c =
     let s = c .before .before .before .before .before .before .before in (
       search needs,
       search needs,

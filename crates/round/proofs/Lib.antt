@@ -7,3 +7,5 @@ pub mod StoreLaws
 pub mod TableLaws
 pub mod ByHead
 pub mod ReadLaws
+pub mod CountLaws
+pub mod ScanLaws

@@ -1,20 +1,25 @@
--- The judge of rows, as the code tests them.
+-- The judge of a row, as the code reads and tests it.
 use mathlib.Core.Path.{_≡_, refl, sym, ap, ap₂, _∙_}
+use mathlib.Core.Logic.{inl, inr}
 use mathlib.Core.Bool.{Bool, true, false, _&&_}
 use mathlib.Core.List.{List}
 use Prim.Native.Nat.{ℕ, suc, _+_, _-_, _≤_, _<_}
 use native.Mathlib.Omega.{arith}
 use native.Mathlib.Numerals.{add-one}
+use lib.Bits.{bitOr, or-add-and, and-le-l, and-le-r, or-lt}
 use lib.Dec.{ltb, leb, eqb}
+use borrow.Author.Tests.{ltb-true, lt-ltb, le-ltb, le-leb, lt-leb}
 use lib.ListN.{length, getD, take, drop, length-drop}
-use lib.Seq.{drop-cons, drop-drop, take-all, getD-take, getD-drop}
-use Rattle.rules.specs.Limits.{row-size, wide-bytes}
+use lib.Seq.{drop-cons, take-all, getD-take, getD-drop}
+use Rattle.rules.specs.Limits.{row-size, most-last, most-weight}
 use Rattle.rules.specs.Rows.{row}
 use Rattle.rules.specs.Table.{field, every}
-use Rattle.rules.specs.Conditions.{row-at}
-use Rattle.theory.specs.Judge.{zeros, row-judged, rows-judged}
+use Rattle.theory.specs.Tests.{ltb?, leb?}
+use Rattle.theory.specs.Judge.{zeros, row-judged}
 use Rattle.theory.specs.Fields.{zeros-at}
 use Rattle.numbers.proofs.NumberLaws.{field-suc, field-zero}
+use Rattle.round.specs.declared.seen.Seen.{Seen}
+use Rattle.round.specs.Seen.{Differs, Sees, fair}
 use Rattle.round.proofs.ZeroLaws.{word-at-most-one, zeros-rest}
 
 -- eight bytes are at most 1 as a number when the first is and the others are zero
@@ -46,48 +51,110 @@ row-end xs h =
     at : zeros (take 7 (drop 11 xs)) ≡ true → (i : ℕ) → i < 7 → getD xs (11 + i) 0 ≡ 0
     at e i h = sym (getD-take 7 (drop 11 xs) i 0 h ∙ getD-drop 11 xs i 0) ∙ zeros-at (take 7 (drop 11 xs)) e i
 
--- THE JUDGE of a row, its tests in the groups of the code
-grouped : (a b c d e f g z : Bool) → ((a && b) && (c && d)) && ((e && f) && (g && z)) ≡ (a && (b && (c && (d && (e && (f && (g && true))))))) && z
-grouped false b c d e f g z = refl
-grouped true false c d e f g z = refl
-grouped true true false d e f g z = refl
-grouped true true true false e f g z = refl
-grouped true true true true false f g z = refl
-grouped true true true true true false g z = refl
-grouped true true true true true true false z = refl
-grouped true true true true true true true z = refl
+-- OR-ED NUMBERS are within a power of two where each is
+or-least : (a b : ℕ) → (a ≤ bitOr a b) × (b ≤ bitOr a b)
+or-least a b = (omega (arith, or-add-and a b, and-le-r a b), omega (arith, or-add-and a b, and-le-l a b))
 
-pub row-is : (s l n b : ℕ) (xs : List ℕ) → length xs ≡ row-size →
-    ((ltb b (field 0 4 xs) && ltb (field 0 4 xs) n) && (leb s (field 4 2 xs) && leb (field 4 2 xs) l))
-    && ((leb 1 (field 6 4 xs) && leb (field 6 4 xs) 16777216) && (leb (field 10 8 xs) 1 && leb (field 16 8 xs) 1))
-    ≡ row-judged s l n b xs
+or-weights : (a b : ℕ) → ltb (bitOr a b) most-weight ≡ ltb a most-weight && ltb b most-weight
+or-weights a b =
+    let l = or-least a b in
+    elim (ltb? a most-weight) [
+      | inl h ↦ elim (ltb? b most-weight) [
+        | inl k ↦ rw (h .0, k .0) (lt-ltb (bitOr a b) most-weight (or-lt 24 a b (h .1) (k .1)))
+        | inr k ↦ rw (h .0, k .0) (le-ltb (bitOr a b) most-weight (omega (arith, l .1, k .1)))
+      ]
+      | inr h ↦ rw (h .0) (le-ltb (bitOr a b) most-weight (omega (arith, l .0, h .1)))
+    ]
+
+or-plain : (a b : ℕ) → leb (bitOr a b) 1 ≡ leb a 1 && leb b 1
+or-plain a b =
+    let l = or-least a b in
+    elim (leb? a 1) [
+      | inl h ↦ elim (leb? b 1) [
+        | inl k ↦
+            let o : bitOr a b < 2 = or-lt 1 a b (omega (arith, h .1)) (omega (arith, k .1)) in
+            rw (h .0, k .0) (le-leb (bitOr a b) 1 (omega (arith, o)))
+        | inr k ↦ rw (h .0, k .0) (lt-leb (bitOr a b) 1 (omega (arith, l .1, k .1)))
+      ]
+      | inr h ↦ rw (h .0) (lt-leb (bitOr a b) 1 (omega (arith, l .0, h .1)))
+    ]
+
+-- a weight less 1 in 32 bits is below the most where the weight is within its bounds
+weight-less : (w x : ℕ) → Differs w 1 x → ltb x most-weight ≡ leb 1 w && leb w most-weight
+weight-less w x d =
+    elim (leb? 1 w) [
+      | inl h ↦ elim (leb? w most-weight) [
+        | inl k ↦ rw (h .0, k .0) (lt-ltb x most-weight (omega (arith, d .up (h .1), h .1, k .1)))
+        | inr k ↦ rw (h .0, k .0) (le-ltb x most-weight (omega (arith, d .up (h .1), h .1, k .1)))
+      ]
+      | inr h ↦ rw (h .0) (le-ltb x most-weight (omega (arith, d .down (h .1))))
+    ]
+
+-- ONE ROW SEEN, as the code reads it
+pair : (a b c d : Bool) → (a && b) && (c && d) ≡ (a && c) && (b && d)
+pair false b c d = refl
+pair true false false d = refl
+pair true false true d = refl
+pair true true c d = refl
+
+pub row-seen : (slot : ℕ) (b : Seen) (xs : List ℕ) (p q k d a w x : ℕ) → length xs ≡ row-size → p ≡ field 10 8 xs → q ≡ field 16 8 xs →
+    k ≡ field 0 4 xs → d ≡ field 4 2 xs → Differs d slot a → w ≡ field 6 4 xs → Differs w 1 x →
+    Sees slot b xs (record { ticket = k; ahead = a; weights = bitOr (b .weights) x; plain = bitOr (b .plain) (bitOr p q) })
+row-seen slot b xs p q k d a w x l ep eq ek ed da ew dx =
+    record {
+      ticket = ek;
+      due = rw (← ed) da;
+      rest =
+          ap₂ (λ (m n : Bool). m && n) (or-weights (b .weights) x)
+          (or-plain (b .plain) (bitOr p q) ∙ ap (λ (n : Bool). leb (b .plain) 1 && n) (or-plain p q ∙ ap₂ (λ (m n : ℕ). leb m 1 && leb n 1) ep eq ∙ row-end xs l))
+          ∙ pair (ltb (b .weights) most-weight) (ltb x most-weight) (leb (b .plain) 1) (leb (field 10 1 xs) 1 && zeros (drop 11 xs))
+          ∙ ap (λ (n : Bool). fair b && (n && (leb (field 10 1 xs) 1 && zeros (drop 11 xs))))
+          (weight-less w x dx ∙ ap (λ (v : ℕ). leb 1 v && leb v most-weight) ew);
+    }
+
+-- a due slot is one that is left where it is at most so far ahead
+pub in-time : (s l d a : ℕ) → s ≤ l → l ≤ most-last → Differs d s a → leb a (l - s) ≡ leb s d && leb d l
+in-time s l d a h m k =
+    elim (leb? s d) [
+      | inl p ↦ elim (leb? d l) [
+        | inl q ↦ rw (p .0, q .0) (le-leb a (l - s) (omega (arith, k .up (p .1), p .1, q .1)))
+        | inr q ↦ rw (p .0, q .0) (lt-leb a (l - s) (omega (arith, k .up (p .1), p .1, q .1)))
+      ]
+      | inr p ↦ rw (p .0) (lt-leb a (l - s) (omega (arith, k .down (p .1), h, m)))
+    ]
+
+-- THE JUDGE of a row: tests asked at once, and tests asked of all rows
+and-off : (x : Bool) → x && false ≡ false
+and-off true = refl
+and-off false = refl
+
+grouped : (a b c d e f v w k z r : Bool) → (a ≡ true → b ≡ true → c ≡ true) →
+    (c && f) && (((a && (b && (d && (e && (v && (w && (k && true))))))) && z) && r) ≡ (a && (d && e)) && ((b && (f && ((v && w) && (k && z)))) && r)
+grouped false b c d e f v w k z r h = and-off (c && f)
+grouped true false c d e f v w k z r h = and-off (c && f) ∙ sym (and-off (d && e))
+grouped true true c false e f v w k z r h = and-off (c && f)
+grouped true true c true false f v w k z r h = and-off (c && f)
+grouped true true c true true f v w k z r h =
+    ap (λ (n : Bool). (n && f) && (((v && (w && (k && true))) && z) && r)) (h refl refl) ∙ same f v w k z r
+  where
+    same : (f v w k z r : Bool) → f && (((v && (w && (k && true))) && z) && r) ≡ (f && ((v && w) && (k && z))) && r
+    same false v w k z r = refl
+    same true false w k z r = refl
+    same true true false k z r = refl
+    same true true true false z r = refl
+    same true true true true z r = refl
+
+pub row-parts : (s l n : ℕ) (b : Seen) (xs : List ℕ) (x : Seen) (r : Bool) → s ≤ l → l ≤ most-last → Sees s b xs x →
+    (ltb (b .ticket) n && fair b) && (row-judged s l n (b .ticket) xs && r)
+    ≡ (ltb (b .ticket) (x .ticket) && leb (x .ahead) (l - s)) && ((ltb (x .ticket) n && fair x) && r)
 unfolding row-judged every row
-row-is s l n b xs h =
-    rw (row-end xs h)
-    (grouped (ltb b (field 0 4 xs)) (ltb (field 0 4 xs) n) (leb s (field 4 2 xs)) (leb (field 4 2 xs) l) (leb 1 (field 6 4 xs))
-    (leb (field 6 4 xs) 16777216) (leb (field 10 1 xs) 1) (zeros (drop 11 xs)))
-
--- ONE ROW MORE
-pub rows-step : (s l n b : ℕ) (t : List ℕ) (u i : ℕ) → i < u →
-    rows-judged (u - i) s l n b (drop (row-at i) t)
-    ≡ row-judged s l n b (take row-size (drop (row-at i) t)) && rows-judged (u - (i + 1)) s l n (field (row-at i) wide-bytes t) (drop (row-at (i + 1)) t)
-unfolding rows-judged field
-rows-step s l n b t u i h =
-    let e : u - i ≡ suc (u - (i + 1)) = omega arith in
-    let f : row-at (i + 1) ≡ row-at i + row-size = omega arith in
-    rw (e, f, ← drop-drop row-size (row-at i) t)
-
--- what the judge said of row i goes in front of the rest
-pub rows-more : (s l n b : ℕ) (t : List ℕ) (u i a : ℕ) (x v w : Bool) → i < u → a ≡ row-at i →
-    x ≡ row-judged s l n b (take (a + row-size - a) (drop a t)) → x ≡ v →
-    w ≡ rows-judged (u - i) s l n b (drop (row-at i) t) → w ≡ v && rows-judged (u - (i + 1)) s l n (field a wide-bytes t) (drop (row-at (i + 1)) t)
-rows-more s l n b t u i a x v w h e j k inv =
-    let f : a + row-size - a ≡ row-size = omega arith in
-    let g : row-judged s l n b (take row-size (drop (row-at i) t)) ≡ v = rw (← e, ← f) (sym j ∙ k) in
-    inv ∙ rows-step s l n b t u i h ∙ rw (g, e)
-
-pub rows-none : (s l n b : ℕ) (bs : List ℕ) (u i : ℕ) → u ≤ i → rows-judged (u - i) s l n b bs ≡ true
-unfolding rows-judged
-rows-none s l n b bs u i h =
-    let e : u - i ≡ 0 = omega arith in
-    rw e
+row-parts s l n b xs x r h m k =
+    let t = field 0 4 xs in
+    let d = field 4 2 xs in
+    let w = field 6 4 xs in
+    let y = k .ticket in
+    grouped (ltb (b .ticket) t) (ltb t n) (ltb (b .ticket) n) (leb s d) (leb d l) (fair b) (leb 1 w) (leb w most-weight)
+    (leb (field 10 1 xs) 1) (zeros (drop 11 xs)) r
+    (λ p q. lt-ltb (b .ticket) n (omega (arith, ltb-true (b .ticket) t p, ltb-true t n q)))
+    ∙ ap₂ (λ (p q : Bool). (ltb (b .ticket) t && p) && ((ltb t n && q) && r)) (sym (in-time s l d (x .ahead) h m (k .due))) (sym (k .rest))
+    ∙ ap (λ (v : ℕ). (ltb (b .ticket) v && leb (x .ahead) (l - s)) && ((ltb v n && fair x) && r)) (sym y)

@@ -1,5 +1,7 @@
+pub mod Zeros
 pub mod Head
 pub mod Numbers
-pub mod Judge
 pub mod Rows
 pub mod Buckets
+pub mod Seen
+pub mod Judge

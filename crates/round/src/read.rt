@@ -55,7 +55,13 @@ pub fn bucket_of(due: u32, slot: u32, top: usize) -> usize
     requires { ⌜ slot ≤ due ⌝ }
     ensures { λ r. ⌜ r ≡ min (due - slot) top ⌝ }
 {
-    let ahead = (due - slot) as usize;
+    cut((due - slot) as usize, top)
+}
+
+// The same, by the slots ahead.
+pub fn cut(ahead: usize, top: usize) -> usize
+    ensures { λ r. ⌜ r ≡ min ahead top ⌝ }
+{
     if ahead < top {
         return ahead;
     }

@@ -1,4 +1,4 @@
-// A row's bytes: judged on their own, and written.
+// The used rows in turn: judged, and counted by bucket; and a row's bytes written.
 ghost use mathlib.Core.Path.{_≡_};
 ghost use Prim.Native.Nat.{_+_, _≤_};
 ghost use lib.ListN.{length, drop};
@@ -6,11 +6,15 @@ ghost use lib.Seq.{sets};
 ghost use Rattle.rules.specs.Limits.{head-size, row-size, most-rows};
 ghost use Rattle.rules.specs.Rows.{framed};
 ghost use Rattle.rules.specs.Conditions.{row-at};
-ghost use Rattle.theory.specs.Judge.{row-judged, rows-judged};
 ghost use Rattle.round.specs.Numbers.{row-numbers};
-use numbers::read2;
-use numbers::read4;
-use numbers::read8;
+ghost use Rattle.round.specs.Buckets.{Lent-counts};
+ghost use Rattle.round.specs.Seen.{Rows-lent, all-judged, Rows-say};
+use crate::read::cut;
+use crate::read::top_of;
+use crate::seen::Seen;
+use crate::seen::row_follows;
+use crate::seen::rows_pass;
+use crate::seen::see_row;
 use numbers::write2;
 use numbers::write4;
 use sorts::Round;
@@ -26,40 +30,69 @@ pub fn row_at(row: usize) -> usize
     Round::HEAD_SIZE + Round::ROW_SIZE * row
 }
 
-// The judge of one row on its own 24 bytes; previous is the ticket of the row before it.
-pub fn row_is_sound(row: &[u8], round: Round, previous: Ticket) -> bool
-    requires { ⌜ length (now row) ≡ row-size ⌝ }
-    ensures { λ r. ⌜ r ≡ row-judged (round .slot .0) (round .last .0) (round .next .0) (previous .0) (now (row .entry)) ⌝ }
-{
-    let ticket = read4(row, Round::TICKET_AT);
-    let due = read2(row, Round::DUE_AT);
-    let weight = read4(row, Round::WEIGHT_AT);
-    let in_turn = (previous.0 < ticket) & (ticket < round.next.0);
-    let in_time = (round.slot.0 <= due) & (due <= round.last.0);
-    let weighed = (1 <= weight) & (weight <= Round::WEIGHT.0);
-    // A word is at most 1 when its first byte is and the others are zero; two that overlap hold kind and zeros.
-    let plain = (read8(row, Round::KIND_AT) <= 1) & (read8(row, Round::ROW_SIZE - 8) <= 1);
-    (in_turn & in_time) & (weighed & plain)
-}
-
 // The judge of every used row, in turn.
 pub fn rows_are_sound(table: &[u8], round: Round) -> bool
-    requires { ⌜ (round .used ≤ most-rows) × (row-at (round .used) ≤ length (now table)) ⌝ }
-    ensures { λ r. ⌜ r ≡ rows-judged (round .used) (round .slot .0) (round .last .0) (round .next .0) 0 (drop head-size (now (table .entry))) ⌝ }
+    requires { ⌜ Rows-lent (now table) round ⌝ }
+    ensures { λ r. ⌜ r ≡ all-judged (now (table .entry)) round ⌝ }
 {
+    let slot = round.slot.0;
+    if round.last.0 < slot {
+        return round.used == 0;
+    }
+    let span = round.last.0 - slot;
     let used = round.used;
-    let mut previous = 0;
+    let mut seen = Seen {
+        ticket: 0,
+        ahead: 0,
+        weights: 0,
+        plain: 0,
+    };
     let mut i: usize = 0;
     while i < used {
         let a = row_at(i);
         let e = a + Round::ROW_SIZE;
-        if !row_is_sound(&table[a..e], round, Ticket(previous)) {
+        let before = seen.ticket;
+        seen = see_row(&table[a..e], slot, seen);
+        if !row_follows(before, seen, span) {
             return false;
         }
-        previous = read4(table, a);
         i += 1;
     }
-    true
+    rows_pass(seen, round.next)
+}
+
+// The same, and 2,048 counted for each row in its bucket.
+pub fn rows_are_counted(table: &[u8], counts: &mut [u32], round: Round) -> bool
+    requires { ⌜ Rows-lent (now table) round × Lent-counts (now table) (now counts) ⌝ }
+    ensures { λ r. ⌜ Rows-say (now (table .entry)) round (now (counts .exit)) r ⌝ }
+{
+    let slot = round.slot.0;
+    if round.last.0 < slot {
+        return round.used == 0;
+    }
+    let span = round.last.0 - slot;
+    let top = top_of(round);
+    let used = round.used;
+    let mut seen = Seen {
+        ticket: 0,
+        ahead: 0,
+        weights: 0,
+        plain: 0,
+    };
+    let mut i: usize = 0;
+    while i < used {
+        let a = row_at(i);
+        let e = a + Round::ROW_SIZE;
+        let before = seen.ticket;
+        seen = see_row(&table[a..e], slot, seen);
+        if !row_follows(before, seen, span) {
+            return false;
+        }
+        let b = cut(seen.ahead as usize, top);
+        counts[b] = counts[b] + 2048;
+        i += 1;
+    }
+    rows_pass(seen, round.next)
 }
 
 // The numbers of a frame's row written; its zero bytes stay as they are.

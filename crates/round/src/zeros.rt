@@ -1,21 +1,28 @@
 // Bytes that are zero: checked, and written.
 ghost use mathlib.Core.Path.{_≡_};
 ghost use mathlib.Core.List.{_++_};
-ghost use Prim.Native.Nat.{_+_, _-_, _%_, _≤_};
+ghost use Prim.Native.Nat.{_+_, _*_, _-_, _%_, _≤_};
 ghost use lib.ListN.{length, take, drop, replicate};
 ghost use Rattle.rules.specs.Limits.{row-size};
 ghost use Rattle.rules.specs.Conditions.{_⟺_};
 ghost use Rattle.theory.specs.Judge.{zeros};
 ghost use Rattle.theory.specs.Fields.{Zeros};
+ghost use Rattle.round.specs.Zeros.{zero-part};
 use numbers::read8;
 use sorts::Round;
 
-// Whether all bytes from a place on are zero; whole rows follow it.
+// Whether all bytes from a place on are zero; whole rows follow it, four of them a turn while they last.
 pub fn zeros_from(table: &[u8], from: usize) -> bool
     requires { ⌜ (from ≤ length (now table)) × ((length (now table) - from) % row-size ≡ 0) ⌝ }
     ensures { λ r. ⌜ r ≡ zeros (drop from (now (table .entry))) ⌝ }
 {
     let mut at = from;
+    while 4 * Round::ROW_SIZE <= table.len() - at {
+        if !four_are_zero(table, at) {
+            return false;
+        }
+        at += 4 * Round::ROW_SIZE;
+    }
     while at < table.len() {
         if !row_is_zero(table, at) {
             return false;
@@ -25,10 +32,26 @@ pub fn zeros_from(table: &[u8], from: usize) -> bool
     true
 }
 
+fn four_are_zero(table: &[u8], at: usize) -> bool
+    requires { ⌜ at + 4 * row-size ≤ length (now table) ⌝ }
+    ensures { λ r. ⌜ r ≡ zero-part at (4 * row-size) (now (table .entry)) ⌝ }
+{
+    if !row_is_zero(table, at) {
+        return false;
+    }
+    if !row_is_zero(table, at + Round::ROW_SIZE) {
+        return false;
+    }
+    if !row_is_zero(table, at + 2 * Round::ROW_SIZE) {
+        return false;
+    }
+    row_is_zero(table, at + 3 * Round::ROW_SIZE)
+}
+
 // Three words, and a branch for each.
 fn row_is_zero(table: &[u8], at: usize) -> bool
     requires { ⌜ at + row-size ≤ length (now table) ⌝ }
-    ensures { λ r. ⌜ r ≡ zeros (take row-size (drop at (now (table .entry)))) ⌝ }
+    ensures { λ r. ⌜ r ≡ zero-part at row-size (now (table .entry)) ⌝ }
 {
     if word(table, at) != 0 {
         return false;

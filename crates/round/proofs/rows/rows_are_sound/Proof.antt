@@ -1,58 +1,49 @@
--- `round::rows::rows_are_sound` meets its contract. The invariant: what is asked of all rows is what is asked of those from i on.
-use mathlib.Core.Bool.{true, false}
-use mathlib.Core.Path.{_≡_, sym, _∙_}
-use Prim.Native.Nat.{_+_, _*_, _-_, _≤_}
-use native.Mathlib.Numerals.{unary-clauses}
+-- `round::rows::rows_are_sound` meets its contract. The invariant: the rows before i are judged (`Judging`).
+use mathlib.Core.Path.{refl}
+use Prim.Native.Nat.{_-_}
 use native.Mathlib.Omega.{arith}
-use lib.ListN.{drop, length-take, length-drop}
 use borrow.Author.Needs.{needs}
 use borrow.Author.Tests.{not-true, not-false}
-use Rattle.rules.specs.Limits.{head-size}
-use Rattle.rules.specs.Conditions.{row-at}
-use Rattle.theory.specs.Judge.{rows-judged}
-use Rattle.round.proofs.RowLaws.{rows-more, rows-none}
+use Rattle.round.proofs.ScanLaws.{none-left, lent-long, Judging, judging-start, judging-on, judging-off, judging-end}
 use Rattle.round.proofs.rows.rows_are_sound.Statement.{statement}
 use Rattle.round.proofs.rows.rows_are_sound.Tie as tie
 
 abbrev Inv-loop : tie.InvT-loop
-Inv-loop table round used previous₀ i₀ previous i =
-    (i ≤ used)
-    × (rows-judged used (round .slot .0) (round .last .0) (round .next .0) 0 (drop head-size table)
-    ≡ rows-judged (used - i) (round .slot .0) (round .last .0) (round .next .0) previous (drop (row-at i) table))
+Inv-loop table round slot span used seen₀ i₀ seen i = Judging table round i seen
 
 abbrev μ-loop : tie.MeasureT-loop
-μ-loop table round used previous₀ i₀ previous i = used - i
+μ-loop table round slot span used seen₀ i₀ seen i = used - i
+
+returns : tie.Need-returns Inv-loop μ-loop
+returns c = none-left _ _ _ 0 _ _ (search needs)
 
 loop-holds : tie.Need-loop-holds Inv-loop μ-loop
-loop-holds c = (search needs, simp unary-clauses)
+loop-holds c = judging-start _ _ (c .before .before .before .before .pre)
 
 row-at-requires : tie.Need-row-at-requires Inv-loop μ-loop
-row-at-requires c κs = search needs
+row-at-requires c κs = omega (arith, c .before .before .before .before .before .before .pre .few)
 
 add-e : tie.Need-add-e Inv-loop μ-loop
 add-e c = search needs
 
-sub-row-is-sound : tie.Need-sub-row-is-sound Inv-loop μ-loop
-sub-row-is-sound c = search needs
+sub-see-row : tie.Need-sub-see-row Inv-loop μ-loop
+sub-see-row c = search needs
 
-part-row-is-sound-start : tie.Need-part-row-is-sound-start Inv-loop μ-loop
-part-row-is-sound-start c = search needs
+part-see-row-start : tie.Need-part-see-row-start Inv-loop μ-loop
+part-see-row-start c = search needs
 
-part-row-is-sound-end : tie.Need-part-row-is-sound-end Inv-loop μ-loop
-part-row-is-sound-end c = search needs
+part-see-row-end : tie.Need-part-see-row-end Inv-loop μ-loop
+part-see-row-end c = omega (arith, c .before .before .before .before .before .before .before .pre .within)
 
-row-is-sound-requires : tie.Need-row-is-sound-requires Inv-loop μ-loop
-row-is-sound-requires c κs = simp (length-take, length-drop) (omega arith)
+see-row-requires : tie.Need-see-row-requires Inv-loop μ-loop
+see-row-requires c κs = lent-long _ _ _ _ (c .before .before .before .before .before .before .before .before .pre) (c .before .row-at .ensures) (c .before .before .loop-test .taken)
 
-returns : tie.Need-returns Inv-loop μ-loop
-returns c =
-    sym (
-    rows-more _ _ _ _ _ _ _ _ _ false _ (search needs) (c .before .before .before .row-at .ensures) (c .before .row-is-sound .ensures)
-    (not-true _ (c .if1 .taken))
-    (c .before .before .before .before .before .loop .inv .1))
+row-follows-requires : tie.Need-row-follows-requires Inv-loop μ-loop
+row-follows-requires c κs = search needs
 
-read4-requires : tie.Need-read4-requires Inv-loop μ-loop
-read4-requires c κs = search needs
+returns-2 : tie.Need-returns-2 Inv-loop μ-loop
+returns-2 c = judging-off _ _ (c .before .before .before .before .before .before .before .before .before .before .before .pre) (search needs) _ _ _ (c .before .before .before .before .row-at .ensures) refl (search needs) _ _
+    (c .before .before .see-row .ensures) _ (c .before .row-follows .ensures) (not-true _ (c .if2 .taken)) (c .before .before .before .before .before .before .loop .inv)
 
 add-i : tie.Need-add-i Inv-loop μ-loop
 add-i c = search needs
@@ -61,16 +52,14 @@ loop-less : tie.Need-loop-less Inv-loop μ-loop
 loop-less c = search needs
 
 loop-again : tie.Need-loop-again Inv-loop μ-loop
-loop-again c = (
-  search needs,
-  rw (c .read4 .ensures)
-      (rows-more _ _ _ _ _ _ _ _ _ true _ (search needs) (c .before .before .before .before .row-at .ensures)
-      (c .before .before .row-is-sound .ensures) (not-false _ (c .before .if1 .left))
-      (c .before .before .before .before .before .before .loop .inv .1)),
-)
+loop-again c = judging-on _ _ (c .before .before .before .before .before .before .before .before .before .before .before .pre) (search needs) _ _ _ (c .before .before .before .before .row-at .ensures) refl (search needs) _ _
+    (c .before .before .see-row .ensures) _ (c .before .row-follows .ensures) (not-false _ (c .if2 .left)) (c .before .before .before .before .before .before .loop .inv)
 
-returns-2 : tie.Need-returns-2 Inv-loop μ-loop
-returns-2 c = sym (c .before .loop .inv .1 ∙ rows-none _ _ _ _ _ (c .before .before .before .args .round .used) (c .before .loop .i) (search needs))
+rows-pass-requires : tie.Need-rows-pass-requires Inv-loop μ-loop
+rows-pass-requires c κs = search needs
+
+returns-3 : tie.Need-returns-3 Inv-loop μ-loop
+returns-3 c = judging-end _ _ _ _ _ (c .before .before .loop .inv) (search needs) (c .rows-pass .ensures)
 
 pub rows-are-sound-spec : {M : Type 1} → statement M
 rows-are-sound-spec =
@@ -78,16 +67,18 @@ rows-are-sound-spec =
     (tie.spec
     Inv-loop
     μ-loop
+    returns
     loop-holds
     row-at-requires
     add-e
-    sub-row-is-sound
-    part-row-is-sound-start
-    part-row-is-sound-end
-    row-is-sound-requires
-    returns
-    read4-requires
+    sub-see-row
+    part-see-row-start
+    part-see-row-end
+    see-row-requires
+    row-follows-requires
+    returns-2
     add-i
     loop-less
     loop-again
-    returns-2)
+    rows-pass-requires
+    returns-3)

@@ -96,8 +96,8 @@ module _ (cs : List ℕ) (top s l m : ℕ) (w : Levels cs top s l m) where
     omega (arith, w .level, w .counts .small, h),
   )
 
-  pub level-step : s ≤ top → (n : ℕ) → n ≡ max m (l + getD cs s 0 - 2047) → Levels cs top (s + 1) (l + getD cs s 0 - 2047) n
-  level-step h n e =
+  pub level-step : s ≤ top → {l2 n : ℕ} → l2 ≡ l + getD cs s 0 - 2047 → n ≡ max m l2 → Levels cs top (s + 1) l2 n
+  level-step h {l2} {n} q e =
       let z = w .sweep .level in
       let c = w .counts .count s h in
       let a = level-fits h .1 in
@@ -107,27 +107,27 @@ module _ (cs : List ℕ) (top s l m : ℕ) (w : Levels cs top s l m) where
         | inl d ↦ record {
           counts = w .counts;
           by = omega (arith, h);
-          level = omega (arith, w .level, c, a);
+          level = omega (arith, q, w .level, c, a);
           over = upto (suc s) cs - suc s;
           free = suc s;
-          most = omega (arith, e, w .level, w .most, c, a, d .1, w .sweep .high);
+          most = omega (arith, e, q, w .level, w .most, c, a, d .1, w .sweep .high);
           sweep = sweep-rises (λ v. upto v cs) s (w .over) (w .free) (w .sweep) refl (omega (arith, z)) (d .1);
         }
         | inr d ↦ record {
           counts = w .counts;
           by = omega (arith, h);
-          level = omega (arith, w .level, c, a);
+          level = omega (arith, q, w .level, c, a);
           over = w .over;
           free = w .free;
-          most = omega (arith, e, w .level, w .most, c, a, d .1, h, b);
+          most = omega (arith, e, q, w .level, w .most, c, a, d .1, h, b);
           sweep = sweep-falls (λ v. upto v cs) s (w .over) (w .free) (w .sweep) (omega (arith, z)) (d .1);
         }
       ])
 
   -- THE END: quotient and remainder
-  pub level-end : (x : ℕ) → top ≡ x → top < s → Reach-says cs x (record { free = (m - 4194304) % 2048; over = (m - 4194304) / 2048 })
-  level-end x e h =
-      let a : (m - 4194304) % 2048 ≡ w .free = omega (arith, w .most, w .sweep .high, w .by, w .counts .small) in
-      let b : (m - 4194304) / 2048 ≡ w .over = omega (arith, w .most, w .sweep .high, w .by, w .counts .small) in
+  pub level-end : {x : ℕ} → top ≡ x → top < s → {y : Reach} → y .free ≡ (m - 4194304) % 2048 → y .over ≡ (m - 4194304) / 2048 → Reach-says cs x y
+  level-end {x} e h {y} f o =
+      let a : y .free ≡ w .free = omega (arith, f, w .most, w .sweep .high, w .by, w .counts .small) in
+      let b : y .over ≡ w .over = omega (arith, o, w .most, w .sweep .high, w .by, w .counts .small) in
       let d : s ≡ suc x = omega (arith, e, h, w .by) in
       record { sweep = rw (a, b) (rw d at (w .sweep)) }

@@ -41,7 +41,7 @@ loop-less : tie.Need-loop-less Inv-loop μ-loop
 loop-less c = omega (arith, c .before .before .loop-test .taken)
 
 loop-again : tie.Need-loop-again Inv-loop μ-loop
-loop-again c = level-step _ _ _ _ _ (c .before .before .before .loop .inv) (c .before .before .loop-test .taken) _ (c .more .ensures)
+loop-again c = level-step _ _ _ _ _ (c .before .before .before .loop .inv) (c .before .before .loop-test .taken) (omega arith) (c .more .ensures)
 
 sub-t12 : tie.Need-sub-t12 Inv-loop μ-loop
 sub-t12 c = search needs
@@ -56,7 +56,7 @@ cast-t17 : tie.Need-cast-t17 Inv-loop μ-loop
 cast-t17 c = omega (arith, most-from _ _ _ _ _ (c .before .loop .inv) .1)
 
 returns : tie.Need-returns Inv-loop μ-loop
-returns c = level-end _ _ _ _ _ (c .before .loop .inv) _ (c .before .before .top-of .ensures) (c .loop-test .left)
+returns c = level-end _ _ _ _ _ (c .before .loop .inv) (c .before .before .top-of .ensures) (omega (arith, c .loop-test .left)) (omega arith) (omega arith)
 
 pub reach-of-spec : {M : Type 1} → statement M
 reach-of-spec =

@@ -2,6 +2,9 @@
 ghost use mathlib.Core.Path.{_≡_};
 ghost use Prim.Native.Nat.{_≤_, max};
 ghost use Rattle.buckets.specs.Reach.{Multiples, Reach-says, head-top};
+
+pub mod stretch; // stretch.rt: the segment of a bucket where no row is left out
+
 use round::read::top_of;
 use sorts::Round;
 

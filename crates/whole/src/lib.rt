@@ -39,7 +39,10 @@ fn first_goes(best: Best, found: Found) -> bool
     requires { ⌜ (best .weight ≤ 16777216) × (found .first .weight ≤ 16777216) × (found .lightest ≤ 16777216) ⌝ }
     ensures { λ r. ⌜ First-goes best found r ⌝ }
 {
-    score_of(best.weight, 0) <= score_of(found.first.weight, found.lightest)
+    if score_of(best.weight, 0) <= score_of(found.first.weight, found.lightest) {
+        return true;
+    }
+    false
 }
 
 // The heaviest row is due past the first segment, which ends at slot end.

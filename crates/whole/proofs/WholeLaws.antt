@@ -61,6 +61,14 @@ module _ {t cs : List ℕ} {h : Head} {x : Reach} (g : Given t cs h x) where
       (subst (λ (v : ℕ). Segment (round-in t) (round-in t .rows) v (round-in t .slot + y .last)) a
       (stretch-segment t h cs x (g .ready) (g .counted) (g .reaches) (g .none) 0 y s))
 
+  -- slots of segments fit
+  pub slots-fit : {y : Stretch} {a : ℕ} → Stretches cs (x .free) a y → (h .slot .0 + y .last ≤ 8192) × (h .slot .0 + y .first ≤ 8192)
+  slots-fit s =
+      let n = facts in (
+        omega (arith, s .near, filled .small, n .slot, n .time, n .cap),
+        omega (arith, s .from, s .by, s .near, filled .small, n .slot, n .time, n .cap),
+      )
+
   -- THE HEAVIEST OF ALL
   module _ {b : Best} (w : Heaviest (round-in t) (h .used) (h .last .0) b) where
     pub best-row : Is-row (round-in t) (h .used) (h .last .0) b
@@ -94,23 +102,37 @@ module _ {t cs : List ℕ} {h : Head} {x : Reach} (g : Given t cs h x) where
         })
 
     -- it is due in the first segment
-    pub first-all : {e : ℕ} → e < round-in t .slot + x .free → Segment (round-in t) (round-in t .rows) (round-in t .slot) e → b .due ≤ e → {i : ℕ} → i ≡ b .row →
+    pub first-all : {y : Stretch} → Stretches cs (x .free) 0 y → b .due ≤ h .slot .0 + y .last → {i : ℕ} → i ≡ b .row →
         Picks-first (round-in t) (round-in t .slot + x .free) i
-    first-all {e} n s d {i} q =
+    first-all {y} s d {i} q =
+        let e = h .slot .0 + y .last in
         let a : at (round-in t) (b .row) .due ≤ e = omega (arith, best-row .due, d) in
+        let n : e < round-in t .slot + x .free = ends-near s refl in
+        let v : Segment (round-in t) (round-in t .rows) (round-in t .slot) e = ends-first s refl in
         subst (λ (v : ℕ). Picks-first (round-in t) (round-in t .slot + x .free) v) (sym q) (record {
           leading = record {
             below = best-below;
-            leads = best-leads (round-in t) (facts .fine) (facts .time) rows (round-in t .slot + x .free) (g .reaches .near) e n s (at (round-in t) (b .row)) best-in a
+            leads = best-leads (round-in t) (facts .fine) (facts .time) rows (round-in t .slot + x .free) (g .reaches .near) e n v (at (round-in t) (b .row)) best-in a
                 best-over;
           };
           last = e;
           near = n;
-          segment = s;
+          segment = v;
           by = a;
         })
 
--- THE HEAVIEST IS PAST the first segment, and the second pass is done
+-- THE HEAVIEST IS PAST the first segment
+module _ {t cs : List ℕ} {h : Head} {x : Reach} {b : Best} {e : ℕ} (p : Past t cs h x b e) where
+  pub past-from : h .slot .0 ≤ b .due
+  past-from = omega (arith, p .past, p .segment .by, facts (p .given) .slot)
+
+  pub past-by : {y : Stretch} {a : ℕ} → a ≡ b .due - h .slot .0 → Stretches cs (x .free) a y → e ≤ h .slot .0 + y .last
+  past-by d s = omega (arith, p .past, d, s .by, past-from)
+
+  pub past-small : b .weight ≤ 16777216
+  past-small = p .best .small
+
+-- and the second pass is done
 module _ {t cs : List ℕ} {h : Head} {x : Reach} {b : Best} {e own : ℕ} {f : Found} (p : Past t cs h x b e) (l : Looks (round-in t) (h .used) e own f) where
   -- the first segment has a row
   first-has : (j : ℕ) × (j < h .used) × (at (round-in t) j .due ≤ e)

@@ -1,2 +1,4 @@
 pub mod CountLaws
 pub mod LeastLaws
+pub mod PlaceLaws
+pub mod OpenLaws

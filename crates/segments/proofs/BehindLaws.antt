@@ -67,6 +67,13 @@ module _ (r : Round) (f : Fine r) (small : length (r .rows) ≤ 1024) (cap : r .
     | inr a ↦ subst (λ (t : Bool). Leads r (h ∷ gs) (cond t h g)) (a .0) (leads-own r f b z h gs p g l)
   ]
 
+pub closed-count : (l : Lead) (heavy other : ℕ) → closed l heavy other .count ≡ suc (l .count)
+closed-count l h o =
+    both-ways (λ (v : Lead). v .count ≡ suc (l .count)) (leb (l .score) (score (weight-in h) (weight-in o)))
+    (record { count = suc (l .count); score = score (weight-in h) (weight-in o); key = h; segment = l .count; other = o })
+    (record { count = suc (l .count); score = l .score; key = l .key; segment = l .segment; other = l .other })
+    (λ e. refl) (λ e. refl)
+
 -- what is stored stays, below the next number
 stored-set : (r : Round) (es ts ls : List ℕ) (gs : List Segment) (k a t w : ℕ) → length gs ≤ k → Stored r es ts ls gs →
     Stored r (set es k a) (set ts k t) (set ls k w) gs
@@ -145,20 +152,13 @@ module _ (r : Round) (f : Fine r) (small : length (r .rows) ≤ 1024) (cap : r .
           }
         ]
 
-    pub next-count : closed l heavy other .count ≡ suc (l .count)
-    next-count =
-        both-ways (λ (v : Lead). v .count ≡ suc (l .count)) (leb (l .score) (score (weight-in heavy) (weight-in other)))
-        (record { count = suc (l .count); score = score (weight-in heavy) (weight-in other); key = heavy; segment = l .count; other = other })
-        (record { count = suc (l .count); score = l .score; key = l .key; segment = l .segment; other = l .other })
-        (λ e. refl) (λ e. refl)
-
     pub behind-next : l .count < length es → l .count < length ts → l .count < length ls →
         Behind r b z (set es (l .count) end) (set ts (l .count) heavy) (set ls (l .count) (weight-in light)) (closed l heavy other)
     behind-next a c d =
         record {
           segments = m .of ∷ w .segments;
           drawn = next-drawn;
-          count = next-count ∙ ap suc (w .count);
+          count = closed-count l heavy other ∙ ap suc (w .count);
           stored = next-stored a c d;
           leader = inr next-leader;
         }

@@ -4,3 +4,5 @@ pub mod PlaceLaws
 pub mod OpenLaws
 pub mod MadeLaws
 pub mod BehindLaws
+pub mod PassLaws
+pub mod LeadLaws

@@ -1,3 +1,6 @@
+use mathlib.Core.Path.{_≡_}
+use lib.ListN.{length}
+use Rattle.segments.proofs.PassLaws.{Passing}
 use Rattle.segments.proofs.segments_of.Statement.{statement}
 use Rattle.segments.proofs.segments_of.Tie as tie
 use Rattle.segments.proofs.segments_of.Reads as reads
@@ -11,11 +14,12 @@ use Rattle.segments.proofs.ends_here.Reads as ends-here-reads
 
 abbrev Inv-loop : tie.InvT-loop
 Inv-loop keys flags many slot free ends₀ tops₀ lows₀ lead₀ end₀ heavy₀ light₀ out₀ kept₀ i₀ ends tops lows lead end heavy light out kept i =
-    ?
+    Passing keys flags many slot free ends tops lows lead end heavy light out kept i × (length ends ≡ length ends₀) × (length tops ≡ length tops₀)
+    × (length lows ≡ length lows₀)
 
 abbrev μ-loop : tie.MeasureT-loop
 μ-loop keys flags many slot free ends₀ tops₀ lows₀ lead₀ end₀ heavy₀ light₀ out₀ kept₀ i₀ ends tops lows lead end heavy light out kept i =
-    ?
+    i
 
 -- src/lib.rt:103:26
 cast-end : tie.Need-cast-end Inv-loop μ-loop

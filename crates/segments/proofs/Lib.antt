@@ -6,3 +6,4 @@ pub mod MadeLaws
 pub mod BehindLaws
 pub mod PassLaws
 pub mod LeadLaws
+pub mod TurnLaws

@@ -1,5 +1,7 @@
 -- `segments::close_segment` meets its contract.
-use mathlib.Core.Path.{refl}
+use mathlib.Core.Path.{refl, ap}
+use Prim.Native.Nat.{ℕ}
+use lib.ListN.{set}
 use Rattle.segments.proofs.LeadLaws.{closed-takes, closed-keeps}
 use borrow.Author.Needs.{needs}
 use Rattle.segments.proofs.close_segment.Statement.{statement}
@@ -73,7 +75,7 @@ returns c =
           (c .before .before .before .score-of .result) (search needs) (search needs) (search needs) (search needs),
       refl,
       refl,
-      search needs,
+      ap (λ (v : ℕ). set (s .args .lows .now) (s .args .lead .count) v) (c .before .before .weight-of3 .ensures),
     )
 
 -- src/lib.rt:64:16
@@ -100,7 +102,7 @@ returns-2 c =
           (c .before .before .before .score-of .result) (search needs) (search needs) (search needs) (search needs),
       refl,
       refl,
-      search needs,
+      ap (λ (v : ℕ). set (s .args .lows .now) (s .args .lead .count) v) (c .before .before .weight-of3 .ensures),
     )
 
 pub close-segment-spec : {M : Type 1} → statement M

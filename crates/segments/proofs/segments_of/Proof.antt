@@ -1,4 +1,5 @@
 use mathlib.Core.Path.{_≡_}
+use mathlib.Core.Logic.{⊎-elim}
 use lib.ListN.{length}
 use Rattle.segments.proofs.PassLaws.{Passing}
 use Rattle.segments.proofs.segments_of.Statement.{statement}
@@ -20,6 +21,9 @@ Inv-loop keys flags many slot free ends₀ tops₀ lows₀ lead₀ end₀ heavy�
 abbrev μ-loop : tie.MeasureT-loop
 μ-loop keys flags many slot free ends₀ tops₀ lows₀ lead₀ end₀ heavy₀ light₀ out₀ kept₀ i₀ ends tops lows lead end heavy light out kept i =
     i
+
+meeting : (c : tie.Joined1 Inv-loop μ-loop) → ⊥
+meeting c = ⊎-elim (λ w. ?) (λ w. ?) (c .if1 .came)
 
 -- src/lib.rt:103:26
 cast-end : tie.Need-cast-end Inv-loop μ-loop

@@ -7,3 +7,5 @@ pub mod BehindLaws
 pub mod PassLaws
 pub mod LeadLaws
 pub mod TurnLaws
+pub mod GivenLaws
+pub mod SegmentedLaws

@@ -1,0 +1,11 @@
+pub mod CountLaws
+pub mod LeastLaws
+pub mod PlaceLaws
+pub mod OpenLaws
+pub mod MadeLaws
+pub mod BehindLaws
+pub mod PassLaws
+pub mod LeadLaws
+pub mod TurnLaws
+pub mod GivenLaws
+pub mod SegmentedLaws

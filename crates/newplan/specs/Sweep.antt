@@ -1,0 +1,75 @@
+-- Rows by rising due slot, each by its place: which are kept in the midst of the sweep.
+use mathlib.Core.Path.{_≡_}
+use mathlib.Core.Bool.{Bool, true, false, cond, not}
+use mathlib.Core.List.{List}
+use Prim.Native.Nat.{ℕ, zero, suc, _+_, _-_, _/_, _%_, _≤_, _<_}
+use lib.Dec.{ltb, eqb}
+use lib.ListN.{length, getD}
+use Rattle.keys.specs.DueOrder.{each}
+
+-- the sum of a measure of some of the first n
+unfoldable pub tally : (measure : ℕ → ℕ) → (some : ℕ → Bool) → (n : ℕ) → ℕ
+tally f κ zero = 0
+tally f κ (suc n) = tally f κ n + cond (κ n) (f n) 0
+
+-- 1 for a row due before e slots ahead; for such a row with a key below w
+unfoldable pub before : (ahead : ℕ → ℕ) → (e place : ℕ) → ℕ
+before D e j = cond (ltb (D j) e) 1 0
+
+unfoldable pub smaller : (key ahead : ℕ → ℕ) → (w e place : ℕ) → ℕ
+smaller K D w e j = cond (ltb (K j) w) (before D e j) 0
+
+-- A ROW LEFT OUT: past its due slot the slots up to some e are filled by rows with smaller keys
+pub record Barred (key ahead : ℕ → ℕ) (kept : ℕ → Bool) (p j : ℕ) : Type 0 where
+  pub at : ℕ
+  pub past : ahead j < at
+  pub full : at ≤ tally (smaller key ahead (key j) at) kept p
+
+-- IN THE MIDST: the rows kept of the first p fit into the slots, and each other one is barred
+pub record Mid (key ahead : ℕ → ℕ) (kept : ℕ → Bool) (p count : ℕ) : Type 0 where
+  pub all : tally (λ _. 1) kept p ≡ count
+  pub fits : (e : ℕ) → tally (before ahead e) kept p ≤ e
+  pub out : (j : ℕ) → j < p → kept j ≡ false → Barred key ahead kept p j
+
+-- what the key at a place tells
+abbrev pub key-on : List ℕ → (place : ℕ) → ℕ
+key-on ks p = getD ks p 0
+
+abbrev pub row-on : List ℕ → (place : ℕ) → ℕ
+row-on ks p = getD ks p 0 % 1024
+
+abbrev pub ahead-on : List ℕ → (slot place : ℕ) → ℕ
+ahead-on ks s p = getD ks p 0 / 4096 % 4096 - s
+
+abbrev pub weight-on : List ℕ → (place : ℕ) → ℕ
+weight-on ks p = 16777217 - getD ks p 0 / 16777216
+
+-- whether a row has a flag, and the row at a place
+abbrev pub kept? : (flags : List ℕ) → (row : ℕ) → Bool
+kept? gs i = eqb (getD gs i 0) 1
+
+abbrev pub kept-on : (keys flags : List ℕ) → (place : ℕ) → Bool
+kept-on ks gs p = kept? gs (row-on ks p)
+
+abbrev pub left-on : (keys flags : List ℕ) → (place : ℕ) → Bool
+left-on ks gs p = not (kept-on ks gs p)
+
+-- KEYS IN DUE ORDER: m of them, of different rows due within n slots from the current one on
+pub record Queue (ks : List ℕ) (slot n m : ℕ) : Type 0 where
+  pub long : m ≤ length ks
+  pub small : m ≤ 1024
+  pub some : (p : ℕ) → p < m → 1 ≤ key-on ks p
+  pub most : (p : ℕ) → p < m → key-on ks p ≤ 281474993487872
+  pub from : (p : ℕ) → p < m → slot ≤ key-on ks p / 4096 % 4096
+  pub early : (p : ℕ) → p < m → ahead-on ks slot p < n
+  pub rises : (p q : ℕ) → p ≤ q → q < m → ahead-on ks slot p ≤ ahead-on ks slot q
+  pub apart : (p q : ℕ) → p < m → q < m → row-on ks p ≡ row-on ks q → p ≡ q
+
+-- THE SWEEP AT A PLACE: flags of rows that wait are up; the weight is that of the rows left out
+pub record Swept (ks gs : List ℕ) (slot m p count weight : ℕ) : Type 0 where
+  pub by : p ≤ m
+  pub rows : (q : ℕ) → q < m → row-on ks q < length gs
+  pub waits : (q : ℕ) → p ≤ q → q < m → kept-on ks gs q ≡ true
+  pub mid : Mid (key-on ks) (ahead-on ks slot) (kept-on ks gs) p count
+  pub lost : weight ≡ tally (weight-on ks) (left-on ks gs) p
+  pub sums : (f : ℕ → ℕ) → tally f (kept? gs) (length gs) + tally (λ q. f (row-on ks q)) (left-on ks gs) p ≡ each f (length gs)

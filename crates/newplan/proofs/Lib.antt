@@ -1,2 +1,3 @@
 pub mod TallyLaws
 pub mod StepLaws
+pub mod SweepLaws

@@ -1,10 +1,12 @@
 -- Rows by rising due slot, each by its place: which are kept in the midst of the sweep.
 use mathlib.Core.Path.{_≡_}
+use mathlib.Core.Logic.{_⊎_}
 use mathlib.Core.Bool.{Bool, true, false, cond, not}
 use mathlib.Core.List.{List}
 use Prim.Native.Nat.{ℕ, zero, suc, _+_, _-_, _/_, _%_, _≤_, _<_}
 use lib.Dec.{ltb, eqb}
-use lib.ListN.{length, getD}
+use lib.ListN.{length, getD, replicate}
+use Rattle.heap.specs.Heap.{Heap, heaped}
 use Rattle.keys.specs.DueOrder.{each}
 
 -- the sum of a measure of some of the first n
@@ -73,3 +75,57 @@ pub record Swept (ks gs : List ℕ) (slot m p count weight : ℕ) : Type 0 where
   pub mid : Mid (key-on ks) (ahead-on ks slot) (kept-on ks gs) p count
   pub lost : weight ≡ tally (weight-on ks) (left-on ks gs) p
   pub sums : (f : ℕ → ℕ) → tally f (kept? gs) (length gs) + tally (λ q. f (row-on ks q)) (left-on ks gs) p ≡ each f (length gs)
+
+-- the keys of the rows kept, in a heap
+pub record Heaped (ks hs gs : List ℕ) (p count : ℕ) : Type 0 where
+  pub ordered : Heap count hs
+  pub keys : (μ : ℕ → ℕ) → heaped μ count hs ≡ tally (λ q. μ (key-on ks q)) (kept-on ks gs) p
+
+-- WHO LEAVES for a key when the heap may not grow: the lightest of all, the key itself or the top
+pub record Leaves (count key : ℕ) (h u : List ℕ) (out : ℕ) : Type 0 where
+  pub heap : Heap count u
+  pub keys : (μ : ℕ → ℕ) → heaped μ count u + μ out ≡ heaped μ count h + μ key
+  pub over-top : getD h 1 0 ≤ out
+  pub over-key : key ≤ out
+  pub is : (out ≡ getD h 1 0) ⊎ (out ≡ key)
+
+-- WHERE ROWS CROWD: a place that has fewer slots than places before it; and the first such
+pub record Crowds (ks : List ℕ) (slot : ℕ) : Type 0 where
+  pub at : ℕ
+  pub within : at < length ks
+  pub small : at ≤ 1024
+  pub from : (p : ℕ) → p ≤ at → slot ≤ key-on ks p / 4096 % 4096
+  pub over : ahead-on ks slot at < at
+
+pub record First-crowded (ks : List ℕ) (slot c : ℕ) : Type 0 where
+  pub within : c < length ks
+  pub over : ahead-on ks slot c < c
+  pub under : (q : ℕ) → q < c → q ≤ ahead-on ks slot q
+
+-- the first keys in a heap
+pub record Filled (ks hs : List ℕ) (n : ℕ) : Type 0 where
+  pub ordered : Heap n hs
+  pub keys : (μ : ℕ → ℕ) → heaped μ n hs ≡ each (λ q. μ (key-on ks q)) n
+
+-- the greatest of the first n keys
+pub record Greatest (ks : List ℕ) (n top : ℕ) : Type 0 where
+  pub place : ℕ
+  pub within : place < n
+  pub is : top ≡ key-on ks place
+  pub most : (q : ℕ) → q < n → key-on ks q ≤ top
+
+-- BEFORE THE SWEEP every flag is up and the heap is empty; over rows are too many for the slots
+pub record Crowd (ks gs hs : List ℕ) (slot free over : ℕ) : Type 0 where
+  pub queue : Queue ks slot free (free + over)
+  pub some : 1 ≤ over
+  pub rows : (q : ℕ) → q < free + over → row-on ks q < length gs
+  pub flags : gs ≡ replicate (length gs) 1
+  pub heap : hs ≡ replicate (length hs) 0
+  pub room : free + over + 2 ≤ length hs
+
+-- AFTER IT that many have left
+pub record Parted (ks gs : List ℕ) (slot free over weight : ℕ) : Type 0 where
+  pub place : ℕ
+  pub count : ℕ
+  pub swept : Swept ks gs slot (free + over) place count weight
+  pub left : place ≡ count + over

@@ -1,3 +1,4 @@
 pub mod TallyLaws
 pub mod StepLaws
 pub mod SweepLaws
+pub mod GoingLaws

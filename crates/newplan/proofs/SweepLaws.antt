@@ -9,10 +9,9 @@ use lib.Dec.{eqb}
 use lib.ListN.{length, getD, set, replicate, length-set, getD-replicate}
 use lib.Seq.{getD-set-same, getD-set-other}
 use Rattle.theory.specs.Tests.{ltb?, eqb?}
-use Rattle.keys.specs.DueOrder.{each}
 use Rattle.newplan.specs.Sweep.{tally, before, Mid, Queue, Swept, First-crowded, Crowd}
 use Rattle.newplan.specs.Sweep.{key-on, row-on, ahead-on, weight-on, kept?, kept-on, left-on}
-use Rattle.newplan.proofs.TallyLaws.{tally-yes, tally-no, tally-zero, tally-same, tally-off, tally-le, tally-both, tally-few, before-yes}
+use Rattle.newplan.proofs.TallyLaws.{tally-yes, tally-no, tally-zero, tally-same, tally-off, tally-all, tally-le, tally-both, tally-few, before-yes}
 use Rattle.newplan.proofs.StepLaws.{mid-none, joins, stays, exchanges}
 
 -- a flag taken away
@@ -149,11 +148,6 @@ module _ (ks gs hs : List ℕ) (slot free over : ℕ) (C : Crowd ks gs hs slot f
   up : (i : ℕ) → i < length gs → kept? gs i ≡ true
   up i k = ap (λ (xs : List ℕ). kept? xs i) (C .flags) ∙ ones-up (length gs) i k
 
-  all-up : (f : ℕ → ℕ) (l : ℕ) → l ≤ length gs → tally f (kept? gs) l ≡ each f l
-  unfolding tally each
-  all-up f zero k = refl
-  all-up f (suc l) k = tally-yes f (kept? gs) l (up l (omega (arith, k))) ∙ ap (λ (v : ℕ). v + f l) (all-up f l (omega (arith, k)))
-
   pub swept-none : Swept ks gs slot (free + over) 0 0 0
   swept-none =
       record {
@@ -162,7 +156,7 @@ module _ (ks gs hs : List ℕ) (slot free over : ℕ) (C : Crowd ks gs hs slot f
         waits = λ q a b. up (row-on ks q) (C .rows q b);
         mid = mid-none (key-on ks) (ahead-on ks slot) (kept-on ks gs);
         lost = sym (tally-zero (weight-on ks) (left-on ks gs));
-        sums = λ f. omega (arith, all-up f (length gs) (omega arith), tally-zero (λ q. f (row-on ks q)) (left-on ks gs));
+        sums = λ f. omega (arith, tally-all f (kept? gs) (length gs) up, tally-zero (λ q. f (row-on ks q)) (left-on ks gs));
       }
 
   pub swept-front : (c : ℕ) → First-crowded ks slot c → c ≤ free + over → (p : ℕ) → p ≤ c → Swept ks gs slot (free + over) p p 0

@@ -66,6 +66,11 @@ tally-both f κ (suc n) = elim (either (κ n)) [
   | inr a ↦ omega (arith, tally-both f κ n, part-no f κ n a, part-yes f (λ j. not (κ j)) n (ap not a))
 ]
 
+pub tally-all : (f : ℕ → ℕ) (κ : ℕ → Bool) (n : ℕ) → ((j : ℕ) → j < n → κ j ≡ true) → tally f κ n ≡ each f n
+unfolding tally each
+tally-all f κ zero h = refl
+tally-all f κ (suc n) h = omega (arith, part-yes f κ n (h n (omega arith)), tally-all f κ n (λ j k. h j (omega (arith, k))))
+
 -- COMPARED
 pub tally-le : (f g : ℕ → ℕ) (κ : ℕ → Bool) (n : ℕ) → ((j : ℕ) → j < n → κ j ≡ true → f j ≤ g j) → tally f κ n ≤ tally g κ n
 unfolding tally

@@ -12,7 +12,7 @@ use Rattle.theory.specs.Tests.{leb?, ltb?, eqb?}
 use Rattle.keys.specs.DueOrder.{each}
 use Rattle.heap.specs.Heap.{Heap, heaped, Grown, Replaced}
 use Rattle.heap.proofs.HeapLaws.{heaped-at, heaped-some, top-most}
-use Rattle.newplan.specs.Sweep.{tally, Queue, Swept, Heaped, Leaves, Crowds, First-crowded, Filled, Greatest, Crowd, Parted}
+use Rattle.newplan.specs.Sweep.{tally, Queue, Swept, Heaped, Leaves, Crowds, First-crowded, Filled, Greatest, Empty-heap, Fills, Crowd, Parted}
 use Rattle.newplan.specs.Sweep.{key-on, row-on, ahead-on, weight-on, kept-on, left-on}
 use Rattle.newplan.proofs.TallyLaws.{tally-yes, tally-at, tally-some, tally-all, tally-most}
 use Rattle.newplan.proofs.SweepLaws.{keys-differ, count-few, kept-less, swept-joins, swept-leaves, swept-none, swept-front, crowded-in}
@@ -58,9 +58,9 @@ leaves-top count key h u top e l R =
       is = inl e;
     }
 
-pub leaves-key : (count key : ℕ) (h : List ℕ) (top : ℕ) → top ≡ getD h 1 0 → top ≤ key → Heap count h → Leaves count key h h key
-leaves-key count key h top e l H =
-    record { heap = H; keys = λ μ. refl; over-top = omega (arith, e, l); over-key = omega arith; is = inr refl }
+pub leaves-key : (count key : ℕ) (h : List ℕ) → getD h 1 0 ≤ key → Heap count h → Leaves count key h h key
+leaves-key count key h l H =
+    record { heap = H; keys = λ μ. refl; over-top = l; over-key = omega arith; is = inr refl }
 
 -- IN THE MIDST OF THE SWEEP
 pub record Going (ks hs gs : List ℕ) (slot free over p count w : ℕ) : Type 0 where
@@ -183,12 +183,23 @@ module _ (ks hs gs : List ℕ) (slot free over p count w : ℕ) (Q : Queue ks sl
           })
 
 -- THE FIRST KEYS into an empty heap
-pub filled-none : (ks hs : List ℕ) → hs ≡ replicate (length hs) 0 → 1 ≤ length hs → Filled ks hs 0
+pub fills : (ks gs hs : List ℕ) (slot free over c : ℕ) → Crowd ks gs slot free over → First-crowded ks slot c → Empty-heap hs (free + over) → Fills ks hs c
+fills ks gs hs slot free over c C F E =
+    let i = crowded-in ks gs slot free over C c F in
+    record {
+      empty = record { none = E .none; room = omega (arith, E .room, i) };
+      within = F .within;
+      small = omega (arith, i, C .queue .small);
+      some = λ p h. C .queue .some p (omega (arith, h, i));
+    }
+
+pub filled-none : (ks hs : List ℕ) (n : ℕ) → Empty-heap hs n → Filled ks hs 0
 unfolding heaped each
-filled-none ks hs e l =
+filled-none ks hs n E =
+    let e = E .none in
     record {
       ordered = record {
-        room = omega (arith, l);
+        room = omega (arith, E .room);
         order = λ q a b. absurd (omega (arith, a, b));
         some = λ q a b. absurd (omega (arith, a, b));
         free = λ q a. ap (λ (xs : List ℕ). getD xs q 0) e ∙ none (length hs) q;
@@ -209,9 +220,39 @@ filled-more ks hs u n k F e R =
       keys = λ μ. omega (arith, R .keys μ, F .keys μ, ap μ e);
     })
 
+-- in the midst of it
+pub record Filling (ks hs us : List ℕ) (first n : ℕ) : Type 0 where
+  pub fills : Fills ks hs first
+  pub by : n ≤ first
+  pub long : length us ≡ length hs
+  pub filled : Filled ks us n
+
+pub filling-none : (ks hs : List ℕ) (first : ℕ) → Fills ks hs first → Filling ks hs hs first 0
+filling-none ks hs first F = record { fills = F; by = omega arith; long = refl; filled = filled-none ks hs first (F .empty) }
+
+module _ (ks hs us : List ℕ) (first n : ℕ) (F : Filling ks hs us first n) (h : n < first) where
+  pub filling-in : (n < length ks) × (n ≤ 1024)
+  filling-in = (omega (arith, h, F .fills .within), omega (arith, h, F .fills .small))
+
+  pub filling-rise : (k : ℕ) → k ≡ key-on ks n → (n + 2 ≤ length us) × (n ≤ 1024) × (1 ≤ k) × Heap n us
+  filling-rise k e =
+      (omega (arith, h, F .long, F .fills .empty .room), filling-in .1, omega (arith, e, F .fills .some n h), F .filled .ordered)
+
+  pub filling-more : (k : ℕ) (vs : List ℕ) → k ≡ key-on ks n → Grown n k us vs → Filling ks hs vs first (n + 1)
+  filling-more k vs e R =
+      record {
+        fills = F .fills;
+        by = omega (arith, h);
+        long = R .long ∙ F .long;
+        filled = filled-more ks us vs n k (F .filled) e R;
+      }
+
+pub filling-end : (ks hs us : List ℕ) (first n : ℕ) → Filling ks hs us first n → first ≤ n → Filled ks us first
+filling-end ks hs us first n F h = let e : first ≡ n = omega (arith, h, F .by) in rw e (F .filled)
+
 -- THE FIRST CROWDED PLACE is met
-pub crowd-met : (ks gs hs : List ℕ) (slot free over : ℕ) → Crowd ks gs hs slot free over → Crowds ks slot
-crowd-met ks gs hs slot free over C =
+pub crowd-met : (ks gs : List ℕ) (slot free over : ℕ) → Crowd ks gs slot free over → Crowds ks slot
+crowd-met ks gs slot free over C =
     record {
       at = free;
       within = omega (arith, C .queue .long, C .some);
@@ -220,46 +261,59 @@ crowd-met ks gs hs slot free over C =
       over = C .queue .early free (omega (arith, C .some));
     }
 
-pub record Looking (ks : List ℕ) (slot : ℕ) (C : Crowds ks slot) (p : ℕ) : Type 0 where
-  pub by : p ≤ C .at
+pub record Looking (ks : List ℕ) (slot p : ℕ) : Type 0 where
+  pub crowd : Crowds ks slot
+  pub by : p ≤ crowd .at
   pub under : (q : ℕ) → q < p → q ≤ ahead-on ks slot q
 
-pub looking-none : (ks : List ℕ) (slot : ℕ) (C : Crowds ks slot) → Looking ks slot C 0
-looking-none ks slot C = record { by = omega arith; under = λ q a. absurd (omega (arith, a)) }
+pub looking-none : (ks : List ℕ) (slot : ℕ) → Crowds ks slot → Looking ks slot 0
+looking-none ks slot C = record { crowd = C; by = omega arith; under = λ q a. absurd (omega (arith, a)) }
 
-pub looking-more : (ks : List ℕ) (slot : ℕ) (C : Crowds ks slot) (p : ℕ) → Looking ks slot C p → p ≤ ahead-on ks slot p → Looking ks slot C (p + 1)
-looking-more ks slot C p L h =
-    record {
-      by = elim (eqb? p (C .at)) [
-        | inl a ↦ absurd (omega (arith, h, C .over, ap (ahead-on ks slot) (a .1), a .1))
-        | inr a ↦ let d = a .1 in omega (arith, L .by)
-      ];
-      under = λ q a. elim (eqb? q p) [
-        | inl b ↦ omega (arith, b .1, h, ap (ahead-on ks slot) (b .1))
-        | inr b ↦ let d = b .1 in L .under q (omega (arith, a))
-      ];
-    }
+module _ (ks : List ℕ) (slot p : ℕ) (L : Looking ks slot p) where
+  pub looking-in : (p < length ks) × (p ≤ 1024)
+  looking-in = (omega (arith, L .by, L .crowd .within), omega (arith, L .by, L .crowd .small))
 
-pub looking-end : (ks : List ℕ) (slot : ℕ) (C : Crowds ks slot) (p : ℕ) → Looking ks slot C p → ahead-on ks slot p < p → First-crowded ks slot p
-looking-end ks slot C p L h = record { within = omega (arith, L .by, C .within); over = h; under = L .under }
+  pub looking-from : (k : ℕ) → k ≡ key-on ks p → slot ≤ k / 4096 % 4096
+  looking-from k e = omega (arith, ap (λ (v : ℕ). v / 4096 % 4096) e, L .crowd .from p (L .by))
+
+  module _ (k a : ℕ) (e : k ≡ key-on ks p) (d : a ≡ k / 4096 % 4096 - slot) where
+    ahead : a ≡ ahead-on ks slot p
+    ahead = d ∙ ap (λ (v : ℕ). v / 4096 % 4096 - slot) e
+
+    pub looking-more : p ≤ a → Looking ks slot (p + 1)
+    looking-more h =
+        record {
+          crowd = L .crowd;
+          by = elim (eqb? p (L .crowd .at)) [
+            | inl b ↦ absurd (omega (arith, h, ahead, L .crowd .over, ap (ahead-on ks slot) (b .1), b .1))
+            | inr b ↦ let x = b .1 in omega (arith, L .by)
+          ];
+          under = λ q c. elim (eqb? q p) [
+            | inl b ↦ omega (arith, b .1, h, ahead, ap (ahead-on ks slot) (b .1))
+            | inr b ↦ let x = b .1 in L .under q (omega (arith, c))
+          ];
+        }
+
+    pub looking-end : a < p → First-crowded ks slot p
+    looking-end h = record { within = looking-in .0; over = omega (arith, h, ahead); under = L .under }
 
 -- THE SWEEP STARTS there
-pub going-start : (ks gs hs us : List ℕ) (slot free over c : ℕ) → Crowd ks gs hs slot free over → First-crowded ks slot c → Filled ks us c →
+pub going-start : (ks gs hs us : List ℕ) (slot free over c : ℕ) → Crowd ks gs slot free over → First-crowded ks slot c → Empty-heap hs (free + over) → Filled ks us c →
     length us ≡ length hs → Going ks us gs slot free over c c 0
-going-start ks gs hs us slot free over c C F X l =
-    let S = swept-front ks gs hs slot free over C c F (omega (arith, crowded-in ks gs hs slot free over C c F)) c (omega arith) in
+going-start ks gs hs us slot free over c C F E X l =
+    let S = swept-front ks gs slot free over C c F (omega (arith, crowded-in ks gs slot free over C c F)) c (omega arith) in
     record {
       swept = S;
       heaped = record {
         ordered = X .ordered;
         keys = λ μ. X .keys μ ∙ sym (tally-all (λ q. μ (key-on ks q)) (kept-on ks gs) c all-on);
       };
-      room = omega (arith, l, C .room);
+      room = omega (arith, l, E .room);
       few = omega arith;
     }
   where
     all-on : (q : ℕ) → q < c → kept-on ks gs q ≡ true
-    all-on q h = swept-none ks gs hs slot free over C .waits q (omega arith) (omega (arith, h, crowded-in ks gs hs slot free over C c F))
+    all-on q h = swept-none ks gs slot free over C .waits q (omega arith) (omega (arith, h, crowded-in ks gs slot free over C c F))
 
 -- ONE TOO MANY: the greatest of the keys up to the first crowded place leaves
 pub greatest-first : (ks : List ℕ) (k : ℕ) → k ≡ key-on ks 0 → Greatest ks (0 + 1) k
@@ -293,12 +347,15 @@ greatest-more ks n top k v G e d = elim (leb? k top) [
   }
 ]
 
-module _ (ks gs hs : List ℕ) (slot free over c top : ℕ) (C : Crowd ks gs hs slot free over) (F : First-crowded ks slot c) (G : Greatest ks (c + 1) top) where
+pub greatest-end : (ks : List ℕ) (i last top : ℕ) → Greatest ks (i + 1) top → i ≡ last → Greatest ks (last + 1) top
+greatest-end ks i last top G e = rw (← e) G
+
+module _ (ks gs : List ℕ) (slot free over c top : ℕ) (C : Crowd ks gs slot free over) (F : First-crowded ks slot c) (G : Greatest ks (c + 1) top) where
   S : Swept ks gs slot (free + over) c c 0
-  S = swept-front ks gs hs slot free over C c F (omega (arith, crowded-in ks gs hs slot free over C c F)) c (omega arith)
+  S = swept-front ks gs slot free over C c F (omega (arith, crowded-in ks gs slot free over C c F)) c (omega arith)
 
   in-c : c < free + over
-  in-c = crowded-in ks gs hs slot free over C c F
+  in-c = crowded-in ks gs slot free over C c F
 
   in-z : G .place < free + over
   in-z = omega (arith, in-c, G .within)
@@ -317,7 +374,7 @@ module _ (ks gs hs : List ℕ) (slot free over c top : ℕ) (C : Crowd ks gs hs 
         place = suc c;
         count = c;
         swept = swept-leaves ks gs slot free (free + over) c c 0 (C .queue) S in-c (G .place) (omega (arith, G .within))
-            (swept-none ks gs hs slot free over C .waits (G .place) (omega arith) in-z) (F .over)
+            (swept-none ks gs slot free over C .waits (G .place) (omega arith) in-z) (F .over)
             (λ j h d n. elim (ltb? (key-on ks j) (key-on ks (G .place))) [
               | inl y ↦ y .1
               | inr y ↦ absurd (n (keys-differ ks slot free (free + over) (C .queue) j (G .place) (omega (arith, h, in-c)) in-z

@@ -141,7 +141,7 @@ module _ (ks gs : List ℕ) (slot n m p count w : ℕ) (Q : Queue ks slot n m) (
 pub ones-up : (n j : ℕ) → j < n → kept? (replicate n 1) j ≡ true
 ones-up n j h = ap (λ (v : ℕ). eqb v 1) (getD-replicate n j 1 0 h)
 
-module _ (ks gs hs : List ℕ) (slot free over : ℕ) (C : Crowd ks gs hs slot free over) where
+module _ (ks gs : List ℕ) (slot free over : ℕ) (C : Crowd ks gs slot free over) where
   abbrev m : ℕ
   m = free + over
 

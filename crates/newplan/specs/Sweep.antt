@@ -114,14 +114,23 @@ pub record Greatest (ks : List ℕ) (n top : ℕ) : Type 0 where
   pub is : top ≡ key-on ks place
   pub most : (q : ℕ) → q < n → key-on ks q ≤ top
 
--- BEFORE THE SWEEP every flag is up and the heap is empty; over rows are too many for the slots
-pub record Crowd (ks gs hs : List ℕ) (slot free over : ℕ) : Type 0 where
+-- an empty heap, and what may be in it
+pub record Empty-heap (hs : List ℕ) (most : ℕ) : Type 0 where
+  pub none : hs ≡ replicate (length hs) 0
+  pub room : most + 2 ≤ length hs
+
+pub record Fills (ks hs : List ℕ) (n : ℕ) : Type 0 where
+  pub empty : Empty-heap hs n
+  pub within : n < length ks
+  pub small : n ≤ 1024
+  pub some : (p : ℕ) → p < n → 1 ≤ key-on ks p
+
+-- BEFORE THE SWEEP every flag is up; over rows are too many for the slots
+pub record Crowd (ks gs : List ℕ) (slot free over : ℕ) : Type 0 where
   pub queue : Queue ks slot free (free + over)
   pub some : 1 ≤ over
   pub rows : (q : ℕ) → q < free + over → row-on ks q < length gs
   pub flags : gs ≡ replicate (length gs) 1
-  pub heap : hs ≡ replicate (length hs) 0
-  pub room : free + over + 2 ≤ length hs
 
 -- AFTER IT that many have left
 pub record Parted (ks gs : List ℕ) (slot free over weight : ℕ) : Type 0 where

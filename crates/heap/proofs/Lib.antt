@@ -1,0 +1,3 @@
+pub mod ArrayLaws
+pub mod HeapLaws
+pub mod MoveLaws

@@ -1,11 +1,11 @@
 -- The level, bucket by bucket: its greatest so far tells the sweep over the buckets so far.
 use mathlib.Core.Path.{_≡_, refl, ap}
-use mathlib.Core.Logic.{_⊎_, inl, inr}
+use mathlib.Core.Logic.{inl, inr}
 use mathlib.Core.List.{List}
 use Prim.Native.Nat.{ℕ, zero, suc, _+_, _*_, _-_, _/_, _%_, _≤_, _<_, max}
 use native.Mathlib.Omega.{arith}
 use native.Mathlib.Numerals.{add-one}
-use lib.ListN.{length, getD}
+use lib.ListN.{getD}
 use Rattle.theory.specs.Tests.{leb?, eqb?}
 use Rattle.theory.specs.Count.{Sweep}
 use Rattle.buckets.specs.Reach.{upto, Multiples, Reach-says}

@@ -2,10 +2,10 @@
 use mathlib.Core.Path.{_≡_, sym, ap, _∙_, subst}
 use mathlib.Core.Logic.{_⊎_, inl, inr}
 use mathlib.Core.List.{List}
-use Prim.Native.Nat.{ℕ, zero, suc, _+_, _*_, _-_, _/_, _≤_, _<_}
+use Prim.Native.Nat.{ℕ, zero, suc, _+_, _-_, _/_, _≤_, _<_}
 use native.Mathlib.Omega.{arith}
 use lib.ListN.{length, getD}
-use Rattle.rules.specs.Rows.{Row, Round, All}
+use Rattle.rules.specs.Rows.{Round, All}
 use Rattle.rules.specs.Table.{round-in}
 use Rattle.theory.specs.Tests.{leb?}
 use Rattle.theory.specs.Sum.{sum}
@@ -13,7 +13,7 @@ use Rattle.theory.specs.All.{all-map}
 use Rattle.theory.specs.Feas.{num}
 use Rattle.theory.specs.Bounds.{Row-fine}
 use Rattle.theory.specs.Full.{Fine}
-use Rattle.theory.specs.Count.{in-bucket, under, counts-next, counts-none, counts-below, counts-all, Sweep, sweep-near, sweep-none, sweep-left, sweep-at}
+use Rattle.theory.specs.Count.{in-bucket, counts-next, counts-none, counts-below, counts-all, Sweep, sweep-near, sweep-none, sweep-left, sweep-at}
 use Rattle.round.specs.Rows.{Ready, top-of}
 use Rattle.round.specs.Buckets.{Counted}
 use Rattle.round.proofs.ReadLaws.{known}

@@ -1,14 +1,12 @@
 -- The segment that counts tell is one of the round, where no row is left out.
-use mathlib.Core.Path.{_≡_, refl, sym, ap, _∙_, subst}
+use mathlib.Core.Path.{_≡_, subst}
 use mathlib.Core.List.{List}
-use Prim.Native.Nat.{ℕ, zero, suc, _+_, _*_, _≤_, _<_}
+use Prim.Native.Nat.{ℕ, zero, suc, _+_, _*_, _≤_}
 use native.Mathlib.Omega.{arith}
-use lib.ListN.{length, getD}
 use Rattle.rules.specs.Rows.{Row, Round}
-use Rattle.rules.specs.Plan.{feasible}
 use Rattle.rules.specs.Table.{round-in}
 use Rattle.theory.specs.Full.{Fine}
-use Rattle.theory.specs.Count.{counts-next, counts-none, counts-all}
+use Rattle.theory.specs.Count.{counts-next, counts-none}
 use Rattle.theory.specs.Members.{Rows-of-plan, certified-found}
 use Rattle.theory.specs.Near.{all-true-chosen, all-certified}
 use Rattle.theory.specs.Segments.{Segment, segment-made}

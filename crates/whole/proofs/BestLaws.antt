@@ -1,9 +1,8 @@
 -- The heaviest row and the least weight, row by row.
-use mathlib.Core.Path.{_≡_, refl, sym, ap, _∙_, subst}
+use mathlib.Core.Path.{_≡_, sym, subst}
 use mathlib.Core.Logic.{_⊎_, inl, inr}
-use Prim.Native.Nat.{ℕ, suc, _+_, _≤_, _<_, min}
+use Prim.Native.Nat.{ℕ, _+_, _≤_, _<_, min}
 use native.Mathlib.Omega.{arith}
-use native.Mathlib.Numerals.{add-one}
 use Rattle.rules.specs.Rows.{Round}
 use Rattle.theory.specs.Tests.{leb?, eqb?}
 use Rattle.round.specs.Rows.{at, Due-at, Weight-at}

@@ -1,11 +1,9 @@
 -- The three ways of sending, from what the pick says.
-use mathlib.Core.Path.{_≡_, refl, ap, subst}
+use mathlib.Core.Path.{_≡_, subst}
 use mathlib.Core.Bool.{true, false}
 use mathlib.Core.List.{List}
 use Prim.Native.Nat.{ℕ, _+_, _≤_}
-use native.Mathlib.Omega.{arith}
-use lib.ListN.{length}
-use Rattle.rules.specs.Rows.{Row, Round, row, blank, blank-tail}
+use Rattle.rules.specs.Rows.{row, blank, blank-tail}
 use Rattle.rules.specs.Steps.{changed}
 use Rattle.rules.specs.Table.{round-in}
 use Rattle.theory.specs.Keys.{getD-in}

@@ -3,28 +3,26 @@ use mathlib.Core.Path.{_≡_, refl, sym, ap, _∙_, subst}
 use mathlib.Core.Logic.{inl, inr}
 use mathlib.Core.Bool.{Bool, true, false}
 use mathlib.Core.List.{List}
-use Prim.Native.Nat.{ℕ, suc, _+_, _*_, _-_, _≤_, _<_}
+use Prim.Native.Nat.{ℕ, _+_, _-_, _≤_, _<_}
 use native.Mathlib.Omega.{arith}
 use lib.ListN.{length}
 use Rattle.rules.specs.PlanM.{score}
-use Rattle.rules.specs.Rows.{Row, Round, blank, heavier, In}
+use Rattle.rules.specs.Rows.{Row, blank, heavier, In}
 use Rattle.rules.specs.Table.{round-in}
 use Rattle.theory.specs.Tests.{ltb?}
-use Rattle.theory.specs.Full.{Fine}
 use Rattle.theory.specs.Keys.{getD-in}
 use Rattle.theory.specs.Index.{index-of}
 use Rattle.theory.specs.Members.{Rows-of-plan, of-rows-fine}
 use Rattle.theory.specs.Segments.{Segment, segment-has-row}
 use Rattle.theory.specs.Lead.{Leads, lead-far}
-use Rattle.round.specs.Rows.{Ready, at}
+use Rattle.round.specs.Rows.{at}
 use Rattle.round.proofs.ReadLaws.{Known, known}
 use Rattle.sorts.specs.declared.Round.{Round as Head}
-use Rattle.buckets.specs.Reach.{Reaches}
 use Rattle.buckets.specs.Stretch.{Full, Stretches}
 use Rattle.buckets.specs.declared.Reach.{Reach}
 use Rattle.buckets.specs.declared.stretch.Stretch.{Stretch}
 use Rattle.buckets.proofs.SegmentLaws.{whole-rows, full, stretch-segment}
-use Rattle.whole.specs.Best.{Is-row, Heaviest, Least}
+use Rattle.whole.specs.Best.{Is-row, Heaviest}
 use Rattle.whole.specs.Look.{Looks, First-goes}
 use Rattle.whole.specs.Whole.{Given, Past, Leading, Lightest-by, Picks-first, Picks-far, Picks-kept}
 use Rattle.whole.specs.declared.best.Best.{Best}

@@ -1,5 +1,4 @@
 -- `buckets::reach_of` meets its contract: the loop is `Levels`.
-use mathlib.Core.Path.{refl}
 use Prim.Native.Nat.{suc, _-_}
 use borrow.Author.Needs.{needs}
 use native.Mathlib.Omega.{arith}

@@ -34,7 +34,7 @@ returns-2 c =
     past-far pre (look .ensures) (goes-past _ _ _ (first-goes .ensures) (c .if2 .left)) (omega (arith, c .before .before .before .if1 .taken, past-from pre)) (omega arith)
 
 stretch-of-requires : tie.Need-stretch-of-requires
-stretch-of-requires c κs = (filled (c .before .before .before .before .before .pre .given), c .if1 .left)
+stretch-of-requires c κs = (filled (c .before .before .before .before .before .pre .given), omega (arith, c .if1 .left))
 
 cast-look : tie.Need-cast-look
 cast-look c = omega (arith, slots-fit (c .before .before .before .before .before .before .before .pre .given) (c .before .stretch-of .ensures) .0)
@@ -58,10 +58,14 @@ returns-3 c =
     past-first pre (look2 .ensures) (goes-first _ _ _ (first-goes2 .ensures) (c .if3 .taken)) (omega arith)
 
 cast-t12 : tie.Need-cast-t12
-cast-t12 c = search needs
+cast-t12 c =
+    let fits = slots-fit (c .before .before .before .before .before .before .before .before .before .before .before .pre .given) (c .before .before .before .before .before .stretch-of .ensures) in
+    omega (arith, fits .0, fits .1)
 
 add-t15 : tie.Need-add-t15
-add-t15 c = omega (arith, slots-fit (c .before .before .before .before .before .before .before .before .before .before .before .pre .given) (c .before .before .before .before .before .stretch-of .ensures) .1)
+add-t15 c =
+    let fits = slots-fit (c .before .before .before .before .before .before .before .before .before .before .before .pre .given) (c .before .before .before .before .before .stretch-of .ensures) in
+    omega (arith, fits .0, fits .1)
 
 returns-4 : tie.Need-returns-4
 returns-4 c =

@@ -1,6 +1,5 @@
 -- `whole::first_goes` meets its contract: by the test.
 use borrow.Author.Needs.{needs}
-use native.Mathlib.Omega.{arith}
 use Rattle.whole.proofs.first_goes.Statement.{statement}
 use Rattle.whole.proofs.first_goes.Tie as tie
 

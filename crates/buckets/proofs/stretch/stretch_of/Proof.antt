@@ -1,8 +1,7 @@
 -- `buckets::stretch::stretch_of` meets its contract: both loops are `Walking`.
-use mathlib.Core.Path.{_≡_, refl}
 use Prim.Native.Nat.{suc, _-_, _≤_, _<_}
 use native.Mathlib.Omega.{arith}
-use Rattle.buckets.proofs.StretchLaws.{Walking, walk-start, small, covered, walk-to, walk-left, walk-past, walk-end}
+use Rattle.buckets.proofs.StretchLaws.{Walking, walk-start, covered, walk-to, walk-left, walk-past, walk-end}
 use borrow.Author.Needs.{needs}
 use Rattle.buckets.proofs.stretch.stretch_of.Statement.{statement}
 use Rattle.buckets.proofs.stretch.stretch_of.Tie as tie

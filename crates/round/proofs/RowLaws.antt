@@ -99,7 +99,7 @@ pair true true c d = refl
 
 pub row-seen : (slot : ℕ) (b : Seen) (xs : List ℕ) (p q k d a w x : ℕ) → length xs ≡ row-size → p ≡ field 10 8 xs → q ≡ field 16 8 xs →
     k ≡ field 0 4 xs → d ≡ field 4 2 xs → Differs d slot a → w ≡ field 6 4 xs → Differs w 1 x →
-    Sees slot b xs (record { ticket = k; ahead = a; weights = bitOr (b .weights) x; plain = bitOr (b .plain) (bitOr p q) })
+    Sees slot b xs (record { ticket = record { 0 = k }; ahead = a; weights = bitOr (b .weights) x; plain = bitOr (b .plain) (bitOr p q) })
 row-seen slot b xs p q k d a w x l ep eq ek ed da ew dx =
     record {
       ticket = ek;
@@ -145,16 +145,16 @@ grouped true true c true true f v w k z r h =
     same true true true true z r = refl
 
 pub row-parts : (s l n : ℕ) (b : Seen) (xs : List ℕ) (x : Seen) (r : Bool) → s ≤ l → l ≤ most-last → Sees s b xs x →
-    (ltb (b .ticket) n && fair b) && (row-judged s l n (b .ticket) xs && r)
-    ≡ (ltb (b .ticket) (x .ticket) && leb (x .ahead) (l - s)) && ((ltb (x .ticket) n && fair x) && r)
+    (ltb (b .ticket .0) n && fair b) && (row-judged s l n (b .ticket .0) xs && r)
+    ≡ (ltb (b .ticket .0) (x .ticket .0) && leb (x .ahead) (l - s)) && ((ltb (x .ticket .0) n && fair x) && r)
 unfolding row-judged every row
 row-parts s l n b xs x r h m k =
     let t = field 0 4 xs in
     let d = field 4 2 xs in
     let w = field 6 4 xs in
     let y = k .ticket in
-    grouped (ltb (b .ticket) t) (ltb t n) (ltb (b .ticket) n) (leb s d) (leb d l) (fair b) (leb 1 w) (leb w most-weight)
+    grouped (ltb (b .ticket .0) t) (ltb t n) (ltb (b .ticket .0) n) (leb s d) (leb d l) (fair b) (leb 1 w) (leb w most-weight)
     (leb (field 10 1 xs) 1) (zeros (drop 11 xs)) r
-    (λ p q. lt-ltb (b .ticket) n (omega (arith, ltb-true (b .ticket) t p, ltb-true t n q)))
-    ∙ ap₂ (λ (p q : Bool). (ltb (b .ticket) t && p) && ((ltb t n && q) && r)) (sym (in-time s l d (x .ahead) h m (k .due))) (sym (k .rest))
-    ∙ ap (λ (v : ℕ). (ltb (b .ticket) v && leb (x .ahead) (l - s)) && ((ltb v n && fair x) && r)) (sym y)
+    (λ p q. lt-ltb (b .ticket .0) n (omega (arith, ltb-true (b .ticket .0) t p, ltb-true t n q)))
+    ∙ ap₂ (λ (p q : Bool). (ltb (b .ticket .0) t && p) && ((ltb t n && q) && r)) (sym (in-time s l d (x .ahead) h m (k .due))) (sym (k .rest))
+    ∙ ap (λ (v : ℕ). (ltb (b .ticket .0) v && leb (x .ahead) (l - s)) && ((ltb v n && fair x) && r)) (sym y)

@@ -97,19 +97,20 @@ pair true false false d = refl
 pair true false true d = refl
 pair true true c d = refl
 
-pub row-seen : (slot : ℕ) (b : Seen) (xs : List ℕ) (p q k d a w x : ℕ) → length xs ≡ row-size → p ≡ field 10 8 xs → q ≡ field 16 8 xs →
-    k ≡ field 0 4 xs → d ≡ field 4 2 xs → Differs d slot a → w ≡ field 6 4 xs → Differs w 1 x →
-    Sees slot b xs (record { ticket = record { 0 = k }; ahead = a; weights = bitOr (b .weights) x; plain = bitOr (b .plain) (bitOr p q) })
-row-seen slot b xs p q k d a w x l ep eq ek ed da ew dx =
+pub row-seen : (slot : ℕ) (b : Seen) (xs : List ℕ) (x : Seen) (p q d w y : ℕ) → length xs ≡ row-size → x .ticket .0 ≡ field 0 4 xs →
+    d ≡ field 4 2 xs → Differs d slot (x .ahead) → w ≡ field 6 4 xs → Differs w 1 y → x .weights ≡ bitOr (b .weights) y →
+    p ≡ field 10 8 xs → q ≡ field 16 8 xs → x .plain ≡ bitOr (b .plain) (bitOr p q) → Sees slot b xs x
+row-seen slot b xs x p q d w y l ek ed da ew dy ex ep eq ez =
     record {
       ticket = ek;
       due = rw (← ed) da;
       rest =
-          ap₂ (λ (m n : Bool). m && n) (or-weights (b .weights) x)
-          (or-plain (b .plain) (bitOr p q) ∙ ap (λ (n : Bool). leb (b .plain) 1 && n) (or-plain p q ∙ ap₂ (λ (m n : ℕ). leb m 1 && leb n 1) ep eq ∙ row-end xs l))
-          ∙ pair (ltb (b .weights) most-weight) (ltb x most-weight) (leb (b .plain) 1) (leb (field 10 1 xs) 1 && zeros (drop 11 xs))
+          ap₂ (λ (m n : Bool). m && n) (ap (λ (n : ℕ). ltb n most-weight) ex ∙ or-weights (b .weights) y)
+          (ap (λ (n : ℕ). leb n 1) ez ∙ or-plain (b .plain) (bitOr p q)
+          ∙ ap (λ (n : Bool). leb (b .plain) 1 && n) (or-plain p q ∙ ap₂ (λ (m n : ℕ). leb m 1 && leb n 1) ep eq ∙ row-end xs l))
+          ∙ pair (ltb (b .weights) most-weight) (ltb y most-weight) (leb (b .plain) 1) (leb (field 10 1 xs) 1 && zeros (drop 11 xs))
           ∙ ap (λ (n : Bool). fair b && (n && (leb (field 10 1 xs) 1 && zeros (drop 11 xs))))
-          (weight-less w x dx ∙ ap (λ (v : ℕ). leb 1 v && leb v most-weight) ew);
+          (weight-less w y dy ∙ ap (λ (v : ℕ). leb 1 v && leb v most-weight) ew);
     }
 
 -- a due slot is one that is left where it is at most so far ahead

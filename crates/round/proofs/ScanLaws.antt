@@ -2,12 +2,12 @@
 use mathlib.Core.Path.{_≡_, refl, sym, ap, ap₂, _∙_}
 use mathlib.Core.Bool.{Bool, true, false, _&&_, false≢true}
 use mathlib.Core.List.{List}
-use Prim.Native.Nat.{ℕ, zero, suc, _+_, _*_, _-_, _≤_, _<_, min}
+use Prim.Native.Nat.{ℕ, zero, suc, _+_, _-_, _≤_, _<_, min}
 use native.Mathlib.Omega.{arith}
 use native.Mathlib.Numerals.{unary-clauses}
 use lib.Dec.{ltb, leb, eqb}
 use borrow.Author.Tests.{lt-ltb, lt-leb, ne-eqb, leb-true}
-use lib.ListN.{length, getD, set, take, drop, length-take, length-drop, length-set}
+use lib.ListN.{length, getD, set, take, drop, length-take, length-drop}
 use lib.Seq.{drop-drop}
 use Rattle.rules.specs.Limits.{row-size, most-weight, ticket-at, due-at, wide-bytes, slot-bytes}
 use Rattle.rules.specs.Rows.{Row, Round, row}
@@ -20,11 +20,10 @@ use Rattle.theory.specs.Judge.{zeros, row-judged, rows-judged}
 use Rattle.sorts.specs.declared.Round.{Round as Head}
 use Rattle.round.specs.declared.seen.Seen.{Seen}
 use Rattle.round.specs.Rows.{at, top-of, place}
-use Rattle.round.specs.Buckets.{Counted, Lent-counts}
 use Rattle.round.specs.Seen.{Sees, fair, Rows-lent, all-judged, Rows-say}
 use Rattle.round.proofs.RowLaws.{row-parts, in-time}
 use Rattle.round.proofs.ReadLaws.{at-held}
-use Rattle.round.proofs.CountLaws.{Counting, count-bound, count-more, counting-start, counting-end, round-is}
+use Rattle.round.proofs.CountLaws.{Counting, count-bound, count-more, counting-end, round-is}
 
 and-on : (x : Bool) → x && true ≡ x
 and-on true = refl

@@ -1,9 +1,9 @@
 // The used rows in turn: judged, and counted by bucket; and a row's bytes written.
 ghost use mathlib.Core.Path.{_≡_};
 ghost use Prim.Native.Nat.{_+_, _≤_};
-ghost use lib.ListN.{length, drop};
+ghost use lib.ListN.{length};
 ghost use lib.Seq.{sets};
-ghost use Rattle.rules.specs.Limits.{head-size, row-size, most-rows};
+ghost use Rattle.rules.specs.Limits.{row-size, most-rows};
 ghost use Rattle.rules.specs.Rows.{framed};
 ghost use Rattle.rules.specs.Conditions.{row-at};
 ghost use Rattle.round.specs.Numbers.{row-numbers};

@@ -2,11 +2,11 @@
 use mathlib.Core.Path.{_≡_, sym, ap, _∙_}
 use mathlib.Core.Bool.{Bool, true, false, _&&_, cond}
 use mathlib.Core.List.{List}
-use Prim.Native.Nat.{ℕ, _+_, _-_, _/_, _%_, _≤_}
+use Prim.Native.Nat.{ℕ, _+_, _-_, _/_, _%_, _≤_, _<_}
 use native.Mathlib.Omega.{arith}
 use lib.Dec.{leb, eqb}
 use borrow.Author.Tests.{leb-true, eqb-true}
-use lib.ListN.{length, drop}
+use lib.ListN.{length, drop, replicate, length-replicate}
 use Rattle.rules.specs.Limits.{head-size, row-size, most-rows}
 use Rattle.rules.specs.Table.{every, head-tests, length-good, rows-of, table-refusal}
 use Rattle.rules.specs.Conditions.{Bytes, slot-in, last-in, next-in, used-in, row-at}
@@ -16,10 +16,10 @@ use Rattle.theory.specs.Judge.{zeros, head-judged, judged}
 use Rattle.theory.specs.Judged.{judged-refusal}
 use Rattle.theory.specs.Checks.{refusal-two}
 use Rattle.sorts.specs.declared.Round.{Round as Head}
-use Rattle.round.specs.declared.sound.Judged.the-variants.{Sound, Refused}
+use Rattle.round.specs.declared.sound.Judged.the-variants.{Sound}
 use Rattle.round.specs.Head.{Head-of}
 use Rattle.round.specs.Seen.{Rows-lent, all-judged, Rows-say}
-use Rattle.round.specs.Judge.{Refuses, Judge-says, Scan-says}
+use Rattle.round.specs.Judge.{Refuses, Judge-says, Scan-asks, Scan-says}
 
 -- a length that is good has a head, and rows behind it
 pub good-long : (n : ℕ) → length-good n ≡ true → (head-size ≤ n) × ((n - head-size) % row-size ≡ 0) × ((n - head-size) / row-size ≤ most-rows)
@@ -94,3 +94,16 @@ judge-accepts {t} {h} k e p q = (refusal-is t h k ∙ rw (e, sym p ∙ q), k .he
 pub scan-accepts : {t cs : List ℕ} {h : Head} {x y : Bool} → Head-sound t h → Rows-say t h cs x → x ≡ true →
     y ≡ zeros (drop (row-at (h .used)) t) → y ≡ true → Scan-says t cs (Sound h)
 scan-accepts k s e p q = let j = judge-accepts k (sym (s .judged) ∙ e) p q in (j .0, j .1, s .counted e)
+
+-- PLACES TO LEND: more than any table has rows, or for a short table more than it has
+pub lent-all : (t cs : List ℕ) (n : ℕ) → cs ≡ replicate n 0 → most-rows < n → Scan-asks t cs
+unfolding rows-of
+lent-all t cs n e h g =
+    let l : length cs ≡ n = ap length e ∙ length-replicate n 0 in
+    record { enough = omega (arith, l, h, good-long (length t) g .2); none = e ∙ ap (λ (k : ℕ). replicate k 0) (sym l) }
+
+pub lent-few : (t cs : List ℕ) (n k : ℕ) → cs ≡ replicate n 0 → length t ≤ row-at k → k < n → Scan-asks t cs
+unfolding rows-of
+lent-few t cs n k e h o g =
+    let l : length cs ≡ n = ap length e ∙ length-replicate n 0 in
+    record { enough = omega (arith, l, h, o, good-long (length t) g .0); none = e ∙ ap (λ (k : ℕ). replicate k 0) (sym l) }

@@ -97,19 +97,20 @@ pair true false false d = refl
 pair true false true d = refl
 pair true true c d = refl
 
-pub row-seen : (slot : ℕ) (b : Seen) (xs : List ℕ) (p q k d a w x : ℕ) → length xs ≡ row-size → p ≡ field 10 8 xs → q ≡ field 16 8 xs →
-    k ≡ field 0 4 xs → d ≡ field 4 2 xs → Differs d slot a → w ≡ field 6 4 xs → Differs w 1 x →
-    Sees slot b xs (record { ticket = k; ahead = a; weights = bitOr (b .weights) x; plain = bitOr (b .plain) (bitOr p q) })
-row-seen slot b xs p q k d a w x l ep eq ek ed da ew dx =
+pub row-seen : (slot : ℕ) (b : Seen) (xs : List ℕ) (x : Seen) (p q d w y : ℕ) → length xs ≡ row-size → x .ticket .0 ≡ field 0 4 xs →
+    d ≡ field 4 2 xs → Differs d slot (x .ahead) → w ≡ field 6 4 xs → Differs w 1 y → x .weights ≡ bitOr (b .weights) y →
+    p ≡ field 10 8 xs → q ≡ field 16 8 xs → x .plain ≡ bitOr (b .plain) (bitOr p q) → Sees slot b xs x
+row-seen slot b xs x p q d w y l ek ed da ew dy ex ep eq ez =
     record {
       ticket = ek;
       due = rw (← ed) da;
       rest =
-          ap₂ (λ (m n : Bool). m && n) (or-weights (b .weights) x)
-          (or-plain (b .plain) (bitOr p q) ∙ ap (λ (n : Bool). leb (b .plain) 1 && n) (or-plain p q ∙ ap₂ (λ (m n : ℕ). leb m 1 && leb n 1) ep eq ∙ row-end xs l))
-          ∙ pair (ltb (b .weights) most-weight) (ltb x most-weight) (leb (b .plain) 1) (leb (field 10 1 xs) 1 && zeros (drop 11 xs))
+          ap₂ (λ (m n : Bool). m && n) (ap (λ (n : ℕ). ltb n most-weight) ex ∙ or-weights (b .weights) y)
+          (ap (λ (n : ℕ). leb n 1) ez ∙ or-plain (b .plain) (bitOr p q)
+          ∙ ap (λ (n : Bool). leb (b .plain) 1 && n) (or-plain p q ∙ ap₂ (λ (m n : ℕ). leb m 1 && leb n 1) ep eq ∙ row-end xs l))
+          ∙ pair (ltb (b .weights) most-weight) (ltb y most-weight) (leb (b .plain) 1) (leb (field 10 1 xs) 1 && zeros (drop 11 xs))
           ∙ ap (λ (n : Bool). fair b && (n && (leb (field 10 1 xs) 1 && zeros (drop 11 xs))))
-          (weight-less w x dx ∙ ap (λ (v : ℕ). leb 1 v && leb v most-weight) ew);
+          (weight-less w y dy ∙ ap (λ (v : ℕ). leb 1 v && leb v most-weight) ew);
     }
 
 -- a due slot is one that is left where it is at most so far ahead
@@ -145,16 +146,16 @@ grouped true true c true true f v w k z r h =
     same true true true true z r = refl
 
 pub row-parts : (s l n : ℕ) (b : Seen) (xs : List ℕ) (x : Seen) (r : Bool) → s ≤ l → l ≤ most-last → Sees s b xs x →
-    (ltb (b .ticket) n && fair b) && (row-judged s l n (b .ticket) xs && r)
-    ≡ (ltb (b .ticket) (x .ticket) && leb (x .ahead) (l - s)) && ((ltb (x .ticket) n && fair x) && r)
+    (ltb (b .ticket .0) n && fair b) && (row-judged s l n (b .ticket .0) xs && r)
+    ≡ (ltb (b .ticket .0) (x .ticket .0) && leb (x .ahead) (l - s)) && ((ltb (x .ticket .0) n && fair x) && r)
 unfolding row-judged every row
 row-parts s l n b xs x r h m k =
     let t = field 0 4 xs in
     let d = field 4 2 xs in
     let w = field 6 4 xs in
     let y = k .ticket in
-    grouped (ltb (b .ticket) t) (ltb t n) (ltb (b .ticket) n) (leb s d) (leb d l) (fair b) (leb 1 w) (leb w most-weight)
+    grouped (ltb (b .ticket .0) t) (ltb t n) (ltb (b .ticket .0) n) (leb s d) (leb d l) (fair b) (leb 1 w) (leb w most-weight)
     (leb (field 10 1 xs) 1) (zeros (drop 11 xs)) r
-    (λ p q. lt-ltb (b .ticket) n (omega (arith, ltb-true (b .ticket) t p, ltb-true t n q)))
-    ∙ ap₂ (λ (p q : Bool). (ltb (b .ticket) t && p) && ((ltb t n && q) && r)) (sym (in-time s l d (x .ahead) h m (k .due))) (sym (k .rest))
-    ∙ ap (λ (v : ℕ). (ltb (b .ticket) v && leb (x .ahead) (l - s)) && ((ltb v n && fair x) && r)) (sym y)
+    (λ p q. lt-ltb (b .ticket .0) n (omega (arith, ltb-true (b .ticket .0) t p, ltb-true t n q)))
+    ∙ ap₂ (λ (p q : Bool). (ltb (b .ticket .0) t && p) && ((ltb t n && q) && r)) (sym (in-time s l d (x .ahead) h m (k .due))) (sym (k .rest))
+    ∙ ap (λ (v : ℕ). (ltb (b .ticket .0) v && leb (x .ahead) (l - s)) && ((ltb v n && fair x) && r)) (sym y)

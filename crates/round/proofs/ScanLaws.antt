@@ -2,12 +2,12 @@
 use mathlib.Core.Path.{_≡_, refl, sym, ap, ap₂, _∙_}
 use mathlib.Core.Bool.{Bool, true, false, _&&_, false≢true}
 use mathlib.Core.List.{List}
-use Prim.Native.Nat.{ℕ, zero, suc, _+_, _*_, _-_, _≤_, _<_, min}
+use Prim.Native.Nat.{ℕ, zero, suc, _+_, _-_, _≤_, _<_, min}
 use native.Mathlib.Omega.{arith}
 use native.Mathlib.Numerals.{unary-clauses}
 use lib.Dec.{ltb, leb, eqb}
 use borrow.Author.Tests.{lt-ltb, lt-leb, ne-eqb, leb-true}
-use lib.ListN.{length, getD, set, take, drop, length-take, length-drop, length-set}
+use lib.ListN.{length, getD, set, take, drop, length-take, length-drop}
 use lib.Seq.{drop-drop}
 use Rattle.rules.specs.Limits.{row-size, most-weight, ticket-at, due-at, wide-bytes, slot-bytes}
 use Rattle.rules.specs.Rows.{Row, Round, row}
@@ -20,11 +20,10 @@ use Rattle.theory.specs.Judge.{zeros, row-judged, rows-judged}
 use Rattle.sorts.specs.declared.Round.{Round as Head}
 use Rattle.round.specs.declared.seen.Seen.{Seen}
 use Rattle.round.specs.Rows.{at, top-of, place}
-use Rattle.round.specs.Buckets.{Counted, Lent-counts}
 use Rattle.round.specs.Seen.{Sees, fair, Rows-lent, all-judged, Rows-say}
 use Rattle.round.proofs.RowLaws.{row-parts, in-time}
 use Rattle.round.proofs.ReadLaws.{at-held}
-use Rattle.round.proofs.CountLaws.{Counting, count-bound, count-more, counting-start, counting-end, round-is}
+use Rattle.round.proofs.CountLaws.{Counting, count-bound, count-more, counting-end, round-is}
 
 and-on : (x : Bool) → x && true ≡ x
 and-on true = refl
@@ -60,10 +59,10 @@ none-left s l n b (suc u) bs h = ne-eqb (suc u) 0 (λ e. omega (arith, e)) ∙ s
 -- JUDGED SO FAR: what is asked of all rows is what is left to ask of those before i, and what is asked of the others
 pub record Judging (t : List ℕ) (h : Head) (i : ℕ) (s : Seen) : Type 0 where
   pub by : i ≤ h .used
-  pub rest : all-judged t h ≡ (ltb (s .ticket) (h .next .0) && fair s)
-      && rows-judged (h .used - i) (h .slot .0) (h .last .0) (h .next .0) (s .ticket) (drop (row-at i) t)
+  pub rest : all-judged t h ≡ (ltb (s .ticket .0) (h .next .0) && fair s)
+      && rows-judged (h .used - i) (h .slot .0) (h .last .0) (h .next .0) (s .ticket .0) (drop (row-at i) t)
 
-pub judging-start : (t : List ℕ) (h : Head) → Rows-lent t h → Judging t h 0 (record { ticket = 0; ahead = 0; weights = 0; plain = 0 })
+pub judging-start : (t : List ℕ) (h : Head) → Rows-lent t h → Judging t h 0 (record { ticket = record { 0 = 0 }; ahead = 0; weights = 0; plain = 0 })
 judging-start t h k =
     record {
       by = omega arith;
@@ -101,26 +100,26 @@ module _ (t : List ℕ) (h : Head) (k : Rows-lent t h) (time : h .slot .0 ≤ h 
   seen-there : Sees (h .slot .0) b (take row-size (drop (row-at i) t)) s
   seen-there = rw (← lent-is t a i e) w
 
-  ticket-there : s .ticket ≡ field ticket-at wide-bytes (drop (row-at i) t)
+  ticket-there : s .ticket .0 ≡ field ticket-at wide-bytes (drop (row-at i) t)
   ticket-there = seen-there .ticket ∙ field-take ticket-at wide-bytes row-size (drop (row-at i) t) (omega arith)
 
   -- what its judge asks at once goes in front of the rest
   judging-row : Judging t h i b →
-      all-judged t h ≡ (ltb (b .ticket) (s .ticket) && leb (s .ahead) span) && ((ltb (s .ticket) (h .next .0) && fair s)
-      && rows-judged (h .used - (i + 1)) (h .slot .0) (h .last .0) (h .next .0) (s .ticket) (drop (row-at (i + 1)) t))
+      all-judged t h ≡ (ltb (b .ticket .0) (s .ticket .0) && leb (s .ahead) span) && ((ltb (s .ticket .0) (h .next .0) && fair s)
+      && rows-judged (h .used - (i + 1)) (h .slot .0) (h .last .0) (h .next .0) (s .ticket .0) (drop (row-at (i + 1)) t))
   judging-row j =
       j .rest
-      ∙ ap (λ (n : Bool). (ltb (b .ticket) (h .next .0) && fair b) && n)
-      (rows-step (h .slot .0) (h .last .0) (h .next .0) (b .ticket) t (h .used) i o)
+      ∙ ap (λ (n : Bool). (ltb (b .ticket .0) (h .next .0) && fair b) && n)
+      (rows-step (h .slot .0) (h .last .0) (h .next .0) (b .ticket .0) t (h .used) i o)
       ∙ row-parts (h .slot .0) (h .last .0) (h .next .0) b (take row-size (drop (row-at i) t)) s
       (rows-judged (h .used - (i + 1)) (h .slot .0) (h .last .0) (h .next .0) (field ticket-at wide-bytes (drop (row-at i) t)) (drop (row-at (i + 1)) t))
       time (k .last) seen-there
       ∙ rw (← ticket-there, ← d)
 
-  pub judging-on : (x : Bool) → x ≡ ltb (b .ticket) (s .ticket) && leb (s .ahead) span → x ≡ true → Judging t h i b → Judging t h (i + 1) s
+  pub judging-on : (x : Bool) → x ≡ ltb (b .ticket .0) (s .ticket .0) && leb (s .ahead) span → x ≡ true → Judging t h i b → Judging t h (i + 1) s
   judging-on x p q j = record { by = omega (arith, o); rest = judging-row j ∙ rw (sym p ∙ q) }
 
-  pub judging-off : (x : Bool) → x ≡ ltb (b .ticket) (s .ticket) && leb (s .ahead) span → x ≡ false → Judging t h i b → false ≡ all-judged t h
+  pub judging-off : (x : Bool) → x ≡ ltb (b .ticket .0) (s .ticket .0) && leb (s .ahead) span → x ≡ false → Judging t h i b → false ≡ all-judged t h
   judging-off x p q j = sym (judging-row j ∙ rw (sym p ∙ q))
 
   -- its bucket, as the code finds it
@@ -131,13 +130,13 @@ module _ (t : List ℕ) (h : Head) (k : Rows-lent t h) (time : h .slot .0 ≤ h 
       ∙ field-drop (row-at i) due-at slot-bytes t
       ∙ sym (ap (λ (y : Row). y .due) (at-held t i (omega (arith, o, k .head .used))))
 
-  pub bucket-there : (x : Bool) (top c : ℕ) → x ≡ ltb (b .ticket) (s .ticket) && leb (s .ahead) span → x ≡ true →
+  pub bucket-there : (x : Bool) (top c : ℕ) → x ≡ ltb (b .ticket .0) (s .ticket .0) && leb (s .ahead) span → x ≡ true →
       top ≡ min (h .used) (h .last .0 - h .slot .0) → c ≡ min (s .ahead) top → Bucket-at (round-in t) i c
   unfolding bucket
   bucket-there x top c p q m g =
       let n = round-is t h k in
       let due = field due-at slot-bytes (take row-size (drop (row-at i) t)) in
-      let f = and-true (ltb (b .ticket) (s .ticket)) (leb (s .ahead) span) (sym p ∙ q) .1 in
+      let f = and-true (ltb (b .ticket .0) (s .ticket .0)) (leb (s .ahead) span) (sym p ∙ q) .1 in
       let y = in-time (h .slot .0) (h .last .0) due (s .ahead) time (k .last) (seen-there .due) in
       let from = leb-true (h .slot .0) due (and-true (leb (h .slot .0) due) (leb due (h .last .0)) (sym y ∙ ap (leb (s .ahead)) (sym d) ∙ f) .0) in
       let u = seen-there .due .up from in
@@ -145,7 +144,7 @@ module _ (t : List ℕ) (h : Head) (k : Rows-lent t h) (time : h .slot .0 ≤ h 
       let ahead : s .ahead ≡ at (round-in t) i .due - round-in t .slot = u ∙ rw (due-there, n .slot) in
       record { is = g ∙ ap₂ min ahead last-bucket; by = at-most (s .ahead) top c (top-of (round-in t)) g last-bucket }
 
-pub judging-end : (t : List ℕ) (h : Head) (i : ℕ) (s : Seen) (x : Bool) → Judging t h i s → h .used ≤ i → x ≡ ltb (s .ticket) (h .next .0) && fair s →
+pub judging-end : (t : List ℕ) (h : Head) (i : ℕ) (s : Seen) (x : Bool) → Judging t h i s → h .used ≤ i → x ≡ ltb (s .ticket .0) (h .next .0) && fair s →
     x ≡ all-judged t h
 unfolding rows-judged
 judging-end t h i s x j o e =
@@ -183,7 +182,7 @@ say-none t h cs x l e =
 pub say-off : (t : List ℕ) (h : Head) (cs : List ℕ) → false ≡ all-judged t h → Rows-say t h cs false
 say-off t h cs e = record { judged = e; counted = λ f _. absurd (false≢true f) }
 
-pub say-all : (t : List ℕ) (h : Head) (i : ℕ) (s : Seen) (cs : List ℕ) (x : Bool) → Rows-lent t h → h .used ≤ i → x ≡ ltb (s .ticket) (h .next .0) && fair s →
+pub say-all : (t : List ℕ) (h : Head) (i : ℕ) (s : Seen) (cs : List ℕ) (x : Bool) → Rows-lent t h → h .used ≤ i → x ≡ ltb (s .ticket .0) (h .next .0) && fair s →
     Scanned t h i s cs → Rows-say t h cs x
 say-all t h i s cs x k o e z =
     record { judged = judging-end t h i s x (z .judging) o e; counted = λ _ _. counting-end t h i cs k (z .judging .by) o (z .counting) }

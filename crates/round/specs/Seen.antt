@@ -25,7 +25,7 @@ fair s = ltb (s .weights) most-weight && leb (s .plain) 1
 
 -- ONE ROW MORE: its ticket, its due slot, and whether weight, kind and zeros keep it fair
 pub record Sees (slot : ℕ) (before : Seen) (row : List ℕ) (s : Seen) : Type 0 where
-  pub ticket : s .ticket ≡ field ticket-at wide-bytes row
+  pub ticket : s .ticket .0 ≡ field ticket-at wide-bytes row
   pub due : Differs (field due-at slot-bytes row) slot (s .ahead)
   pub rest : fair s ≡ fair before && ((leb 1 (field weight-at wide-bytes row) && leb (field weight-at wide-bytes row) most-weight)
       && (leb (field kind-at kind-bytes row) 1 && zeros (drop row-zeros-at row)))

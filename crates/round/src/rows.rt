@@ -1,9 +1,9 @@
 // The used rows in turn: judged, and counted by bucket; and a row's bytes written.
 ghost use mathlib.Core.Path.{_≡_};
 ghost use Prim.Native.Nat.{_+_, _≤_};
-ghost use lib.ListN.{length, drop};
+ghost use lib.ListN.{length};
 ghost use lib.Seq.{sets};
-ghost use Rattle.rules.specs.Limits.{head-size, row-size, most-rows};
+ghost use Rattle.rules.specs.Limits.{row-size, most-rows};
 ghost use Rattle.rules.specs.Rows.{framed};
 ghost use Rattle.rules.specs.Conditions.{row-at};
 ghost use Rattle.round.specs.Numbers.{row-numbers};
@@ -35,14 +35,13 @@ pub fn rows_are_sound(table: &[u8], round: Round) -> bool
     requires { ⌜ Rows-lent (now table) round ⌝ }
     ensures { λ r. ⌜ r ≡ all-judged (now (table .entry)) round ⌝ }
 {
-    let slot = round.slot.0;
-    if round.last.0 < slot {
+    if round.last.0 < round.slot.0 {
         return round.used == 0;
     }
-    let span = round.last.0 - slot;
+    let span = round.last.0 - round.slot.0;
     let used = round.used;
     let mut seen = Seen {
-        ticket: 0,
+        ticket: Ticket(0),
         ahead: 0,
         weights: 0,
         plain: 0,
@@ -52,7 +51,7 @@ pub fn rows_are_sound(table: &[u8], round: Round) -> bool
         let a = row_at(i);
         let e = a + Round::ROW_SIZE;
         let before = seen.ticket;
-        seen = see_row(&table[a..e], slot, seen);
+        seen = see_row(&table[a..e], round.slot, seen);
         if !row_follows(before, seen, span) {
             return false;
         }
@@ -66,15 +65,14 @@ pub fn rows_are_counted(table: &[u8], counts: &mut [u32], round: Round) -> bool
     requires { ⌜ Rows-lent (now table) round × Lent-counts (now table) (now counts) ⌝ }
     ensures { λ r. ⌜ Rows-say (now (table .entry)) round (now (counts .exit)) r ⌝ }
 {
-    let slot = round.slot.0;
-    if round.last.0 < slot {
+    if round.last.0 < round.slot.0 {
         return round.used == 0;
     }
-    let span = round.last.0 - slot;
+    let span = round.last.0 - round.slot.0;
     let top = top_of(round);
     let used = round.used;
     let mut seen = Seen {
-        ticket: 0,
+        ticket: Ticket(0),
         ahead: 0,
         weights: 0,
         plain: 0,
@@ -84,7 +82,7 @@ pub fn rows_are_counted(table: &[u8], counts: &mut [u32], round: Round) -> bool
         let a = row_at(i);
         let e = a + Round::ROW_SIZE;
         let before = seen.ticket;
-        seen = see_row(&table[a..e], slot, seen);
+        seen = see_row(&table[a..e], round.slot, seen);
         if !row_follows(before, seen, span) {
             return false;
         }

@@ -12,22 +12,22 @@ use Rattle.round.proofs.rows.rows_are_counted.Statement.{statement}
 use Rattle.round.proofs.rows.rows_are_counted.Tie as tie
 
 abbrev Inv-loop : tie.InvT-loop
-Inv-loop table counts₀ round slot span top used seen₀ i₀ counts seen i =
+Inv-loop table counts₀ round span top used seen₀ i₀ counts seen i =
     Scanned table round i seen counts × (length counts ≡ length counts₀)
 
 abbrev μ-loop : tie.MeasureT-loop
-μ-loop table counts₀ round slot span top used seen₀ i₀ counts seen i = used - i
+μ-loop table counts₀ round span top used seen₀ i₀ counts seen i = used - i
 
 -- the bucket of row i, and the room for it
-bucket : (c : tie.After-cut Inv-loop μ-loop) → Bucket-at (round-in (c .before .before .before .before .before .before .before .before .before .before .before .before .before .before .before .args .table .now)) (c .before .before .before .before .before .before .before .before .loop .i) (c .cut .result)
+bucket : (c : tie.After-cut Inv-loop μ-loop) → Bucket-at (round-in (c .before .before .before .before .before .before .before .before .before .before .before .before .before .before .before .before .args .table .now)) (c .before .before .before .before .before .before .before .before .before .loop .i) (c .cut .result)
 bucket c =
-    bucket-there _ _ (c .before .before .before .before .before .before .before .before .before .before .before .before .before .before .before .pre .0) (c .before .before .before .before .before .before .before .before .before .before .before .if1 .left) _ _ _ (c .before .before .before .before .before .before .row-at .ensures) refl (c .before .before .before .before .before .before .before .loop-test .taken) _ _
+    bucket-there _ _ (c .before .before .before .before .before .before .before .before .before .before .before .before .before .before .before .before .pre .0) (c .before .before .before .before .before .before .before .before .before .before .before .before .if1 .left) _ _ _ (c .before .before .before .before .before .before .before .row-at .ensures) refl (c .before .before .before .before .before .before .before .before .loop-test .taken) _ _
     (c .before .before .before .before .see-row .ensures) _ _ _ (c .before .before .before .row-follows .ensures) (not-false _ (c .before .before .if2 .left))
-    (c .before .before .before .before .before .before .before .before .before .top-of .ensures) (c .cut .ensures)
+    (c .before .before .before .before .before .before .before .before .before .before .top-of .ensures) (c .cut .ensures)
 
-room : (c : tie.After-cut Inv-loop μ-loop) → (c .cut .result < length (c .before .before .before .before .before .before .before .before .loop .counts)) × (c .cut .result ≤ 1024)
-    × (getD (c .before .before .before .before .before .before .before .before .loop .counts) (c .cut .result) 0 ≤ 2097152)
-room c = scanned-room _ _ _ _ _ _ (c .before .before .before .before .before .before .before .before .before .before .before .before .before .before .before .pre .0) (bucket c) (c .before .before .before .before .before .before .before .before .loop .inv .0)
+room : (c : tie.After-cut Inv-loop μ-loop) → (c .cut .result < length (c .before .before .before .before .before .before .before .before .before .loop .counts)) × (c .cut .result ≤ 1024)
+    × (getD (c .before .before .before .before .before .before .before .before .before .loop .counts) (c .cut .result) 0 ≤ 2097152)
+room c = scanned-room _ _ _ _ _ _ (c .before .before .before .before .before .before .before .before .before .before .before .before .before .before .before .before .pre .0) (bucket c) (c .before .before .before .before .before .before .before .before .before .loop .inv .0)
 
 returns : tie.Need-returns Inv-loop μ-loop
 returns c = say-none _ _ _ _ (search needs) refl
@@ -51,21 +51,21 @@ part-see-row-start : tie.Need-part-see-row-start Inv-loop μ-loop
 part-see-row-start c = search needs
 
 part-see-row-end : tie.Need-part-see-row-end Inv-loop μ-loop
-part-see-row-end c = omega (arith, c .before .before .before .before .before .before .before .before .before .pre .0 .within)
+part-see-row-end c = omega (arith, c .before .before .before .before .before .before .before .before .before .before .pre .0 .within)
 
 see-row-requires : tie.Need-see-row-requires Inv-loop μ-loop
-see-row-requires c κs = lent-long _ _ _ _ (c .before .before .before .before .before .before .before .before .before .before .pre .0) (c .before .row-at .ensures) (c .before .before .loop-test .taken)
+see-row-requires c κs = lent-long _ _ _ _ (c .before .before .before .before .before .before .before .before .before .before .before .pre .0) (c .before .before .row-at .ensures) (c .before .before .before .loop-test .taken)
 
 row-follows-requires : tie.Need-row-follows-requires Inv-loop μ-loop
 row-follows-requires c κs = search needs
 
 same-length : tie.Need-same-length Inv-loop μ-loop
-same-length c = c .before .before .before .before .before .before .loop .inv .1
+same-length c = c .before .before .before .before .before .before .before .loop .inv .1
 
 returns-2 : tie.Need-returns-2 Inv-loop μ-loop
 returns-2 c = say-off _ _ _
-    (judging-off _ _ (c .before .before .before .before .before .before .before .before .before .before .before .before .before .pre .0) (search needs) _ _ _ (c .before .before .before .before .row-at .ensures) refl (search needs) _ _
-    (c .before .before .see-row .ensures) _ (c .before .row-follows .ensures) (not-true _ (c .if2 .taken)) (c .before .before .before .before .before .before .loop .inv .0 .judging))
+    (judging-off _ _ (c .before .before .before .before .before .before .before .before .before .before .before .before .before .before .pre .0) (search needs) _ _ _ (c .before .before .before .before .before .row-at .ensures) refl (search needs) _ _
+    (c .before .before .see-row .ensures) _ (c .before .row-follows .ensures) (not-true _ (c .if2 .taken)) (c .before .before .before .before .before .before .before .loop .inv .0 .judging))
 
 cast-cut : tie.Need-cast-cut Inv-loop μ-loop
 cast-cut c = search needs
@@ -92,16 +92,16 @@ add-i : tie.Need-add-i Inv-loop μ-loop
 add-i c = search needs
 
 loop-less : tie.Need-loop-less Inv-loop μ-loop
-loop-less c = fewer-left _ _ (c .before .before .before .before .before .before .before .before .loop-test .taken)
+loop-less c = fewer-left _ _ (c .before .before .before .before .before .before .before .before .before .loop-test .taken)
 
 loop-again : tie.Need-loop-again Inv-loop μ-loop
 loop-again c =
     let k = c .before in (
-      scanned-on _ _ _ _ _ _ _ (c .before .before .before .before .before .before .before .before .before .before .before .before .before .before .before .before .pre .0) (c .before .before .before .before .before .before .before .before .loop-test .taken)
-          (judging-on _ _ (c .before .before .before .before .before .before .before .before .before .before .before .before .before .before .before .before .pre .0) (c .before .before .before .before .before .before .before .before .before .before .before .before .if1 .left) _ _ _ (c .before .before .before .before .before .before .before .row-at .ensures) refl (c .before .before .before .before .before .before .before .before .loop-test .taken) _ _
-          (c .before .before .before .before .before .see-row .ensures) _ (c .before .before .before .before .row-follows .ensures) (not-false _ (c .before .before .before .if2 .left)) (c .before .before .before .before .before .before .before .before .before .loop .inv .0 .judging))
-          (bucket k) (c .before .before .before .before .before .before .before .before .before .loop .inv .0),
-      simp length-set (c .before .before .before .before .before .before .before .before .before .loop .inv .1),
+      scanned-on _ _ _ _ _ _ _ (c .before .before .before .before .before .before .before .before .before .before .before .before .before .before .before .before .before .pre .0) (c .before .before .before .before .before .before .before .before .before .loop-test .taken)
+          (judging-on _ _ (c .before .before .before .before .before .before .before .before .before .before .before .before .before .before .before .before .before .pre .0) (c .before .before .before .before .before .before .before .before .before .before .before .before .before .if1 .left) _ _ _ (c .before .before .before .before .before .before .before .before .row-at .ensures) refl (c .before .before .before .before .before .before .before .before .before .loop-test .taken) _ _
+          (c .before .before .before .before .before .see-row .ensures) _ (c .before .before .before .before .row-follows .ensures) (not-false _ (c .before .before .before .if2 .left)) (c .before .before .before .before .before .before .before .before .before .before .loop .inv .0 .judging))
+          (bucket k) (c .before .before .before .before .before .before .before .before .before .before .loop .inv .0),
+      simp length-set (c .before .before .before .before .before .before .before .before .before .before .loop .inv .1),
     )
 
 rows-pass-requires : tie.Need-rows-pass-requires Inv-loop μ-loop

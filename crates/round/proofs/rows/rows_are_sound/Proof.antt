@@ -9,10 +9,10 @@ use Rattle.round.proofs.rows.rows_are_sound.Statement.{statement}
 use Rattle.round.proofs.rows.rows_are_sound.Tie as tie
 
 abbrev Inv-loop : tie.InvT-loop
-Inv-loop table round slot span used seen₀ i₀ seen i = Judging table round i seen
+Inv-loop table round span used seen₀ i₀ seen i = Judging table round i seen
 
 abbrev μ-loop : tie.MeasureT-loop
-μ-loop table round slot span used seen₀ i₀ seen i = used - i
+μ-loop table round span used seen₀ i₀ seen i = used - i
 
 returns : tie.Need-returns Inv-loop μ-loop
 returns c = none-left _ _ _ 0 _ _ (search needs)
@@ -33,17 +33,17 @@ part-see-row-start : tie.Need-part-see-row-start Inv-loop μ-loop
 part-see-row-start c = search needs
 
 part-see-row-end : tie.Need-part-see-row-end Inv-loop μ-loop
-part-see-row-end c = omega (arith, c .before .before .before .before .before .before .before .pre .within)
+part-see-row-end c = omega (arith, c .before .before .before .before .before .before .before .before .pre .within)
 
 see-row-requires : tie.Need-see-row-requires Inv-loop μ-loop
-see-row-requires c κs = lent-long _ _ _ _ (c .before .before .before .before .before .before .before .before .pre) (c .before .row-at .ensures) (c .before .before .loop-test .taken)
+see-row-requires c κs = lent-long _ _ _ _ (c .before .before .before .before .before .before .before .before .before .pre) (c .before .before .row-at .ensures) (c .before .before .before .loop-test .taken)
 
 row-follows-requires : tie.Need-row-follows-requires Inv-loop μ-loop
 row-follows-requires c κs = search needs
 
 returns-2 : tie.Need-returns-2 Inv-loop μ-loop
-returns-2 c = judging-off _ _ (c .before .before .before .before .before .before .before .before .before .before .before .pre) (search needs) _ _ _ (c .before .before .before .before .row-at .ensures) refl (search needs) _ _
-    (c .before .before .see-row .ensures) _ (c .before .row-follows .ensures) (not-true _ (c .if2 .taken)) (c .before .before .before .before .before .before .loop .inv)
+returns-2 c = judging-off _ _ (c .before .before .before .before .before .before .before .before .before .before .before .before .pre) (search needs) _ _ _ (c .before .before .before .before .before .row-at .ensures) refl (search needs) _ _
+    (c .before .before .see-row .ensures) _ (c .before .row-follows .ensures) (not-true _ (c .if2 .taken)) (c .before .before .before .before .before .before .before .loop .inv)
 
 add-i : tie.Need-add-i Inv-loop μ-loop
 add-i c = search needs
@@ -52,8 +52,8 @@ loop-less : tie.Need-loop-less Inv-loop μ-loop
 loop-less c = search needs
 
 loop-again : tie.Need-loop-again Inv-loop μ-loop
-loop-again c = judging-on _ _ (c .before .before .before .before .before .before .before .before .before .before .before .pre) (search needs) _ _ _ (c .before .before .before .before .row-at .ensures) refl (search needs) _ _
-    (c .before .before .see-row .ensures) _ (c .before .row-follows .ensures) (not-false _ (c .if2 .left)) (c .before .before .before .before .before .before .loop .inv)
+loop-again c = judging-on _ _ (c .before .before .before .before .before .before .before .before .before .before .before .before .pre) (search needs) _ _ _ (c .before .before .before .before .before .row-at .ensures) refl (search needs) _ _
+    (c .before .before .see-row .ensures) _ (c .before .row-follows .ensures) (not-false _ (c .if2 .left)) (c .before .before .before .before .before .before .before .loop .inv)
 
 rows-pass-requires : tie.Need-rows-pass-requires Inv-loop μ-loop
 rows-pass-requires c κs = search needs

@@ -30,9 +30,10 @@ less-requires-2 c κs = search needs
 
 returns : tie.Need-returns
 returns c =
-    row-seen _ _ _ _ _ _ _ _ _ _ (c .before .before .before .before .before .before .before .before .before .before .pre) (c .before .before .before .before .before .before .before .before .read8 .ensures) (c .before .before .before .before .before .before .before .read82 .ensures)
-    (c .before .before .before .before .before .before .read4 .ensures) (c .before .before .before .before .before .read2 .ensures) (c .before .before .before .before .less .ensures)
-    (c .before .before .before .read42 .ensures) (c .before .before .less2 .ensures)
+    row-seen _ _ _ _ (c .before .before .before .before .before .before .before .before .read8 .result) (c .before .before .before .before .before .before .before .read82 .result)
+    (c .before .before .before .before .before .read2 .result) (c .before .before .before .read42 .result) (c .before .before .less2 .result)
+    (c .before .before .before .before .before .before .before .before .before .before .pre) (search needs) (search needs) (search needs) (search needs) (search needs) (search needs)
+    (search needs) (search needs) (search needs)
 
 pub see-row-spec : {M : Type 1} → statement M
 see-row-spec =

@@ -8,7 +8,7 @@ use borrow.Author.Tests.{not-true, not-false}
 use Rattle.rules.specs.Conditions.{Bytes, row-at}
 use Rattle.rules.specs.Table.{length-good}
 use Rattle.theory.specs.Judge.{zeros}
-use Rattle.round.proofs.JudgeLaws.{good-long, Head-sound, Rows-fit, rows-fit, refused-2, head-refused, rows-refused, unused-refused, judge-accepts}
+use Rattle.round.proofs.JudgeLaws.{good-long, Head-sound, rows-fit, refused-2, head-refused, rows-refused, unused-refused, judge-accepts}
 use Rattle.round.proofs.sound.judge.Statement.{statement}
 use Rattle.round.proofs.sound.judge.Tie as tie
 

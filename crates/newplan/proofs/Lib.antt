@@ -3,3 +3,4 @@ pub mod StepLaws
 pub mod SweepLaws
 pub mod GoingLaws
 pub mod LeaveLaws
+pub mod SortLaws

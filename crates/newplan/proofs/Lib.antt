@@ -4,3 +4,5 @@ pub mod SweepLaws
 pub mod GoingLaws
 pub mod LeaveLaws
 pub mod SortLaws
+pub mod QueueLaws
+pub mod ChosenLaws

@@ -6,3 +6,4 @@ pub mod LeaveLaws
 pub mod SortLaws
 pub mod QueueLaws
 pub mod ChosenLaws
+pub mod PlanLaws

@@ -139,18 +139,21 @@ module _ (t cs ks fs hs : List ℕ) (h : Head) (x : Reach) (L : Lent t cs ks fs 
     crowd slot e =
         let k = known t h (L .ready) in
         let z : slot ≡ round-in t .slot = e ∙ k .slot in
-        rw z (record {
-          queue = queue r (k .fine) (k .small) (k .cap) (x .free) us sorted (x .free + x .over) many-near;
-          some = L .some;
-          rows = λ q a.
-              omega (
-                arith,
-                row-on-is r (k .fine) (k .small) (k .cap) (x .free) us sorted (x .free + x .over) many-near q a,
-                in-rows r (k .fine) (k .small) (k .cap) (x .free) us sorted (x .free + x .over) many-near q a,
-                flags-long,
-              );
-          flags = L .flags ∙ ap (λ (v : ℕ). replicate v 1) (k .used ∙ sym flags-long);
-        }, record { none = L .heap; room = omega (arith, many-near, few, L .room, k .used) })
+        rw z (
+          record {
+            queue = queue r (k .fine) (k .small) (k .cap) (x .free) us sorted (x .free + x .over) many-near;
+            some = L .some;
+            rows = λ q a.
+                omega (
+                  arith,
+                  row-on-is r (k .fine) (k .small) (k .cap) (x .free) us sorted (x .free + x .over) many-near q a,
+                  in-rows r (k .fine) (k .small) (k .cap) (x .free) us sorted (x .free + x .over) many-near q a,
+                  flags-long,
+                );
+            flags = L .flags ∙ ap (λ (v : ℕ). replicate v 1) (k .used ∙ sym flags-long);
+          },
+          record { none = L .heap; room = omega (arith, many-near, few, L .room, k .used) },
+        )
 
     -- AND ARE LEFT OUT
     pub plans : (gs es : List ℕ) (slot m lost : ℕ) (p : Planned) → slot ≡ h .slot .0 → length gs ≡ length fs → Parted us gs slot (x .free) (x .over) lost →

@@ -1,8 +1,10 @@
 // The plan of a sound table that leaves rows out: the near rows in due order, and a flag for each row of the plan.
 ghost use Rattle.rules.specs.Table.{round-in};
 ghost use Rattle.newplan.specs.Plans.{Lent, Plans};
+
 mod sort; // sort.rt: the near rows by due slot
 mod leave; // leave.rt: who is left out
+
 use buckets::Reach;
 use leave::leave_out;
 use sort::sort;

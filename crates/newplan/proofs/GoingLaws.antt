@@ -118,7 +118,7 @@ module _ (ks hs gs : List ℕ) (slot free over p count w : ℕ) (Q : Queue ks sl
     lighter u out z L a b j c d n = elim (ltb? (key-on ks j) (key-on ks z)) [
       | inl y ↦ y .1
       | inr y ↦ absurd (n (keys-differ ks slot free (free + over) Q j z (omega (arith, c, here)) (omega (arith, a, here))
-      (omega (arith, y .1, b, at-most))))
+          (omega (arith, y .1, b, at-most))))
     ]
       where
         at-most : key-on ks j ≤ out
@@ -378,7 +378,7 @@ module _ (ks gs : List ℕ) (slot free over c top : ℕ) (C : Crowd ks gs slot f
             (λ j h d n. elim (ltb? (key-on ks j) (key-on ks (G .place))) [
               | inl y ↦ y .1
               | inr y ↦ absurd (n (keys-differ ks slot free (free + over) (C .queue) j (G .place) (omega (arith, h, in-c)) in-z
-              (omega (arith, y .1, G .is, G .most j (omega (arith, h))))))
+                  (omega (arith, y .1, G .is, G .most j (omega (arith, h))))))
             ]);
         left = omega (arith, one);
       })

@@ -80,6 +80,14 @@ tally-le f g κ (suc n) h = elim (either (κ n)) [
   | inr a ↦ omega (arith, part-no f κ n a, tally-le f g κ n (λ j k. h j (omega (arith, k))))
 ]
 
+pub tally-nothing : (f : ℕ → ℕ) (κ : ℕ → Bool) (n : ℕ) → ((j : ℕ) → j < n → κ j ≡ true → f j ≡ 0) → tally f κ n ≡ 0
+unfolding tally
+tally-nothing f κ zero h = refl
+tally-nothing f κ (suc n) h = elim (either (κ n)) [
+  | inl a ↦ omega (arith, h n (omega arith) a, part-yes f κ n a, tally-nothing f κ n (λ j k. h j (omega (arith, k))))
+  | inr a ↦ omega (arith, part-no f κ n a, tally-nothing f κ n (λ j k. h j (omega (arith, k))))
+]
+
 pub tally-most : (f : ℕ → ℕ) (κ : ℕ → Bool) (n : ℕ) → ((j : ℕ) → f j ≤ 16777217) → tally f κ n ≤ n * 16777217
 unfolding tally
 tally-most f κ zero h = omega arith

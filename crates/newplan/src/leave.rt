@@ -82,7 +82,14 @@ fn leaver(heap: &mut [u64], size: usize, key: u64) -> u64
 }
 
 // Over rows leave: as many places are passed as are kept, and over more.
-fn leave_some(keys: &[u64], flags: &mut [u8], heap: &mut [u64], slot: u32, reach: Reach, first: usize) -> u64
+fn leave_some(
+    keys: &[u64],
+    flags: &mut [u8],
+    heap: &mut [u64],
+    slot: u32,
+    reach: Reach,
+    first: usize,
+) -> u64
     requires { ⌜ Crowd (now keys) (now flags) slot (reach .free) (reach .over) × Empty-heap (now heap) (reach .free + reach .over) × First-crowded (now keys) slot first ⌝ }
     ensures { λ r. ⌜ Parted (now (keys .entry)) (now (flags .exit)) slot (reach .free) (reach .over) r ⌝ }
 {

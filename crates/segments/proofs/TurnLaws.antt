@@ -30,9 +30,9 @@ bounds ks fs many slot n es ts ls w =
       there = omega (arith, g .all, g .sorted .enough);
     }
 
-pub passing-first : (ks fs : List ℕ) (many slot n : ℕ) (es ts ls : List ℕ) (l : Lead) → l .count ≡ 0 → l .score ≡ 0 →
-    Passing ks fs many slot n es ts ls l (slot + n - 1) blank-key 0 blank-key n many
-passing-first ks fs many slot n es ts ls l c s r g = pass-first r ks fs many slot n g es ts ls l c s
+pub passing-first : (ks fs : List ℕ) (many slot n : ℕ) (es ts ls : List ℕ) (l : Lead) (end kept : ℕ) → l .count ≡ 0 → l .score ≡ 0 →
+    end ≡ slot + n - 1 → kept ≡ n → Passing ks fs many slot n es ts ls l end blank-key 0 blank-key kept many
+passing-first ks fs many slot n es ts ls l end kept c s e k r g = rw (e, k) (pass-first r ks fs many slot n g es ts ls l c s)
 
 -- WHERE THE WAYS MEET: no new segment at the next place, and the arrays are as long as at first
 pub record Goes (ks fs : List ℕ) (many slot n : ℕ) (es₀ ts₀ ls₀ es ts ls : List ℕ) (l : Lead) (end heavy light out kept p : ℕ) : Type 0 where
@@ -126,10 +126,10 @@ module _ (ks fs : List ℕ) (many slot n : ℕ) (es₀ ts₀ ls₀ : List ℕ) (
 module _ (ks fs : List ℕ) (many slot n : ℕ) (es₀ ts₀ ls₀ es ts ls : List ℕ) (l : Lead) (end heavy light out kept i : ℕ)
     (w : Goes ks fs many slot n es₀ ts₀ ls₀ es ts ls l end heavy light out kept (i - 1)) (key row : ℕ) (k : key ≡ getD ks (i - 1) 0)
     (j : row ≡ key % 1024) where
-  pub kept-further : getD fs row 0 ≡ 1 → (heavy' light' : ℕ) → heavy' ≡ min heavy key → light' ≡ max light key →
-      Passing ks fs many slot n es ts ls l end heavy' light' out (kept - 1) (i - 1)
-  kept-further y heavy' light' e₁ e₂ =
-      rw (e₁, e₂) (passing-kept ks fs many slot n es ts ls l end heavy light out kept i (w .meeting) key row (getD fs row 0) k j refl y)
+  pub kept-further : getD fs row 0 ≡ 1 → (heavy' light' kept' : ℕ) → heavy' ≡ min heavy key → light' ≡ max light key → kept' ≡ kept - 1 →
+      Passing ks fs many slot n es ts ls l end heavy' light' out kept' (i - 1)
+  kept-further y heavy' light' kept' e₁ e₂ e₃ =
+      rw (e₁, e₂, e₃) (passing-kept ks fs many slot n es ts ls l end heavy light out kept i (w .meeting) key row (getD fs row 0) k j refl y)
 
   pub left-further : (getD fs row 0 ≡ 1 → ⊥) → (out' : ℕ) → out' ≡ min out key → Passing ks fs many slot n es ts ls l end heavy light out' kept (i - 1)
   left-further y out' e = rw (e) (passing-left ks fs many slot n es ts ls l end heavy light out kept i (w .meeting) key row (getD fs row 0) k j refl y)

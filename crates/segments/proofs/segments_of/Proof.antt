@@ -1,6 +1,6 @@
 -- `segments::segments_of` meets its contract. The invariant: the segments behind the open one, and what is seen of that, of whatever round is given.
 use borrow.Author.Needs.{needs}
-use mathlib.Core.Path.{_≡_, refl, sym, ap, _∙_}
+use mathlib.Core.Path.{_≡_, refl, sym, _∙_}
 use mathlib.Core.Logic.{⊎-elim}
 use Prim.Native.Nat.{_-_}
 use native.Mathlib.Omega.{arith}
@@ -33,7 +33,8 @@ goes c =
     ⊎-elim
     (λ w. goes-new (s .keys .now) (s .flags .now) (s .many) (s .slot) (s .free) (s .ends .now) (s .tops .now) (s .lows .now) p (v .ends) (v .tops) (v .lows) (v .lead) (v .end) (v .heavy) (v .light) (v .out) (v .kept) (v .i) (v .inv .0) (v .inv .1) (v .inv .2) (v .inv .3) (c .before .before .before .before .loop-test .taken) (d .result) (d .ensures)
     (u .ends) (u .tops) (u .lows) (u .lead) (u .end) (u .heavy) (u .light) (sym (c .before .ends-here .ensures) ∙ w .0 .taken)
-    (w .11 ∙ w .4 .ensures .1) (w .12 ∙ w .4 .ensures .2) (w .13 ∙ w .4 .ensures .3) (w .14 ∙ w .4 .ensures .0) (w .15) (w .16) (w .17))
+    (cc (w .11, w .4 .ensures .1)) (cc (w .12, w .4 .ensures .2)) (cc (w .13, w .4 .ensures .3)) (cc (w .14, w .4 .ensures .0))
+    (omega (arith, w .15)) (omega (arith, w .16)) (omega (arith, w .17)))
     (λ w. goes-on (s .keys .now) (s .flags .now) (s .many) (s .slot) (s .free) (s .ends .now) (s .tops .now) (s .lows .now) p (v .ends) (v .tops) (v .lows) (v .lead) (v .end) (v .heavy) (v .light) (v .out) (v .kept) (v .i) (v .inv .0) (v .inv .1) (v .inv .2) (v .inv .3) (c .before .before .before .before .loop-test .taken) (d .result) (d .ensures)
     (u .ends) (u .tops) (u .lows) (u .lead) (u .end) (u .heavy) (u .light) (sym (c .before .ends-here .ensures) ∙ w .0 .left)
     (w .1) (w .2) (w .3) (w .4) (w .5) (w .6) (w .7))
@@ -60,7 +61,7 @@ sub-end c =
 loop-holds : tie.Need-loop-holds Inv-loop μ-loop
 loop-holds c =
     let s = c .before .before .before .before .before .args in
-    (passing-first (s .keys .now) (s .flags .now) (s .many) (s .slot) (s .free) (s .ends .now) (s .tops .now) (s .lows .now) _ refl refl, refl, refl, refl)
+    (passing-first (s .keys .now) (s .flags .now) (s .many) (s .slot) (s .free) (s .ends .now) (s .tops .now) (s .lows .now) _ _ _ refl refl (omega arith) (omega arith), refl, refl, refl)
 
 sub-i : tie.Need-sub-i Inv-loop μ-loop
 sub-i c = search needs
@@ -100,8 +101,14 @@ close-segment-requires c κs =
     let s = c .before .before .before .before .before .before .before .before .before .before .before .before .before .before .args in
     let p = c .before .before .before .before .before .before .before .before .before .before .before .before .before .before .pre in
     let v = c .before .before .before .before .before .before .before .before .loop in
-    let k = roomy (s .keys .now) (s .flags .now) (s .many) (s .slot) (s .free) (s .ends .now) (s .tops .now) (s .lows .now) p (v .ends) (v .tops) (v .lows) (v .lead) (v .end) (v .heavy) (v .light) (v .out) (v .kept) (v .i) (v .inv .0) (v .inv .1) (v .inv .2) (v .inv .3) in
-    (k .ends, k .tops, k .lows, k .heavies, k .lights, k .outs)
+    let k = roomy (s .keys .now) (s .flags .now) (s .many) (s .slot) (s .free) (s .ends .now) (s .tops .now) (s .lows .now) p (v .ends) (v .tops) (v .lows) (v .lead) (v .end) (v .heavy) (v .light) (v .out) (v .kept) (v .i) (v .inv .0) (v .inv .1) (v .inv .2) (v .inv .3) in (
+      k .ends,
+      k .tops,
+      k .lows,
+      omega (arith, k .heavies, k .lights, k .outs),
+      omega (arith, k .heavies, k .lights, k .outs),
+      omega (arith, k .heavies, k .lights, k .outs),
+    )
 
 row-of-requires : tie.Need-row-of-requires Inv-loop μ-loop
 row-of-requires c κs = search needs
@@ -125,8 +132,9 @@ sub-kept c =
     let p = c .before .before .before .before .before .before .before .before .before .before .before .before .before .before .before .before .pre in
     let v = c .before .before .before .before .before .before .before .before .before .before .loop in
     let u = c .before .before .before .before .before .if1 in
-    some-further (s .keys .now) (s .flags .now) (s .many) (s .slot) (s .free) (s .ends .now) (s .tops .now) (s .lows .now) (u .ends) (u .tops) (u .lows) (u .lead) (u .end) (u .heavy) (u .light) (v .out) (v .kept) (v .i)
-    (goes (c .before .before .before .before .before)) _ (c .before .before .before .before .row-of .result) refl (c .before .before .before .before .row-of .ensures) p (c .before .before .if2 .taken)
+    let k = some-further (s .keys .now) (s .flags .now) (s .many) (s .slot) (s .free) (s .ends .now) (s .tops .now) (s .lows .now) (u .ends) (u .tops) (u .lows) (u .lead) (u .end) (u .heavy) (u .light) (v .out) (v .kept) (v .i)
+    (goes (c .before .before .before .before .before)) _ (c .before .before .before .before .row-of .result) refl (c .before .before .before .before .row-of .ensures) p (c .before .before .if2 .taken) in
+    omega (arith, k)
 
 loop-less : tie.Need-loop-less Inv-loop μ-loop
 loop-less c = search needs
@@ -140,7 +148,8 @@ loop-again c =
     let g = goes (c .before .before .before .before .before) in (
       kept-further (s .keys .now) (s .flags .now) (s .many) (s .slot) (s .free) (s .ends .now) (s .tops .now) (s .lows .now) (u .ends) (u .tops) (u .lows) (u .lead) (u .end) (u .heavy) (u .light) (v .out) (v .kept) (v .i)
           (goes (c .before .before .before .before .before)) _ (c .before .before .before .before .row-of .result) refl (c .before .before .before .before .row-of .ensures)
-          (c .before .before .if2 .taken) (c .before .lesser .result) (c .larger .result) (c .before .lesser .ensures) (c .larger .ensures),
+          (c .before .before .if2 .taken) (c .before .lesser .result) (c .larger .result) _ (omega (arith, c .before .lesser .ensures)) (omega (arith, c .larger .ensures))
+          (omega arith),
       g .ends,
       g .tops,
       g .lows,
@@ -161,7 +170,7 @@ loop-again-2 c =
     let g = goes (c .before .before .before .before) in (
       left-further (s .keys .now) (s .flags .now) (s .many) (s .slot) (s .free) (s .ends .now) (s .tops .now) (s .lows .now) (u .ends) (u .tops) (u .lows) (u .lead) (u .end) (u .heavy) (u .light) (v .out) (v .kept) (v .i)
           (goes (c .before .before .before .before)) _ (c .before .before .before .row-of .result) refl (c .before .before .before .row-of .ensures)
-          (c .before .if2 .left) (c .lesser2 .result) (c .lesser2 .ensures),
+          (c .before .if2 .left) (c .lesser2 .result) (omega (arith, c .lesser2 .ensures)),
       g .ends,
       g .tops,
       g .lows,
@@ -172,8 +181,14 @@ close-segment-requires-2 c κs =
     let s = c .before .before .before .before .before .before .before .before .before .before .args in
     let p = c .before .before .before .before .before .before .before .before .before .before .pre in
     let v = c .before .before .before .before .loop in
-    let k = roomy (s .keys .now) (s .flags .now) (s .many) (s .slot) (s .free) (s .ends .now) (s .tops .now) (s .lows .now) p (v .ends) (v .tops) (v .lows) (v .lead) (v .end) (v .heavy) (v .light) (v .out) (v .kept) (v .i) (v .inv .0) (v .inv .1) (v .inv .2) (v .inv .3) in
-    (k .ends, k .tops, k .lows, k .heavies, k .lights, k .lights)
+    let k = roomy (s .keys .now) (s .flags .now) (s .many) (s .slot) (s .free) (s .ends .now) (s .tops .now) (s .lows .now) p (v .ends) (v .tops) (v .lows) (v .lead) (v .end) (v .heavy) (v .light) (v .out) (v .kept) (v .i) (v .inv .0) (v .inv .1) (v .inv .2) (v .inv .3) in (
+      k .ends,
+      k .tops,
+      k .lows,
+      omega (arith, k .heavies, k .lights, k .outs),
+      omega (arith, k .heavies, k .lights, k .outs),
+      omega (arith, k .heavies, k .lights, k .outs),
+    )
 
 same-length : tie.Need-same-length Inv-loop μ-loop
 same-length c = search (needs, c .before .before .before .before .before .before .close-segment2 .kept .0, c .before .before .before .before .before .before .before .before .before .before .before .loop .inv .1)
@@ -191,8 +206,8 @@ returns c =
     let v = c .before .before .before .before .before .before .before .before .before .before .before .loop in
     let d = c .before .before .before .before .before .before .close-segment2 in
     let t = c .before .before .before .before .before .before .before .before .before .before .loop-test .left in
-    says (s .keys .now) (s .flags .now) (s .many) (s .slot) (s .free) (s .ends .now) (s .tops .now) (s .lows .now) p (v .ends) (v .tops) (v .lows) (v .lead) (v .end) (v .heavy) (v .light) (v .out) (v .kept) (v .i) (v .inv .0) (v .inv .1) (v .inv .2) (v .inv .3) (omega (arith, t)) _ _ _ (d .result) (d .ensures .0) (d .ensures .1) (d .ensures .2)
-    (d .ensures .3)
+    says (s .keys .now) (s .flags .now) (s .many) (s .slot) (s .free) (s .ends .now) (s .tops .now) (s .lows .now) p (v .ends) (v .tops) (v .lows) (v .lead) (v .end) (v .heavy) (v .light) (v .out) (v .kept) (v .i) (v .inv .0) (v .inv .1) (v .inv .2) (v .inv .3) (omega (arith, t)) _ _ _ (d .result) (cc (d .ensures .0)) (cc (d .ensures .1)) (cc (d .ensures .2))
+    (cc (d .ensures .3))
 
 pub segments-of-spec : {M : Type 1} → statement M
 segments-of-spec =

@@ -1,33 +1,31 @@
 -- The pass: the open segment and those behind it, of whatever round is given.
 use mathlib.Core.Path.{_≡_, refl, sym, ap, _∙_, subst}
-use mathlib.Core.Logic.{_⊎_, inl, inr}
-use mathlib.Core.Bool.{true, false, true≢false, false≢true}
+use mathlib.Core.Logic.{inl, inr}
+use mathlib.Core.Bool.{true, false, false≢true}
 use mathlib.Core.List.{List, []}
-use Prim.Native.Nat.{ℕ, zero, suc, _+_, _-_, _/_, _%_, _≤_, _<_, min, max}
+use Prim.Native.Nat.{ℕ, suc, _+_, _-_, _/_, _%_, _≤_, _<_, min, max}
 use native.Mathlib.Omega.{arith}
 use lib.ListN.{length, getD, set, length-set}
 use borrow.Author.Tests.{ltb-true, ltb-false}
-use Rattle.rules.specs.Rows.{Row, Round, All}
-use Rattle.theory.specs.Tests.{eqb?, ltb?}
+use Rattle.rules.specs.Rows.{Row, Round}
+use Rattle.theory.specs.Tests.{eqb?}
 use Rattle.theory.specs.All.{all-of-in}
-use Rattle.theory.specs.Feas.{num, num-none}
+use Rattle.theory.specs.Feas.{num-none}
 use Rattle.theory.specs.Members.{of-rows-fine}
 use Rattle.theory.specs.Flags.{with-flag}
-use Rattle.keys.specs.Key.{blank-key, key-at}
+use Rattle.keys.specs.Key.{blank-key}
 use Rattle.keys.specs.KeyLaws.{some-key}
 use Rattle.keys.specs.Sorted.{many-due, placed}
 use Rattle.keys.specs.DueOrder.{placed-row, placed-rises}
-use Rattle.picture.specs.Picture.{Segment}
 use Rattle.picture.specs.Substitutes.{stand-in, stand-in-first, stand-in-later}
 use Rattle.picture.specs.Own.{Drawn-own}
 use Rattle.picture.specs.OwnPick.{own-long}
-use Rattle.segments.specs.Given.{Given, Lent}
-use Rattle.segments.specs.Segmented.{Keyed, Named, Leader, Segmented, Segments-say, ends-here, weight-in, closed}
+use Rattle.segments.specs.Given.{Given}
+use Rattle.segments.specs.Segmented.{Keyed, Named, Segmented, ends-here, weight-in, closed}
 use Rattle.segments.specs.declared.Lead.{Lead}
 use Rattle.segments.proofs.CountLaws.{kept-next, flag-yes}
 use Rattle.segments.proofs.PlaceLaws.{due-at, rows-of-it, key-there, due-told, row-told}
-use Rattle.segments.proofs.LeastLaws.{Least, Greatest}
-use Rattle.segments.proofs.OpenLaws.{Open, Settled, key-of, Inside, Left, open-start, open-next, open-kept, open-left, ends-full, later-due}
+use Rattle.segments.proofs.OpenLaws.{Open, Settled, key-of, open-start, open-next, open-kept, open-left, ends-full, later-due}
 use Rattle.segments.proofs.MadeLaws.{Begins, Made, made}
 use Rattle.segments.proofs.BehindLaws.{Behind, behind-next, closed-count}
 

@@ -1,16 +1,15 @@
 -- A turn of the pass and its end, as the code asks for them.
-use mathlib.Core.Path.{_≡_, refl, sym, ap, _∙_, subst}
+use mathlib.Core.Path.{_≡_, refl, ap, _∙_, subst}
 use mathlib.Core.Bool.{true, false}
 use mathlib.Core.List.{List}
-use Prim.Native.Nat.{ℕ, zero, suc, _+_, _-_, _/_, _%_, _≤_, _<_, min, max}
+use Prim.Native.Nat.{ℕ, _+_, _-_, _/_, _%_, _≤_, _<_, min, max}
 use native.Mathlib.Omega.{arith}
 use lib.ListN.{length, getD, set, length-set}
-use Rattle.rules.specs.Rows.{Round}
 use Rattle.keys.specs.Key.{blank-key}
-use Rattle.keys.specs.Sorted.{many-due, placed}
+use Rattle.keys.specs.Sorted.{many-due}
 use Rattle.keys.specs.DueOrder.{placed-row}
-use Rattle.segments.specs.Given.{Given, Lent}
-use Rattle.segments.specs.Segmented.{Segmented, Segments-say, ends-here, weight-in, closed}
+use Rattle.segments.specs.Given.{Lent}
+use Rattle.segments.specs.Segmented.{Segments-say, ends-here, weight-in, closed}
 use Rattle.segments.specs.declared.Lead.{Lead}
 use Rattle.segments.proofs.PlaceLaws.{due-told, row-told}
 use Rattle.segments.proofs.PassLaws.{Pass, Passing, Meeting, pass-first, pass-last, room, fair-keys, passing-on, passing-new, passing-kept, passing-left, passing-some}

@@ -6,9 +6,8 @@ use native.Mathlib.Omega.{arith}
 use lib.ListN.{length}
 use Rattle.rules.specs.Rows.{Row, Round}
 use Rattle.rules.specs.Table.{round-in}
-use Rattle.theory.specs.Feas.{num, below-1}
+use Rattle.theory.specs.Feas.{below, num, below-1}
 use Rattle.theory.specs.Near.{Near, near-edge, rows-le}
-use Rattle.theory.specs.Feas.{below}
 use Rattle.theory.specs.Flags.{Chosen, with-flag}
 use Rattle.round.specs.Rows.{Ready}
 use Rattle.round.proofs.ReadLaws.{known}

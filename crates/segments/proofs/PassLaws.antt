@@ -205,25 +205,26 @@ module _ (ks fs : List ℕ) (many slot n : ℕ) (es ts ls : List ℕ) (l : Lead)
         | inr a ↦ (a .1, ltb-true (due - slot) kept (rw (a .0) at t))
       ]
 
-  -- the next place, in the plan or left out
-  module _ (w : Meeting ks fs many slot n es ts ls l end heavy light out kept (i - 1)) (key row flag : ℕ) (k : key ≡ getD ks (i - 1) 0)
-      (j : row ≡ key % 1024) (f : flag ≡ getD fs row 0) where
-    its-row : (r : Round) (g : Given r ks fs many slot n) → flag ≡ getD fs (placed r n (i - 1)) 0
-    its-row r g =
-        f ∙ ap (λ (v : ℕ). getD fs v 0) (j ∙ ap (λ (v : ℕ). v % 1024) k ∙ row-told r ks fs many slot n g (i - 1) (w r g .pass .now .seen))
+-- THE NEXT PLACE, in the plan or left out
+module _ (ks fs : List ℕ) (many slot n : ℕ) (es ts ls : List ℕ) (l : Lead) (end heavy light out kept p : ℕ)
+    (w : Meeting ks fs many slot n es ts ls l end heavy light out kept p) (key row flag : ℕ) (k : key ≡ getD ks p 0)
+    (j : row ≡ key % 1024) (f : flag ≡ getD fs row 0) where
+  its-row : (r : Round) (g : Given r ks fs many slot n) → flag ≡ getD fs (placed r n p) 0
+  its-row r g =
+      f ∙ ap (λ (v : ℕ). getD fs v 0) (j ∙ ap (λ (v : ℕ). v % 1024) k ∙ row-told r ks fs many slot n g p (w r g .pass .now .seen))
 
-    its-key : (r : Round) (g : Given r ks fs many slot n) → key-of r n (i - 1) ≡ key
-    its-key r g = sym (k ∙ key-there r ks fs many slot n g (i - 1) (w r g .pass .now .seen))
+  its-key : (r : Round) (g : Given r ks fs many slot n) → key-of r n p ≡ key
+  its-key r g = sym (k ∙ key-there r ks fs many slot n g p (w r g .pass .now .seen))
 
-    pub passing-kept : flag ≡ 1 → Passing ks fs many slot n es ts ls l end (min heavy key) (max light key) out (kept - 1) (i - 1)
-    passing-kept y r g =
-        subst (λ v. Pass r fs n es ts ls l end (min heavy v) (max light v) out (kept - 1) (i - 1)) (its-key r g)
-        (met-kept r ks fs many slot n g es ts ls l end heavy light out kept (i - 1) (w r g) (sym (its-row r g) ∙ y))
+  pub passing-kept : flag ≡ 1 → Passing ks fs many slot n es ts ls l end (min heavy key) (max light key) out (kept - 1) p
+  passing-kept y r g =
+      subst (λ v. Pass r fs n es ts ls l end (min heavy v) (max light v) out (kept - 1) p) (its-key r g)
+      (met-kept r ks fs many slot n g es ts ls l end heavy light out kept p (w r g) (sym (its-row r g) ∙ y))
 
-    pub passing-left : (flag ≡ 1 → ⊥) → Passing ks fs many slot n es ts ls l end heavy light (min out key) kept (i - 1)
-    passing-left y r g =
-        subst (λ v. Pass r fs n es ts ls l end heavy light (min out v) kept (i - 1)) (its-key r g)
-        (met-left r ks fs many slot n g es ts ls l end heavy light out kept (i - 1) (w r g) (λ e. y (its-row r g ∙ e)))
+  pub passing-left : (flag ≡ 1 → ⊥) → Passing ks fs many slot n es ts ls l end heavy light (min out key) kept p
+  passing-left y r g =
+      subst (λ v. Pass r fs n es ts ls l end heavy light (min out v) kept p) (its-key r g)
+      (met-left r ks fs many slot n g es ts ls l end heavy light out kept p (w r g) (λ e. y (its-row r g ∙ e)))
 
-    pub passing-some : (r : Round) → Given r ks fs many slot n → flag ≡ 1 → 1 ≤ kept
-    passing-some r g y = some-kept r ks fs many slot n g es ts ls l end heavy light out kept (i - 1) (w r g) (sym (its-row r g) ∙ y)
+  pub passing-some : (r : Round) → Given r ks fs many slot n → flag ≡ 1 → 1 ≤ kept
+  passing-some r g y = some-kept r ks fs many slot n g es ts ls l end heavy light out kept p (w r g) (sym (its-row r g) ∙ y)

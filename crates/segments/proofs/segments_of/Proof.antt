@@ -23,7 +23,8 @@ goes : (c : tie.Joined1 Inv-loop μ-loop) →
     let s = c .before .before .before .before .before .before .before .before .before .before .before .args in
     let v = c .before .before .before .before .before .loop in
     let u = c .if1 in
-    Goes (s .keys .now) (s .flags .now) (s .many) (s .slot) (s .free) (s .ends .now) (s .tops .now) (s .lows .now) (u .ends) (u .tops) (u .lows) (u .lead) (u .end) (u .heavy) (u .light) (v .out) (v .kept) (v .i - 1)
+    Goes (s .keys .now) (s .flags .now) (s .many) (s .slot) (s .free) (s .ends .now) (s .tops .now) (s .lows .now) (u .ends) (u .tops) (u .lows)
+    (u .lead) (u .end) (u .heavy) (u .light) (v .out) (v .kept) (v .i - 1)
 goes c =
     let p = c .before .before .before .before .before .before .before .before .before .before .before .pre in
     let v = c .before .before .before .before .before .loop in
@@ -117,8 +118,8 @@ larger-requires c κs = search needs
 sub-kept : tie.Need-sub-kept Inv-loop μ-loop
 sub-kept c =
     let g = goes (c .before .before .before .before .before) in
-    let k = some-further g refl (c .before .before .before .before .row-of .ensures) (c .before .before .before .before .before .before .before .before .before .before .before .before .before .before .before .before .pre) (c .before .before .if2 .taken) in
-    omega (arith, k)
+    let p = c .before .before .before .before .before .before .before .before .before .before .before .before .before .before .before .before .pre in
+    omega (arith, some-further g refl (c .before .before .before .before .row-of .ensures) p (c .before .before .if2 .taken))
 
 loop-less : tie.Need-loop-less Inv-loop μ-loop
 loop-less c = search needs

@@ -3,7 +3,7 @@ use mathlib.Core.Path.{_≡_, refl, sym, ap, _∙_, subst}
 use mathlib.Core.Logic.{_⊎_, inl, inr}
 use mathlib.Core.Bool.{Bool, true, false, cond}
 use mathlib.Core.List.{List, [], _∷_}
-use Prim.Native.Nat.{ℕ, zero, suc, _+_, _-_, _/_, _≤_, _<_}
+use Prim.Native.Nat.{ℕ, suc, _-_, _/_, _≤_, _<_}
 use native.Mathlib.Omega.{arith}
 use lib.Dec.{leb}
 use lib.ListN.{length, getD, set}
@@ -14,15 +14,15 @@ use Rattle.rules.specs.PlanM.{score}
 use Rattle.theory.specs.Tests.{leb?, both-ways}
 use Rattle.theory.specs.All.{blank-weight, blank-is}
 use Rattle.theory.specs.Full.{Fine}
-use Rattle.keys.specs.Key.{blank-key, key-at}
+use Rattle.keys.specs.Key.{blank-key}
 use Rattle.keys.specs.KeyLaws.{weight-is, some-key}
 use Rattle.picture.specs.Picture.{Segment}
 use Rattle.picture.specs.Substitutes.{stand-in}
 use Rattle.picture.specs.Pick.{top-score}
 use Rattle.picture.specs.Leads.{Leads, leads-one}
-use Rattle.picture.specs.Own.{Right-own, Drawn-own, Numbered}
-use Rattle.picture.specs.OwnPick.{own-long, leads-own}
-use Rattle.segments.specs.Segmented.{Keyed, Named, Holds-segment, Stored, Leader, Segmented, weight-in, closed}
+use Rattle.picture.specs.Own.{Drawn-own}
+use Rattle.picture.specs.OwnPick.{leads-own}
+use Rattle.segments.specs.Segmented.{Keyed, Named, Stored, Leader, weight-in, closed}
 use Rattle.segments.specs.declared.Lead.{Lead}
 use Rattle.segments.proofs.MadeLaws.{Made}
 

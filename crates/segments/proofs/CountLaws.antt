@@ -1,23 +1,21 @@
 -- How many of the plan's rows stand at the first places, and that a slot is tight where these fill every slot by it.
 use mathlib.Core.Path.{_≡_, sym, ap, _∙_}
 use mathlib.Core.Logic.{inl, inr}
-use mathlib.Core.Bool.{Bool, true, false, cond}
+use mathlib.Core.Bool.{Bool, false, cond}
 use mathlib.Core.List.{List}
-use Prim.Native.Nat.{ℕ, zero, suc, _+_, _-_, _≤_, _<_}
+use Prim.Native.Nat.{ℕ, zero, suc, _+_, _≤_, _<_}
 use native.Mathlib.Omega.{arith}
-use lib.Dec.{eqb, ltb}
+use lib.Dec.{eqb}
 use lib.ListN.{length, getD, take}
 use lib.Seq.{take-all}
-use Rattle.rules.specs.Rows.{Row, Round, blank, chosen, All}
-use Rattle.theory.specs.Tests.{eqb?, ltb?, leb?, one-if}
-use Rattle.theory.specs.Sum.{sum}
-use Rattle.theory.specs.All.{all-in}
+use Rattle.rules.specs.Rows.{Row, Round, blank, chosen}
+use Rattle.theory.specs.Tests.{eqb?, ltb?, one-if}
 use Rattle.theory.specs.Feas.{below, num, below-yes, below-late}
 use Rattle.theory.specs.Index.{chosen-next}
 use Rattle.theory.specs.Flags.{raised, raised-at, length-raised, with-flag}
 use Rattle.round.specs.Rows.{at}
 use Rattle.keys.specs.Sorted.{many-due, placed}
-use Rattle.keys.specs.DueOrder.{each, each-same, each-more, placed-front, placed-sum, before-slot, many-mono}
+use Rattle.keys.specs.DueOrder.{each, each-same, each-more, placed-front, placed-sum, before-slot}
 
 -- 1 for a row in the plan
 abbrev pub flag : List ℕ → (row : ℕ) → ℕ

@@ -1,15 +1,13 @@
 -- What the pass goes by, from a table's plan.
 use mathlib.Core.Path.{_≡_}
-use mathlib.Core.Logic.{inl, inr}
 use mathlib.Core.List.{List, [], _∷_}
-use Prim.Native.Nat.{ℕ, suc, _+_, _≤_}
+use Prim.Native.Nat.{ℕ, _+_, _≤_}
 use native.Mathlib.Omega.{arith}
 use lib.ListN.{length}
 use Rattle.rules.specs.Rows.{Row, Round}
 use Rattle.rules.specs.Table.{round-in}
-use Rattle.theory.specs.Feas.{num, below-1}
+use Rattle.theory.specs.Feas.{below, num, below-1}
 use Rattle.theory.specs.Near.{Near, near-edge, rows-le}
-use Rattle.theory.specs.Feas.{below}
 use Rattle.theory.specs.Flags.{Chosen, with-flag}
 use Rattle.round.specs.Rows.{Ready}
 use Rattle.round.proofs.ReadLaws.{known}

@@ -1,13 +1,12 @@
 -- One segment closed, and where one ends, as the code computes them.
-use mathlib.Core.Path.{_≡_, refl, sym, ap, _∙_}
+use mathlib.Core.Path.{_≡_, ap, _∙_}
 use mathlib.Core.Logic.{inl, inr}
-use mathlib.Core.Bool.{Bool, true, false, cond}
+use mathlib.Core.Bool.{false}
 use Prim.Native.Nat.{ℕ, suc, _+_, _-_, _≤_, _<_}
 use native.Mathlib.Omega.{arith}
 use lib.Dec.{ltb}
-use borrow.Author.Tests.{le-leb, lt-leb}
 use Rattle.rules.specs.PlanM.{score}
-use Rattle.theory.specs.Tests.{eqb?, ltb?, leb?}
+use Rattle.theory.specs.Tests.{eqb?, leb?}
 use Rattle.segments.specs.Segmented.{ends-here, weight-in, closed}
 use Rattle.segments.specs.declared.Lead.{Lead}
 

@@ -1,20 +1,17 @@
 -- A segment closes: the keys that the pass has kept stand for its fields.
 use mathlib.Core.Path.{_≡_, refl, sym, ap, subst}
-use mathlib.Core.Logic.{_⊎_, inl, inr}
-use mathlib.Core.Bool.{false}
+use mathlib.Core.Logic.{inl, inr}
 use mathlib.Core.List.{List}
-use Prim.Native.Nat.{ℕ, suc, _+_, _-_, _≤_, _<_}
+use Prim.Native.Nat.{ℕ, _+_, _-_, _≤_, _<_}
 use native.Mathlib.Omega.{arith}
-use lib.ListN.{length, getD}
-use Rattle.rules.specs.Rows.{Row, Round, blank, In}
-use Rattle.rules.specs.Plan.{in-plan}
-use Rattle.theory.specs.Tests.{ltb?, leb?}
+use lib.ListN.{length}
+use Rattle.rules.specs.Rows.{Row, Round, blank}
+use Rattle.theory.specs.Tests.{ltb?}
 use Rattle.theory.specs.Feas.{num}
 use Rattle.theory.specs.Keys.{getD-in}
 use Rattle.theory.specs.Flags.{with-flag}
 use Rattle.theory.specs.Segments as counted
 use Rattle.round.specs.Rows.{at}
-use Rattle.keys.specs.Key.{blank-key, key-at}
 use Rattle.keys.specs.Sorted.{many-due, placed}
 use Rattle.keys.specs.DueOrder.{placed-row}
 use Rattle.picture.specs.Picture.{Segment, segment, Heaviest, Lightest, Within}
@@ -24,8 +21,8 @@ use Rattle.picture.specs.OwnNear.{right-own}
 use Rattle.segments.specs.Given.{Given}
 use Rattle.segments.specs.Segmented.{Keyed, Named}
 use Rattle.segments.proofs.PlaceLaws.{due-at, Full-by, rows-of-it, member-there, member-place, left-there, left-place, full-place}
-use Rattle.segments.proofs.LeastLaws.{Least, Greatest, Stands, least-row, greatest-row, least-maybe}
-use Rattle.segments.proofs.OpenLaws.{Inside, Left, key-of, Open}
+use Rattle.segments.proofs.LeastLaws.{Stands, least-row, greatest-row, least-maybe}
+use Rattle.segments.proofs.OpenLaws.{Inside, Left, Open}
 
 -- WHERE IT BEGINS: the slots before are full, and the places to come are those of rows due before
 pub record Begins (r : Round) (n : ℕ) (fs : List ℕ) (end i b : ℕ) : Type 0 where

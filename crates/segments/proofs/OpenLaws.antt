@@ -6,7 +6,7 @@ use Prim.Native.Nat.{ℕ, suc, _+_, _-_, _≤_, _<_, min, max}
 use native.Mathlib.Omega.{arith}
 use lib.ListN.{getD}
 use Rattle.rules.specs.Rows.{Round}
-use Rattle.theory.specs.Tests.{ltb?, eqb?}
+use Rattle.theory.specs.Tests.{ltb?}
 use Rattle.theory.specs.Feas.{num}
 use Rattle.theory.specs.Near.{near-edge}
 use Rattle.theory.specs.Flags.{with-flag}

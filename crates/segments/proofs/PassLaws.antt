@@ -1,33 +1,31 @@
 -- The pass: the open segment and those behind it, of whatever round is given.
 use mathlib.Core.Path.{_≡_, refl, sym, ap, _∙_, subst}
-use mathlib.Core.Logic.{_⊎_, inl, inr}
-use mathlib.Core.Bool.{true, false, true≢false, false≢true}
+use mathlib.Core.Logic.{inl, inr}
+use mathlib.Core.Bool.{true, false, false≢true}
 use mathlib.Core.List.{List, []}
-use Prim.Native.Nat.{ℕ, zero, suc, _+_, _-_, _/_, _%_, _≤_, _<_, min, max}
+use Prim.Native.Nat.{ℕ, suc, _+_, _-_, _/_, _%_, _≤_, _<_, min, max}
 use native.Mathlib.Omega.{arith}
 use lib.ListN.{length, getD, set, length-set}
 use borrow.Author.Tests.{ltb-true, ltb-false}
-use Rattle.rules.specs.Rows.{Row, Round, All}
-use Rattle.theory.specs.Tests.{eqb?, ltb?}
+use Rattle.rules.specs.Rows.{Row, Round}
+use Rattle.theory.specs.Tests.{eqb?}
 use Rattle.theory.specs.All.{all-of-in}
-use Rattle.theory.specs.Feas.{num, num-none}
+use Rattle.theory.specs.Feas.{num-none}
 use Rattle.theory.specs.Members.{of-rows-fine}
 use Rattle.theory.specs.Flags.{with-flag}
-use Rattle.keys.specs.Key.{blank-key, key-at}
+use Rattle.keys.specs.Key.{blank-key}
 use Rattle.keys.specs.KeyLaws.{some-key}
 use Rattle.keys.specs.Sorted.{many-due, placed}
 use Rattle.keys.specs.DueOrder.{placed-row, placed-rises}
-use Rattle.picture.specs.Picture.{Segment}
 use Rattle.picture.specs.Substitutes.{stand-in, stand-in-first, stand-in-later}
 use Rattle.picture.specs.Own.{Drawn-own}
 use Rattle.picture.specs.OwnPick.{own-long}
-use Rattle.segments.specs.Given.{Given, Lent}
-use Rattle.segments.specs.Segmented.{Keyed, Named, Leader, Segmented, Segments-say, ends-here, weight-in, closed}
+use Rattle.segments.specs.Given.{Given}
+use Rattle.segments.specs.Segmented.{Keyed, Named, Segmented, ends-here, weight-in, closed}
 use Rattle.segments.specs.declared.Lead.{Lead}
 use Rattle.segments.proofs.CountLaws.{kept-next, flag-yes}
 use Rattle.segments.proofs.PlaceLaws.{due-at, rows-of-it, key-there, due-told, row-told}
-use Rattle.segments.proofs.LeastLaws.{Least, Greatest}
-use Rattle.segments.proofs.OpenLaws.{Open, Settled, key-of, Inside, Left, open-start, open-next, open-kept, open-left, ends-full, later-due}
+use Rattle.segments.proofs.OpenLaws.{Open, Settled, key-of, open-start, open-next, open-kept, open-left, ends-full, later-due}
 use Rattle.segments.proofs.MadeLaws.{Begins, Made, made}
 use Rattle.segments.proofs.BehindLaws.{Behind, behind-next, closed-count}
 
@@ -207,25 +205,26 @@ module _ (ks fs : List ℕ) (many slot n : ℕ) (es ts ls : List ℕ) (l : Lead)
         | inr a ↦ (a .1, ltb-true (due - slot) kept (rw (a .0) at t))
       ]
 
-  -- the next place, in the plan or left out
-  module _ (w : Meeting ks fs many slot n es ts ls l end heavy light out kept (i - 1)) (key row flag : ℕ) (k : key ≡ getD ks (i - 1) 0)
-      (j : row ≡ key % 1024) (f : flag ≡ getD fs row 0) where
-    its-row : (r : Round) (g : Given r ks fs many slot n) → flag ≡ getD fs (placed r n (i - 1)) 0
-    its-row r g =
-        f ∙ ap (λ (v : ℕ). getD fs v 0) (j ∙ ap (λ (v : ℕ). v % 1024) k ∙ row-told r ks fs many slot n g (i - 1) (w r g .pass .now .seen))
+-- THE NEXT PLACE, in the plan or left out
+module _ (ks fs : List ℕ) (many slot n : ℕ) (es ts ls : List ℕ) (l : Lead) (end heavy light out kept p : ℕ)
+    (w : Meeting ks fs many slot n es ts ls l end heavy light out kept p) (key row flag : ℕ) (k : key ≡ getD ks p 0)
+    (j : row ≡ key % 1024) (f : flag ≡ getD fs row 0) where
+  its-row : (r : Round) (g : Given r ks fs many slot n) → flag ≡ getD fs (placed r n p) 0
+  its-row r g =
+      f ∙ ap (λ (v : ℕ). getD fs v 0) (j ∙ ap (λ (v : ℕ). v % 1024) k ∙ row-told r ks fs many slot n g p (w r g .pass .now .seen))
 
-    its-key : (r : Round) (g : Given r ks fs many slot n) → key-of r n (i - 1) ≡ key
-    its-key r g = sym (k ∙ key-there r ks fs many slot n g (i - 1) (w r g .pass .now .seen))
+  its-key : (r : Round) (g : Given r ks fs many slot n) → key-of r n p ≡ key
+  its-key r g = sym (k ∙ key-there r ks fs many slot n g p (w r g .pass .now .seen))
 
-    pub passing-kept : flag ≡ 1 → Passing ks fs many slot n es ts ls l end (min heavy key) (max light key) out (kept - 1) (i - 1)
-    passing-kept y r g =
-        subst (λ v. Pass r fs n es ts ls l end (min heavy v) (max light v) out (kept - 1) (i - 1)) (its-key r g)
-        (met-kept r ks fs many slot n g es ts ls l end heavy light out kept (i - 1) (w r g) (sym (its-row r g) ∙ y))
+  pub passing-kept : flag ≡ 1 → Passing ks fs many slot n es ts ls l end (min heavy key) (max light key) out (kept - 1) p
+  passing-kept y r g =
+      subst (λ v. Pass r fs n es ts ls l end (min heavy v) (max light v) out (kept - 1) p) (its-key r g)
+      (met-kept r ks fs many slot n g es ts ls l end heavy light out kept p (w r g) (sym (its-row r g) ∙ y))
 
-    pub passing-left : (flag ≡ 1 → ⊥) → Passing ks fs many slot n es ts ls l end heavy light (min out key) kept (i - 1)
-    passing-left y r g =
-        subst (λ v. Pass r fs n es ts ls l end heavy light (min out v) kept (i - 1)) (its-key r g)
-        (met-left r ks fs many slot n g es ts ls l end heavy light out kept (i - 1) (w r g) (λ e. y (its-row r g ∙ e)))
+  pub passing-left : (flag ≡ 1 → ⊥) → Passing ks fs many slot n es ts ls l end heavy light (min out key) kept p
+  passing-left y r g =
+      subst (λ v. Pass r fs n es ts ls l end heavy light (min out v) kept p) (its-key r g)
+      (met-left r ks fs many slot n g es ts ls l end heavy light out kept p (w r g) (λ e. y (its-row r g ∙ e)))
 
-    pub passing-some : (r : Round) → Given r ks fs many slot n → flag ≡ 1 → 1 ≤ kept
-    passing-some r g y = some-kept r ks fs many slot n g es ts ls l end heavy light out kept (i - 1) (w r g) (sym (its-row r g) ∙ y)
+  pub passing-some : (r : Round) → Given r ks fs many slot n → flag ≡ 1 → 1 ≤ kept
+  passing-some r g y = some-kept r ks fs many slot n g es ts ls l end heavy light out kept p (w r g) (sym (its-row r g) ∙ y)

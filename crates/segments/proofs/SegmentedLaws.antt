@@ -1,8 +1,8 @@
 -- What the segments in arrays tell: each by its number, its mark, and who goes.
 use mathlib.Core.Path.{_≡_, refl, sym, ap, _∙_, subst}
-use mathlib.Core.Logic.{_⊎_, inl, inr}
+use mathlib.Core.Logic.{inl, inr}
 use mathlib.Core.List.{List, [], _∷_}
-use Prim.Native.Nat.{ℕ, suc, _+_, _-_, _*_, _%_, _≤_, _<_, min}
+use Prim.Native.Nat.{ℕ, suc, _+_, _*_, _%_, _≤_, _<_, min}
 use native.Mathlib.Omega.{arith}
 use lib.ListN.{length, getD}
 use Rattle.rules.specs.Rows.{Row, Round}
@@ -12,10 +12,10 @@ use Rattle.theory.specs.Full.{Fine}
 use Rattle.theory.specs.Members.{Rows-of-plan}
 use Rattle.theory.specs.Near.{Near}
 use Rattle.round.specs.Rows.{at}
-use Rattle.keys.specs.Key.{blank-key, key-at}
+use Rattle.keys.specs.Key.{blank-key}
 use Rattle.keys.specs.KeyLaws.{row-is, some-key}
 use Rattle.picture.specs.Picture.{Segment, Heaviest}
-use Rattle.picture.specs.Substitutes.{stand-in, stand-in-first, stand-in-later}
+use Rattle.picture.specs.Substitutes.{stand-in-first, stand-in-later}
 use Rattle.picture.specs.Far.{Far}
 use Rattle.picture.specs.Own.{Right-own, Drawn-own, Numbered}
 use Rattle.picture.specs.OwnPick.{right-own-of, numbered-among, own-leader, own-far}

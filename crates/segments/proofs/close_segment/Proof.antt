@@ -1,5 +1,5 @@
 -- `segments::close_segment` meets its contract.
-use mathlib.Core.Path.{refl, ap}
+use mathlib.Core.Path.{ap}
 use Prim.Native.Nat.{ℕ}
 use lib.ListN.{set}
 use Rattle.segments.proofs.LeadLaws.{closed-takes, closed-keeps}
@@ -73,8 +73,8 @@ returns c =
     let s = c .before .before .before .before .before .before .before .before .before in (
       closed-takes (s .args .lead) (s .args .heavy) (s .args .other) (c .before .before .before .before .before .weight-of .result) (c .before .before .before .before .weight-of2 .result)
           (c .before .before .before .score-of .result) (search needs) (search needs) (search needs) (search needs),
-      refl,
-      refl,
+      search needs,
+      search needs,
       ap (λ (v : ℕ). set (s .args .lows .now) (s .args .lead .count) v) (c .before .before .weight-of3 .ensures),
     )
 
@@ -100,8 +100,8 @@ returns-2 c =
     let s = c .before .before .before .before .before .before .before .before .before in (
       closed-keeps (s .args .lead) (s .args .heavy) (s .args .other) (c .before .before .before .before .before .weight-of .result) (c .before .before .before .before .weight-of2 .result)
           (c .before .before .before .score-of .result) (search needs) (search needs) (search needs) (search needs),
-      refl,
-      refl,
+      search needs,
+      search needs,
       ap (λ (v : ℕ). set (s .args .lows .now) (s .args .lead .count) v) (c .before .before .weight-of3 .ensures),
     )
 

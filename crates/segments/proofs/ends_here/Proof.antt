@@ -14,7 +14,7 @@ cast-result : tie.Need-cast-result
 cast-result c = search needs
 
 returns-2 : tie.Need-returns-2
-returns-2 c = let s = c .before .args in ends-by (s .due) (s .slot) (s .kept) (s .end) (search needs)
+returns-2 c = let s = c .before .args in cc (ends-by (s .due) (s .slot) (s .kept) (s .end) (search needs))
 
 pub ends-here-spec : {M : Type 1} → statement M
 ends-here-spec = tie.close (tie.spec returns sub-result cast-result returns-2)

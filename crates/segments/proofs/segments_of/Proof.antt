@@ -1,6 +1,6 @@
 -- `segments::segments_of` meets its contract. The invariant: the segments behind the open one, and what is seen of that, of whatever round is given.
 use borrow.Author.Needs.{needs}
-use mathlib.Core.Path.{_≡_, refl, sym, ap, _∙_}
+use mathlib.Core.Path.{_≡_, refl, sym, _∙_}
 use mathlib.Core.Logic.{⊎-elim}
 use Prim.Native.Nat.{_-_}
 use native.Mathlib.Omega.{arith}
@@ -23,95 +23,91 @@ goes : (c : tie.Joined1 Inv-loop μ-loop) →
     let s = c .before .before .before .before .before .before .before .before .before .before .before .args in
     let v = c .before .before .before .before .before .loop in
     let u = c .if1 in
-    Goes (s .keys .now) (s .flags .now) (s .many) (s .slot) (s .free) (s .ends .now) (s .tops .now) (s .lows .now) (u .ends) (u .tops) (u .lows) (u .lead) (u .end) (u .heavy) (u .light) (v .out) (v .kept) (v .i - 1)
+    Goes (s .keys .now) (s .flags .now) (s .many) (s .slot) (s .free) (s .ends .now) (s .tops .now) (s .lows .now) (u .ends) (u .tops) (u .lows)
+    (u .lead) (u .end) (u .heavy) (u .light) (v .out) (v .kept) (v .i - 1)
 goes c =
-    let s = c .before .before .before .before .before .before .before .before .before .before .before .args in
     let p = c .before .before .before .before .before .before .before .before .before .before .before .pre in
     let v = c .before .before .before .before .before .loop in
     let u = c .if1 in
     let d = c .before .before .due-of in
     ⊎-elim
-    (λ w. goes-new (s .keys .now) (s .flags .now) (s .many) (s .slot) (s .free) (s .ends .now) (s .tops .now) (s .lows .now) p (v .ends) (v .tops) (v .lows) (v .lead) (v .end) (v .heavy) (v .light) (v .out) (v .kept) (v .i) (v .inv .0) (v .inv .1) (v .inv .2) (v .inv .3) (c .before .before .before .before .loop-test .taken) (d .result) (d .ensures)
-    (u .ends) (u .tops) (u .lows) (u .lead) (u .end) (u .heavy) (u .light) (sym (c .before .ends-here .ensures) ∙ w .0 .taken)
-    (w .11 ∙ w .4 .ensures .1) (w .12 ∙ w .4 .ensures .2) (w .13 ∙ w .4 .ensures .3) (w .14 ∙ w .4 .ensures .0) (w .15) (w .16) (w .17))
-    (λ w. goes-on (s .keys .now) (s .flags .now) (s .many) (s .slot) (s .free) (s .ends .now) (s .tops .now) (s .lows .now) p (v .ends) (v .tops) (v .lows) (v .lead) (v .end) (v .heavy) (v .light) (v .out) (v .kept) (v .i) (v .inv .0) (v .inv .1) (v .inv .2) (v .inv .3) (c .before .before .before .before .loop-test .taken) (d .result) (d .ensures)
-    (u .ends) (u .tops) (u .lows) (u .lead) (u .end) (u .heavy) (u .light) (sym (c .before .ends-here .ensures) ∙ w .0 .left)
+    (λ w. goes-new p (v .inv) (c .before .before .before .before .loop-test .taken) (d .ensures) (sym (c .before .ends-here .ensures) ∙ w .0 .taken)
+    (cc (w .11, w .4 .ensures .1)) (cc (w .12, w .4 .ensures .2)) (cc (w .13, w .4 .ensures .3)) (cc (w .14, w .4 .ensures .0))
+    (omega (arith, w .15)) (omega (arith, w .16)) (omega (arith, w .17)))
+    (λ w. goes-on p (v .inv) (c .before .before .before .before .loop-test .taken) (d .ensures) (sym (c .before .ends-here .ensures) ∙ w .0 .left)
     (w .1) (w .2) (w .3) (w .4) (w .5) (w .6) (w .7))
     (u .came)
 
 cast-end : tie.Need-cast-end Inv-loop μ-loop
 cast-end c =
-    let s = c .before .before .before .before .before .args in
-    let k = bounds (s .keys .now) (s .flags .now) (s .many) (s .slot) (s .free) (s .ends .now) (s .tops .now) (s .lows .now) (c .before .before .before .before .before .pre) in
+    let k = bounds (c .before .before .before .before .before .pre) in
     omega (arith, k .some, k .early)
 
 add-end : tie.Need-add-end Inv-loop μ-loop
 add-end c =
-    let s = c .before .before .before .before .before .args in
-    let k = bounds (s .keys .now) (s .flags .now) (s .many) (s .slot) (s .free) (s .ends .now) (s .tops .now) (s .lows .now) (c .before .before .before .before .before .pre) in
+    let k = bounds (c .before .before .before .before .before .pre) in
     omega (arith, k .some, k .early)
 
 sub-end : tie.Need-sub-end Inv-loop μ-loop
 sub-end c =
-    let s = c .before .before .before .before .before .args in
-    let k = bounds (s .keys .now) (s .flags .now) (s .many) (s .slot) (s .free) (s .ends .now) (s .tops .now) (s .lows .now) (c .before .before .before .before .before .pre) in
+    let k = bounds (c .before .before .before .before .before .pre) in
     omega (arith, k .some, k .early)
 
 loop-holds : tie.Need-loop-holds Inv-loop μ-loop
 loop-holds c =
-    let s = c .before .before .before .before .before .args in
-    (passing-first (s .keys .now) (s .flags .now) (s .many) (s .slot) (s .free) (s .ends .now) (s .tops .now) (s .lows .now) _ refl refl, refl, refl, refl)
+    (passing-first refl refl (omega arith) (omega arith), refl, refl, refl)
 
 sub-i : tie.Need-sub-i Inv-loop μ-loop
 sub-i c = search needs
 
 mul-key : tie.Need-mul-key Inv-loop μ-loop
 mul-key c =
-    let s = c .before .before .before .before .before .before .before .args in
     let p = c .before .before .before .before .before .before .before .pre in
     let v = c .before .loop in
     omega (
       arith,
       c .before .before .before .before .before .before .before .good .0 .1,
-      bounds (s .keys .now) (s .flags .now) (s .many) (s .slot) (s .free) (s .ends .now) (s .tops .now) (s .lows .now) p .there,
-      read-there (s .keys .now) (s .flags .now) (s .many) (s .slot) (s .free) (s .ends .now) (s .tops .now) (s .lows .now) p (v .ends) (v .tops) (v .lows) (v .lead) (v .end) (v .heavy) (v .light) (v .out) (v .kept) (v .i) (v .inv .0) (v .inv .1) (v .inv .2) (v .inv .3),
+      bounds p .there,
+      read-there p (v .inv),
       c .loop-test .taken,
     )
 
 shared-slice-read-key : tie.Need-shared-slice-read-key Inv-loop μ-loop
 shared-slice-read-key c =
-    let s = c .before .before .before .before .before .before .before .before .args in
     let p = c .before .before .before .before .before .before .before .before .pre in
     let v = c .before .before .loop in
-    omega (arith, bounds (s .keys .now) (s .flags .now) (s .many) (s .slot) (s .free) (s .ends .now) (s .tops .now) (s .lows .now) p .there, read-there (s .keys .now) (s .flags .now) (s .many) (s .slot) (s .free) (s .ends .now) (s .tops .now) (s .lows .now) p (v .ends) (v .tops) (v .lows) (v .lead) (v .end) (v .heavy) (v .light) (v .out) (v .kept) (v .i) (v .inv .0) (v .inv .1) (v .inv .2) (v .inv .3), c .before .loop-test .taken)
+    omega (arith, bounds p .there, read-there p (v .inv), c .before .loop-test .taken)
 
 due-of-requires : tie.Need-due-of-requires Inv-loop μ-loop
 due-of-requires c κs = search needs
 
 ends-here-requires : tie.Need-ends-here-requires Inv-loop μ-loop
 ends-here-requires c κs =
-    let s = c .before .before .before .before .before .before .before .before .before .args in
     let p = c .before .before .before .before .before .before .before .before .before .pre in
     let v = c .before .before .before .loop in
-    due-late (s .keys .now) (s .flags .now) (s .many) (s .slot) (s .free) (s .ends .now) (s .tops .now) (s .lows .now) p (v .ends) (v .tops) (v .lows) (v .lead) (v .end) (v .heavy) (v .light) (v .out) (v .kept) (v .i) (v .inv .0) (v .inv .1) (v .inv .2) (v .inv .3) (c .before .before .loop-test .taken) (c .due-of .result) (c .due-of .ensures)
+    due-late p (v .inv) (c .before .before .loop-test .taken) (c .due-of .ensures)
 
 close-segment-requires : tie.Need-close-segment-requires Inv-loop μ-loop
 close-segment-requires c κs =
-    let s = c .before .before .before .before .before .before .before .before .before .before .before .before .before .before .args in
     let p = c .before .before .before .before .before .before .before .before .before .before .before .before .before .before .pre in
     let v = c .before .before .before .before .before .before .before .before .loop in
-    let k = roomy (s .keys .now) (s .flags .now) (s .many) (s .slot) (s .free) (s .ends .now) (s .tops .now) (s .lows .now) p (v .ends) (v .tops) (v .lows) (v .lead) (v .end) (v .heavy) (v .light) (v .out) (v .kept) (v .i) (v .inv .0) (v .inv .1) (v .inv .2) (v .inv .3) in
-    (k .ends, k .tops, k .lows, k .heavies, k .lights, k .outs)
+    let k = roomy p (v .inv) in (
+      k .ends,
+      k .tops,
+      k .lows,
+      omega (arith, k .heavies, k .lights, k .outs),
+      omega (arith, k .heavies, k .lights, k .outs),
+      omega (arith, k .heavies, k .lights, k .outs),
+    )
 
 row-of-requires : tie.Need-row-of-requires Inv-loop μ-loop
 row-of-requires c κs = search needs
 
 shared-slice-read-if2 : tie.Need-shared-slice-read-if2 Inv-loop μ-loop
 shared-slice-read-if2 c =
-    let s = c .before .before .before .before .before .before .before .before .before .before .before .before .before .args in
     let p = c .before .before .before .before .before .before .before .before .before .before .before .before .before .pre in
     let v = c .before .before .before .before .before .before .before .loop in
-    row-there (s .keys .now) (s .flags .now) (s .many) (s .slot) (s .free) (s .ends .now) (s .tops .now) (s .lows .now) p (v .ends) (v .tops) (v .lows) (v .lead) (v .end) (v .heavy) (v .light) (v .out) (v .kept) (v .i) (v .inv .0) (v .inv .1) (v .inv .2) (v .inv .3) (c .before .before .before .before .before .before .loop-test .taken) _ (c .before .row-of .result) refl (c .before .row-of .ensures)
+    row-there p (v .inv) (c .before .before .before .before .before .before .loop-test .taken) refl (c .before .row-of .ensures)
 
 lesser-requires : tie.Need-lesser-requires Inv-loop μ-loop
 lesser-requires c κs = search needs
@@ -121,26 +117,19 @@ larger-requires c κs = search needs
 
 sub-kept : tie.Need-sub-kept Inv-loop μ-loop
 sub-kept c =
-    let s = c .before .before .before .before .before .before .before .before .before .before .before .before .before .before .before .before .args in
+    let g = goes (c .before .before .before .before .before) in
     let p = c .before .before .before .before .before .before .before .before .before .before .before .before .before .before .before .before .pre in
-    let v = c .before .before .before .before .before .before .before .before .before .before .loop in
-    let u = c .before .before .before .before .before .if1 in
-    some-further (s .keys .now) (s .flags .now) (s .many) (s .slot) (s .free) (s .ends .now) (s .tops .now) (s .lows .now) (u .ends) (u .tops) (u .lows) (u .lead) (u .end) (u .heavy) (u .light) (v .out) (v .kept) (v .i)
-    (goes (c .before .before .before .before .before)) _ (c .before .before .before .before .row-of .result) refl (c .before .before .before .before .row-of .ensures) p (c .before .before .if2 .taken)
+    omega (arith, some-further g refl (c .before .before .before .before .row-of .ensures) p (c .before .before .if2 .taken))
 
 loop-less : tie.Need-loop-less Inv-loop μ-loop
 loop-less c = search needs
 
 loop-again : tie.Need-loop-again Inv-loop μ-loop
 loop-again c =
-    let s = c .before .before .before .before .before .before .before .before .before .before .before .before .before .before .before .before .args in
-    let p = c .before .before .before .before .before .before .before .before .before .before .before .before .before .before .before .before .pre in
-    let v = c .before .before .before .before .before .before .before .before .before .before .loop in
-    let u = c .before .before .before .before .before .if1 in
     let g = goes (c .before .before .before .before .before) in (
-      kept-further (s .keys .now) (s .flags .now) (s .many) (s .slot) (s .free) (s .ends .now) (s .tops .now) (s .lows .now) (u .ends) (u .tops) (u .lows) (u .lead) (u .end) (u .heavy) (u .light) (v .out) (v .kept) (v .i)
-          (goes (c .before .before .before .before .before)) _ (c .before .before .before .before .row-of .result) refl (c .before .before .before .before .row-of .ensures)
-          (c .before .before .if2 .taken) (c .before .lesser .result) (c .larger .result) (c .before .lesser .ensures) (c .larger .ensures),
+      kept-further g refl (c .before .before .before .before .row-of .ensures)
+          (c .before .before .if2 .taken) (omega (arith, c .before .lesser .ensures)) (omega (arith, c .larger .ensures))
+          (omega arith),
       g .ends,
       g .tops,
       g .lows,
@@ -154,14 +143,9 @@ loop-less-2 c = search needs
 
 loop-again-2 : tie.Need-loop-again-2 Inv-loop μ-loop
 loop-again-2 c =
-    let s = c .before .before .before .before .before .before .before .before .before .before .before .before .before .before .before .args in
-    let p = c .before .before .before .before .before .before .before .before .before .before .before .before .before .before .before .pre in
-    let v = c .before .before .before .before .before .before .before .before .before .loop in
-    let u = c .before .before .before .before .if1 in
     let g = goes (c .before .before .before .before) in (
-      left-further (s .keys .now) (s .flags .now) (s .many) (s .slot) (s .free) (s .ends .now) (s .tops .now) (s .lows .now) (u .ends) (u .tops) (u .lows) (u .lead) (u .end) (u .heavy) (u .light) (v .out) (v .kept) (v .i)
-          (goes (c .before .before .before .before)) _ (c .before .before .before .row-of .result) refl (c .before .before .before .row-of .ensures)
-          (c .before .if2 .left) (c .lesser2 .result) (c .lesser2 .ensures),
+      left-further g refl (c .before .before .before .row-of .ensures)
+          (c .before .if2 .left) (omega (arith, c .lesser2 .ensures)),
       g .ends,
       g .tops,
       g .lows,
@@ -169,11 +153,16 @@ loop-again-2 c =
 
 close-segment-requires-2 : tie.Need-close-segment-requires-2 Inv-loop μ-loop
 close-segment-requires-2 c κs =
-    let s = c .before .before .before .before .before .before .before .before .before .before .args in
     let p = c .before .before .before .before .before .before .before .before .before .before .pre in
     let v = c .before .before .before .before .loop in
-    let k = roomy (s .keys .now) (s .flags .now) (s .many) (s .slot) (s .free) (s .ends .now) (s .tops .now) (s .lows .now) p (v .ends) (v .tops) (v .lows) (v .lead) (v .end) (v .heavy) (v .light) (v .out) (v .kept) (v .i) (v .inv .0) (v .inv .1) (v .inv .2) (v .inv .3) in
-    (k .ends, k .tops, k .lows, k .heavies, k .lights, k .lights)
+    let k = roomy p (v .inv) in (
+      k .ends,
+      k .tops,
+      k .lows,
+      omega (arith, k .heavies, k .lights, k .outs),
+      omega (arith, k .heavies, k .lights, k .outs),
+      omega (arith, k .heavies, k .lights, k .outs),
+    )
 
 same-length : tie.Need-same-length Inv-loop μ-loop
 same-length c = search (needs, c .before .before .before .before .before .before .close-segment2 .kept .0, c .before .before .before .before .before .before .before .before .before .before .before .loop .inv .1)
@@ -186,13 +175,12 @@ same-length-3 c = search (needs, c .before .before .before .before .before .befo
 
 returns : tie.Need-returns Inv-loop μ-loop
 returns c =
-    let s = c .before .before .before .before .before .before .before .before .before .before .before .before .before .before .before .before .before .args in
     let p = c .before .before .before .before .before .before .before .before .before .before .before .before .before .before .before .before .before .pre in
     let v = c .before .before .before .before .before .before .before .before .before .before .before .loop in
     let d = c .before .before .before .before .before .before .close-segment2 in
     let t = c .before .before .before .before .before .before .before .before .before .before .loop-test .left in
-    says (s .keys .now) (s .flags .now) (s .many) (s .slot) (s .free) (s .ends .now) (s .tops .now) (s .lows .now) p (v .ends) (v .tops) (v .lows) (v .lead) (v .end) (v .heavy) (v .light) (v .out) (v .kept) (v .i) (v .inv .0) (v .inv .1) (v .inv .2) (v .inv .3) (omega (arith, t)) _ _ _ (d .result) (d .ensures .0) (d .ensures .1) (d .ensures .2)
-    (d .ensures .3)
+    says p (v .inv) (omega (arith, t)) (cc (d .ensures .0)) (cc (d .ensures .1)) (cc (d .ensures .2))
+    (cc (d .ensures .3))
 
 pub segments-of-spec : {M : Type 1} → statement M
 segments-of-spec =

@@ -1,2 +1,3 @@
 pub mod Key
 pub mod Sorted
+pub mod KeyLaws

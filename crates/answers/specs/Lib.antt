@@ -1,0 +1,4 @@
+pub mod Total
+pub mod Stretch
+pub mod Every
+pub mod Substitute

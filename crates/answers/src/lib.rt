@@ -1,0 +1,5 @@
+// What is asked of the plan: its total, the mark of a slot, the substitute of a row.
+pub mod sub; // sub.rt: who stands in for a row
+pub mod total; // total.rt: the plan's total
+pub mod stretch; // stretch.rt: the segment of a bucket, by counts
+pub mod every; // every.rt: mark and substitute where no row is left out

@@ -1,3 +1,6 @@
 pub mod StretchLaws
 pub mod TotalLaws
 pub mod EveryLaws
+pub mod KeptLaws
+pub mod FindLaws
+pub mod NearLaws

@@ -214,3 +214,32 @@ module _ (r : Round) (ks fs : List ℕ) (many slot n asked : ℕ) (a : Asked r k
               some-key r (g .fine) (g .small) (g .cap) v l .1,
             ))
           ]))
+
+-- THE WAY BACK of whatever round is given
+abbrev pub Back : (ks fs : List ℕ) (many from k p : ℕ) → Type 0
+Back ks fs many from k p = (r : Round) (slot n : ℕ) (g : Given r ks fs many slot n) → Backing r ks fs many slot n g from k p
+
+pub left-there : (ks fs : List ℕ) (many : ℕ) → Lent ks fs many → (p k i : ℕ) → p < many → k ≡ getD ks p 0 → i ≡ k % 1024 → i < length fs
+left-there ks fs many l p k i h e d = omega (arith, d, key-read (l .of) ks fs many (l .slot) (l .n) (l .given) p k h e .fits)
+
+pub keys-lent : (ks fs : List ℕ) (many : ℕ) → Lent ks fs many → many ≤ length ks
+keys-lent ks fs many l = readable (l .of) ks fs many (l .slot) (l .n) (l .given)
+
+module _ (r : Round) (ks fs : List ℕ) (many slot n : ℕ) (g : Given r ks fs many slot n) (from k p x : ℕ) (o : 0 < p) (h : p ≤ many) (e : x ≡ getD ks (p - 1) 0)
+    (b : Backing r ks fs many slot n g from k p) where
+  pub before-p : Backing r ks fs many slot n g from k (suc (p - 1))
+  before-p = let d : p ≡ suc (p - 1) = omega (arith, o) in subst (Backing r ks fs many slot n g from k) d b
+
+  pub stops : (d : ℕ) → d ≡ x / 4096 % 4096 → d < from → Left r fs from k
+  stops = back-stop r ks fs many slot n g from k (p - 1) x (omega (arith, o, h)) e before-p
+
+  pub stays : (d i : ℕ) → d ≡ x / 4096 % 4096 → from ≤ d → i ≡ x % 1024 → getD fs i 0 ≡ 1 → Backing r ks fs many slot n g from k (p - 1)
+  stays d i c l = back-kept r ks fs many slot n g from k (p - 1) x (omega (arith, o, h)) e before-p d c l i
+
+  pub takes : (d i y : ℕ) → d ≡ x / 4096 % 4096 → from ≤ d → i ≡ x % 1024 → (getD fs i 0 ≡ 1 → ⊥) → y ≡ min k x →
+      Backing r ks fs many slot n g from y (p - 1)
+  takes d i y c l = back-left r ks fs many slot n g from k (p - 1) x (omega (arith, o, h)) e before-p d c l i y
+
+pub back-over : (r : Round) (ks fs : List ℕ) (many slot n : ℕ) (g : Given r ks fs many slot n) (from k p : ℕ) → p ≤ 0 →
+    Backing r ks fs many slot n g from k p → Left r fs from k
+back-over r ks fs many slot n g from k p h b = back-end r ks fs many slot n g from k p (λ q l. absurd (omega (arith, h, l))) b

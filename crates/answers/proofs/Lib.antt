@@ -4,3 +4,5 @@ pub mod EveryLaws
 pub mod KeptLaws
 pub mod FindLaws
 pub mod NearLaws
+pub mod BeginLaws
+pub mod FarLaws

@@ -4,3 +4,4 @@ pub mod Every
 pub mod Substitute
 pub mod Given
 pub mod Near
+pub mod Far

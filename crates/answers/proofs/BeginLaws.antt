@@ -6,7 +6,7 @@ use Prim.Native.Nat.{ℕ, zero, suc, _+_, _*_, _-_, _≤_, _<_}
 use native.Mathlib.Omega.{arith}
 use lib.ListN.{length, getD}
 use Rattle.theory.specs.Tests.{leb?, ltb?, eqb?}
-use Rattle.answers.specs.Stretch.{upto}
+use Rattle.buckets.specs.Stretch.{upto}
 use Rattle.answers.specs.Far.{Roomy, Flat, Begins}
 
 pub upto-mono : (cs : List ℕ) (a b : ℕ) → a ≤ b → upto a cs ≤ upto b cs

@@ -1,40 +1,36 @@
 -- Marks and substitutes where all rows are in the plan.
 use mathlib.Core.Path.{_≡_, refl, sym, ap, _∙_, subst}
-use mathlib.Core.Logic.{_⊎_, inl, inr}
-use mathlib.Core.Bool.{true, false, cond}
+use mathlib.Core.Logic.{inl, inr}
+use mathlib.Core.Bool.{false, cond}
 use mathlib.Core.List.{List, [], _∷_}
-use Prim.Native.Nat.{ℕ, zero, suc, _+_, _*_, _-_, _%_, _≤_, _<_, min, max}
+use Prim.Native.Nat.{ℕ, zero, suc, _+_, _-_, _%_, _≤_, _<_, min, max}
 use native.Mathlib.Omega.{arith}
 use native.Mathlib.Numerals.{add-one}
 use lib.Dec.{leb}
-use lib.ListN.{length, getD, take, replicate}
+use lib.ListN.{length, getD, take}
 use lib.Seq.{take-length}
-use Rattle.rules.specs.Rows.{Row, Round, blank, heavier, chosen, In}
+use Rattle.rules.specs.Rows.{Row, Round, blank, heavier}
 use Rattle.rules.specs.Table.{round-in}
-use Rattle.rules.specs.Plan.{plan, in-plan, feasible, least-weight, mark, tight-after, first-end, substitute}
+use Rattle.rules.specs.Plan.{plan, least-weight, mark, first-end}
 use Rattle.theory.specs.Tests.{leb?, ltb?, eqb?}
-use Rattle.theory.specs.Sum.{sum}
-use Rattle.theory.specs.Feas.{num}
 use Rattle.theory.specs.Full.{Fine}
 use Rattle.theory.specs.Keys.{getD-in}
 use Rattle.theory.specs.Index.{each-row}
-use Rattle.theory.specs.Members.{Rows-of-plan, certified-found, found-member, not-found}
-use Rattle.theory.specs.Near.{Near, all-true-chosen, all-certified, rows-feas, near-edge, near-mark}
-use Rattle.theory.specs.Count.{in-bucket, under, counts-next, counts-none, kept-counts}
-use Rattle.theory.specs.Segments.{Segment, segment-made, segment-end, first-segment, segment-none}
+use Rattle.theory.specs.Members.{Rows-of-plan, found-member, not-found}
+use Rattle.theory.specs.Near.{near-mark}
+use Rattle.theory.specs.Segments.{Segment, segment-end, first-segment, segment-none}
 use Rattle.theory.specs.Substitute.{first-row}
 use Rattle.sorts.specs.declared.Round.{Round as Head}
-use Rattle.round.specs.Rows.{Ready, Due-at, Weight-at, at, top-of}
-use Rattle.round.specs.Buckets.{Counted}
+use Rattle.round.specs.Rows.{Due-at, Weight-at, at}
 use Rattle.round.proofs.ReadLaws.{known}
 use Rattle.keys.specs.Key.{key, key-at}
-use Rattle.keys.specs.KeyLaws.{row-fine, row-is, some-key, greater-key}
-use Rattle.buckets.specs.Reach.{before, Reaches}
+use Rattle.keys.specs.KeyLaws.{row-is, some-key, greater-key}
 use Rattle.buckets.specs.declared.Reach.{Reach}
-use Rattle.answers.specs.Stretch.{upto, Full, Stretches}
+use Rattle.buckets.specs.Stretch.{Full, Stretches}
+use Rattle.buckets.proofs.SegmentLaws.{whole-rows, full, stretch-segment}
 use Rattle.answers.specs.Every.{Whole, Due-key, Lightest-key}
 use Rattle.answers.specs.Substitute.{Substitutes}
-use Rattle.answers.specs.declared.stretch.Stretch.{Stretch}
+use Rattle.buckets.specs.declared.stretch.Stretch.{Stretch}
 use Rattle.answers.specs.declared.sub.Sub.the-variants.{Row as Row-at, Blank}
 
 -- THE LEAST WEIGHT row by row
@@ -109,22 +105,6 @@ pub lightest-end : (r : Round) (e i k : ℕ) → i ≡ length (r .rows) → Ligh
 lightest-end r e i k q s =
     record { most = λ j h. s .most j (omega (arith, h, q)); some = λ h. subst (λ (n : ℕ). Due-key r n e k) q (s .some h) }
 
--- ALL ROWS are the plan's
-pub all-planned : (r : Round) → Fine r → feasible r (r .rows) ≡ true → Rows-of-plan r (r .rows)
-all-planned r f h =
-    subst (Rows-of-plan r) (all-true-chosen (r .rows) .0) (certified-found r f (replicate (length (r .rows)) true) (all-certified r h))
-
-pub enough : (r : Round) → r .slot ≤ r .last → (top-of r ≡ length (r .rows)) ⊎ (r .slot + top-of r ≡ r .last)
-enough r o = elim (leb? (length (r .rows)) (r .last - r .slot)) [
-  | inl a ↦ inl (omega (arith, a .1))
-  | inr a ↦ inr (omega (arith, a .1, o))
-]
-
-pub upto-is : (r : Round) (cs : List ℕ) → Counted r cs → (s : ℕ) → s ≤ suc (top-of r) → upto s cs ≡ 2048 * before r (r .rows) s
-upto-is r cs c zero h = omega (arith, counts-none (r .slot) (top-of r) (r .rows))
-upto-is r cs c (suc s) h =
-    omega (arith, upto-is r cs c s (omega arith), c .count s (omega arith), counts-next (r .slot) (top-of r) s (r .rows))
-
 module _ (t cs : List ℕ) (h : Head) (x : Reach) (w : Whole t cs h x) where
   abbrev pub rd : Round
   rd = round-in t
@@ -133,38 +113,13 @@ module _ (t cs : List ℕ) (h : Head) (x : Reach) (w : Whole t cs h x) where
   fine = known t h (w .ready) .fine
 
   pub rows-all : Rows-of-plan rd (rd .rows)
-  rows-all = all-planned rd fine (w .reaches .fits (w .none))
+  rows-all = whole-rows rd fine x (w .reaches) (w .none)
 
-  pub span : rd .slot + top-of rd ≤ rd .last
-  span = omega (arith, known t h (w .ready) .time)
+  pub fills : Full cs (x .free)
+  fills = full t h cs x (w .ready) (w .counted) (w .reaches) (w .none)
 
-  pub level : (v : ℕ) → v ≤ x .free → upto v cs ≡ 2048 * num 0 (rd .slot + v) (rd .rows)
-  level v l =
-      omega (
-        arith,
-        upto-is rd cs (w .counted) v (omega (arith, l, w .reaches .sweep .high)),
-        kept-counts rd fine (top-of rd) (x .over) (x .free) span (enough rd (known t h (w .ready) .time)) (w .reaches .sweep) (rd .rows) rows-all v l,
-      )
-
-  pub full : Full cs (x .free)
-  full =
-      record {
-        enough = omega (arith, w .reaches .sweep .high, w .counted .enough);
-        small = omega (arith, w .reaches .sweep .high, known t h (w .ready) .small);
-        fits = λ v l.
-            omega (arith, level v l, rows-feas rd fine (rd .rows) rows-all (rd .slot + v) (omega arith) (omega (arith, l, w .reaches .near .by)));
-        full = omega (arith, level (x .free) (omega arith), near-edge rd fine (rd .rows) rows-all (rd .slot + x .free) (w .reaches .near));
-      }
-
-  -- a stretch of counts is a segment
   pub stretched : (b : ℕ) (y : Stretch) → Stretches cs (x .free) b y → Segment rd (rd .rows) (rd .slot + y .first) (rd .slot + y .last)
-  stretched b y s =
-      let up : (v : ℕ) → v ≤ x .free → upto v cs ≡ 2048 * before rd (rd .rows) v =
-      λ v l. upto-is rd cs (w .counted) v (omega (arith, l, w .reaches .sweep .high)) in
-      segment-made rd fine (top-of rd) (x .over) (x .free) span (enough rd (known t h (w .ready) .time)) (w .reaches .sweep) (rd .rows) rows-all
-      (y .first) (y .last) (omega (arith, s .from, s .by)) (s .near) (omega (arith, s .edge, up (y .first) (omega (arith, s .from, s .by, s .near))))
-      (omega (arith, s .end, up (suc (y .last)) (omega (arith, s .near))))
-      (λ u i j e. s .none u i j (omega (arith, e, up (suc u) (omega (arith, j, s .near)))))
+  stretched = stretch-segment t h cs x (w .ready) (w .counted) (w .reaches) (w .none)
 
   -- THE MARK
   pub mark-is : (s e : ℕ) (y : Stretch) → h .slot .0 ≤ s → Stretches cs (x .free) (s - h .slot .0) y → e ≡ h .slot .0 + y .last →

@@ -31,12 +31,12 @@ use Rattle.round.specs.Rows.{Ready, Due-at, at, top-of}
 use Rattle.round.proofs.ReadLaws.{known}
 use Rattle.buckets.specs.Reach.{Reaches}
 use Rattle.buckets.specs.declared.Reach.{Reach}
-use Rattle.answers.specs.Stretch.{upto}
+use Rattle.buckets.specs.Stretch.{upto}
 use Rattle.answers.specs.Far.{window-at, bucket-in, Counted-in, Roomy, Flat, Begins, Far-row}
 use Rattle.answers.specs.Substitute.{Substitutes}
 use Rattle.answers.specs.declared.far.Window.{Window}
 use Rattle.answers.specs.declared.sub.Sub.the-variants.{Blank}
-use Rattle.answers.proofs.EveryLaws.{enough}
+use Rattle.buckets.proofs.ReachLaws.{enough}
 
 -- BUCKETS: of a row due in the window its own, else one past the top
 pub bucket-by : (w : Window) (d : ℕ) → bucket-in w d ≤ w .top + 1

@@ -1,4 +1,3 @@
-pub mod StretchLaws
 pub mod TotalLaws
 pub mod EveryLaws
 pub mod KeptLaws

@@ -13,7 +13,7 @@ use Rattle.sorts.specs.declared.Round.{Round as Head}
 use Rattle.round.specs.Rows.{Ready, at}
 use Rattle.buckets.specs.Reach.{Reaches}
 use Rattle.buckets.specs.declared.Reach.{Reach}
-use Rattle.answers.specs.Stretch.{upto}
+use Rattle.buckets.specs.Stretch.{upto}
 use Rattle.answers.specs.declared.far.Window.{Window}
 
 -- n buckets behind slot d, as many before it, from slot z on

@@ -1,5 +1,4 @@
 pub mod Total
-pub mod Stretch
 pub mod Every
 pub mod Substitute
 pub mod Given

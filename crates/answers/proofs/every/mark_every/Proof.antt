@@ -2,7 +2,7 @@
 use mathlib.Core.Path.{refl, _∙_}
 use native.Mathlib.Omega.{arith}
 use Rattle.round.proofs.ReadLaws.{known}
-use Rattle.answers.proofs.EveryLaws.{full, mark-is}
+use Rattle.answers.proofs.EveryLaws.{fills, mark-is}
 use borrow.Author.Needs.{needs}
 use Rattle.answers.proofs.every.mark_every.Statement.{statement}
 use Rattle.answers.proofs.every.mark_every.Tie as tie
@@ -14,15 +14,15 @@ cast-stretch-of : tie.Need-cast-stretch-of
 cast-stretch-of c = search needs
 
 stretch-of-requires : tie.Need-stretch-of-requires
-stretch-of-requires c κs = let p = c .before .before .pre in (full _ _ _ _ (p .0), omega (arith, p .1, p .2))
+stretch-of-requires c κs = let p = c .before .before .pre in (fills _ _ _ _ (p .0), omega (arith, p .1, p .2))
 
 cast-least-by : tie.Need-cast-least-by
-cast-least-by c = let p = c .before .before .before .before .pre in omega (arith, c .before .stretch-of .ensures .near, full _ _ _ _ (p .0) .small)
+cast-least-by c = let p = c .before .before .before .before .pre in omega (arith, c .before .stretch-of .ensures .near, fills _ _ _ _ (p .0) .small)
 
 add-least-by : tie.Need-add-least-by
 add-least-by c = let p = c .before .before .before .before .pre in
     let k = known _ _ (p .0 .ready) in
-    omega (arith, c .before .stretch-of .ensures .near, full _ _ _ _ (p .0) .small, k .slot, k .time, k .cap)
+    omega (arith, c .before .stretch-of .ensures .near, fills _ _ _ _ (p .0) .small, k .slot, k .time, k .cap)
 
 least-by-requires : tie.Need-least-by-requires
 least-by-requires c κs = search needs

@@ -2,7 +2,7 @@
 use mathlib.Core.Path.{refl}
 use native.Mathlib.Omega.{arith}
 use Rattle.round.proofs.ReadLaws.{known}
-use Rattle.answers.proofs.EveryLaws.{full, blank-is, row-is-low}
+use Rattle.answers.proofs.EveryLaws.{fills, blank-is, row-is-low}
 use borrow.Author.Needs.{needs}
 use Rattle.answers.proofs.every.substitute_every.Statement.{statement}
 use Rattle.answers.proofs.every.substitute_every.Tie as tie
@@ -18,7 +18,7 @@ cast-stretch-of c = search needs
 
 stretch-of-requires : tie.Need-stretch-of-requires
 stretch-of-requires c κs = let p = c .before .before .before .pre in
-    (full _ _ _ _ (p .0), omega (arith, p .2, c .due-at .ensures .is, c .due-at .ensures .from, known _ _ (p .0 .ready) .slot))
+    (fills _ _ _ _ (p .0), omega (arith, p .2, c .due-at .ensures .is, c .due-at .ensures .from, known _ _ (p .0 .ready) .slot))
 
 cast-t12 : tie.Need-cast-t12
 cast-t12 c = search needs
@@ -31,12 +31,12 @@ returns c = let p = c .before .before .before .before .before .before .before .p
     blank-is _ _ _ _ (p .0) _ _ (p .1) (c .before .before .before .before .due-at .ensures) _ (c .before .before .before .stretch-of .ensures) _ (c .before .if1 .taken) refl
 
 cast-lightest-by : tie.Need-cast-lightest-by
-cast-lightest-by c = let p = c .before .before .before .before .before .before .before .pre in omega (arith, c .before .before .before .stretch-of .ensures .near, full _ _ _ _ (p .0) .small)
+cast-lightest-by c = let p = c .before .before .before .before .before .before .before .pre in omega (arith, c .before .before .before .stretch-of .ensures .near, fills _ _ _ _ (p .0) .small)
 
 add-lightest-by : tie.Need-add-lightest-by
 add-lightest-by c = let p = c .before .before .before .before .before .before .before .pre in
     let k = known _ _ (p .0 .ready) in
-    omega (arith, c .before .before .before .stretch-of .ensures .near, full _ _ _ _ (p .0) .small, k .slot, k .time, k .cap)
+    omega (arith, c .before .before .before .stretch-of .ensures .near, fills _ _ _ _ (p .0) .small, k .slot, k .time, k .cap)
 
 lightest-by-requires : tie.Need-lightest-by-requires
 lightest-by-requires c κs = search needs

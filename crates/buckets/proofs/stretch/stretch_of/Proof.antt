@@ -1,11 +1,10 @@
--- `answers::stretch::stretch_of` meets its contract: both loops are `Walking`.
-use mathlib.Core.Path.{_≡_, refl}
+-- `buckets::stretch::stretch_of` meets its contract: both loops are `Walking`.
 use Prim.Native.Nat.{suc, _-_, _≤_, _<_}
 use native.Mathlib.Omega.{arith}
-use Rattle.answers.proofs.StretchLaws.{Walking, walk-start, small, covered, walk-to, walk-left, walk-past, walk-end}
+use Rattle.buckets.proofs.StretchLaws.{Walking, walk-start, covered, walk-to, walk-left, walk-past, walk-end}
 use borrow.Author.Needs.{needs}
-use Rattle.answers.proofs.stretch.stretch_of.Statement.{statement}
-use Rattle.answers.proofs.stretch.stretch_of.Tie as tie
+use Rattle.buckets.proofs.stretch.stretch_of.Statement.{statement}
+use Rattle.buckets.proofs.stretch.stretch_of.Tie as tie
 
 abbrev Inv-loop : tie.InvT-loop
 Inv-loop counts free bucket first₀ lack₀ s₀ first lack s = (s ≤ suc bucket) × Walking counts free bucket first lack s
@@ -36,9 +35,9 @@ shared-slice-read-lack c = search needs
 
 sub-lack : tie.Need-sub-lack Inv-loop μ-loop Inv-loop2 μ-loop2
 sub-lack c = omega (
-      arith,
-      covered _ _ _ _ _ _ (c .before .before .before .before .before .pre .0) (c .before .before .before .loop .inv .1) (omega arith),
-    )
+  arith,
+  covered _ _ _ _ _ _ (c .before .before .before .before .before .pre .0) (c .before .before .before .loop .inv .1) (omega arith),
+)
 
 add-s : tie.Need-add-s Inv-loop μ-loop Inv-loop2 μ-loop2
 add-s c = search needs
@@ -64,26 +63,26 @@ mul-lack-2 c = search needs
 
 shared-slice-read-lack-2 : tie.Need-shared-slice-read-lack-2 Inv-loop μ-loop Inv-loop2 μ-loop2
 shared-slice-read-lack-2 c = omega (
-      arith,
-      c .before .before .before .before .before .before .pre .0 .enough,
-      walk-left _ _ _ _ _ _ (c .before .before .before .before .before .before .pre .0) (c .before .before .loop2 .inv .1) (c .before .loop2-test .taken),
-    )
+  arith,
+  c .before .before .before .before .before .before .pre .0 .enough,
+  walk-left _ _ _ _ _ _ (c .before .before .before .before .before .before .pre .0) (c .before .before .loop2 .inv .1) (c .before .loop2-test .taken),
+)
 
 sub-lack-2 : tie.Need-sub-lack-2 Inv-loop μ-loop Inv-loop2 μ-loop2
 sub-lack-2 c = omega (
-      arith,
-      covered _ _ _ _ _ _ (c .before .before .before .before .before .before .pre .0) (c .before .before .loop2 .inv .1)
-          (walk-left _ _ _ _ _ _ (c .before .before .before .before .before .before .pre .0) (c .before .before .loop2 .inv .1) (c .before .loop2-test .taken)),
-    )
+  arith,
+  covered _ _ _ _ _ _ (c .before .before .before .before .before .before .pre .0) (c .before .before .loop2 .inv .1)
+      (walk-left _ _ _ _ _ _ (c .before .before .before .before .before .before .pre .0) (c .before .before .loop2 .inv .1) (c .before .loop2-test .taken)),
+)
 
 add-s-2 : tie.Need-add-s-2 Inv-loop μ-loop Inv-loop2 μ-loop2
 add-s-2 c = search needs
 
 loop2-less : tie.Need-loop2-less Inv-loop μ-loop Inv-loop2 μ-loop2
 loop2-less c = omega (
-      arith,
-      walk-left _ _ _ _ _ _ (c .before .before .before .before .before .before .pre .0) (c .before .before .loop2 .inv .1) (c .before .loop2-test .taken),
-    )
+  arith,
+  walk-left _ _ _ _ _ _ (c .before .before .before .before .before .before .pre .0) (c .before .before .loop2 .inv .1) (c .before .loop2-test .taken),
+)
 
 loop2-again : tie.Need-loop2-again Inv-loop μ-loop Inv-loop2 μ-loop2
 loop2-again c = (

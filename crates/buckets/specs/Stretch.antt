@@ -4,7 +4,7 @@ use mathlib.Core.Logic.{_≢_}
 use mathlib.Core.List.{List}
 use Prim.Native.Nat.{ℕ, zero, suc, _+_, _*_, _≤_, _<_}
 use lib.ListN.{length, getD}
-use Rattle.answers.specs.declared.stretch.Stretch.{Stretch}
+use Rattle.buckets.specs.declared.stretch.Stretch.{Stretch}
 
 -- the sum of the first s counts
 abbrev pub upto : (s : ℕ) → List ℕ → ℕ

@@ -1,7 +1,7 @@
--- `answers::stretch::begun` meets its contract.
+-- `buckets::stretch::begun` meets its contract.
 use borrow.Author.Tests.{eq-eqb, ne-eqb}
-use Rattle.answers.proofs.stretch.begun.Statement.{statement}
-use Rattle.answers.proofs.stretch.begun.Tie as tie
+use Rattle.buckets.proofs.stretch.begun.Statement.{statement}
+use Rattle.buckets.proofs.stretch.begun.Tie as tie
 
 returns : tie.Need-returns
 returns c = search (eq-eqb, c .if1 .taken)

@@ -1,16 +1,15 @@
--- The segment of a bucket, walked to over counts; and that it is one of the round.
-use mathlib.Core.Path.{_≡_, refl, sym, ap, _∙_, subst}
+-- The segment of a bucket, walked to over counts.
+use mathlib.Core.Path.{_≡_, refl, ap, _∙_}
 use mathlib.Core.Logic.{_≢_, inl, inr}
 use mathlib.Core.Bool.{cond}
 use mathlib.Core.List.{List}
-use Prim.Native.Nat.{ℕ, zero, suc, _+_, _*_, _-_, _≤_, _<_}
+use Prim.Native.Nat.{ℕ, suc, _+_, _*_, _-_, _≤_, _<_}
 use native.Mathlib.Omega.{arith}
 use native.Mathlib.Numerals.{add-one}
 use lib.Dec.{eqb}
-use lib.ListN.{length, getD}
+use lib.ListN.{getD}
 use Rattle.theory.specs.Tests.{eqb?, ltb?}
-use Rattle.answers.specs.Stretch.{upto, Full, Stretches}
-use Rattle.answers.specs.declared.stretch.Stretch.{Stretch}
+use Rattle.buckets.specs.Stretch.{upto, Full, Stretches}
 
 -- WALKING: rows in buckets below s lack so much to fill them; of the beginnings below s the last up to b is a
 pub record Walking (cs : List ℕ) (free b a lack s : ℕ) : Type 0 where

@@ -3,7 +3,7 @@ ghost use mathlib.Core.Path.{_≡_};
 ghost use mathlib.Core.Bool.{cond};
 ghost use Prim.Native.Nat.{_<_};
 ghost use lib.Dec.{eqb};
-ghost use Rattle.answers.specs.Stretch.{Full, Stretches};
+ghost use Rattle.buckets.specs.Stretch.{Full, Stretches};
 
 // Its first and last bucket.
 pub struct Stretch {

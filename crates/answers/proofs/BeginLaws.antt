@@ -1,11 +1,11 @@
 -- The way back over counts: rows that wait for an earlier bucket, and where segments begin.
-use mathlib.Core.Path.{_≡_, refl, sym, ap, _∙_, subst}
-use mathlib.Core.Logic.{_⊎_, inl, inr}
+use mathlib.Core.Path.{_≡_, ap, subst}
+use mathlib.Core.Logic.{inl, inr}
 use mathlib.Core.List.{List}
-use Prim.Native.Nat.{ℕ, zero, suc, _+_, _*_, _-_, _≤_, _<_}
+use Prim.Native.Nat.{ℕ, zero, suc, _+_, _-_, _≤_, _<_}
 use native.Mathlib.Omega.{arith}
-use lib.ListN.{length, getD}
-use Rattle.theory.specs.Tests.{leb?, ltb?, eqb?}
+use lib.ListN.{getD}
+use Rattle.theory.specs.Tests.{leb?, eqb?}
 use Rattle.buckets.specs.Stretch.{upto}
 use Rattle.answers.specs.Far.{Roomy, Flat, Begins}
 

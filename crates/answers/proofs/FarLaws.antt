@@ -1,35 +1,33 @@
 -- Far rows counted around a slot, and that a segment begins there where one does by these counts.
 use mathlib.Core.Path.{_≡_, refl, sym, ap, _∙_, subst}
 use mathlib.Core.Logic.{_⊎_, inl, inr}
-use mathlib.Core.Bool.{true, false, true≢false, false≢true}
+use mathlib.Core.Bool.{true, false≢true}
 use mathlib.Core.List.{List, [], _∷_}
-use Prim.Native.Nat.{ℕ, zero, suc, _+_, _*_, _-_, _≤_, _<_, min}
+use Prim.Native.Nat.{ℕ, zero, suc, _+_, _-_, _≤_, _<_}
 use native.Mathlib.Omega.{arith}
 use native.Mathlib.Numerals.{add-one}
-use lib.ListN.{length, getD, set, take, replicate, length-set, getD-replicate}
+use lib.ListN.{length, getD, set, take, replicate, length-set}
 use lib.Seq.{getD-set-same, getD-set-other, take-length}
 use Rattle.rules.specs.Rows.{Row, Round, blank, All, In}
 use Rattle.rules.specs.Table.{round-in}
-use Rattle.rules.specs.Plan.{plan, in-plan, planned, tight, segment-start, substitute}
+use Rattle.rules.specs.Plan.{plan, planned, tight, segment-start}
 use Rattle.theory.specs.Tests.{leb?, ltb?, eqb?}
 use Rattle.theory.specs.Sum.{sum, sum-le, length-sum}
-use Rattle.theory.specs.All.{all-in, all-map, all-of-in}
+use Rattle.theory.specs.All.{all-in, all-of-in}
 use Rattle.theory.specs.Feas.{below, num, below-1, num-early, num-mono}
-use Rattle.theory.specs.Bounds.{Row-fine}
 use Rattle.theory.specs.Full.{Fine, plan-feas}
 use Rattle.theory.specs.Marks.{Tight-in, tight?, start, box, box-yes, box?, box-num, box-early}
 use Rattle.theory.specs.Change.{rising-same}
-use Rattle.theory.specs.Same.{of-plan, of-yes, of-no, of-chosen, row-ticket, planned-same, in-plan?}
+use Rattle.theory.specs.Same.{of-plan, of-yes, of-no, of-chosen, row-ticket, in-plan?}
 use Rattle.theory.specs.Slack.{slack-is, tight-least, least-tight}
 use Rattle.theory.specs.Keys.{getD-in}
 use Rattle.theory.specs.Index.{sum-next}
 use Rattle.theory.specs.Members.{Rows-of-plan, planned-rows, of-rows-in, of-rows-fine, in-plan-is}
 use Rattle.theory.specs.Count.{sweep-left}
-use Rattle.theory.specs.Near.{Near, rows-feas, near-edge, near-out, near-last, start-same, far-sub}
+use Rattle.theory.specs.Near.{Near, rows-feas, near-edge, near-out, start-same, far-sub}
 use Rattle.sorts.specs.declared.Round.{Round as Head}
-use Rattle.round.specs.Rows.{Ready, Due-at, at, top-of}
+use Rattle.round.specs.Rows.{Due-at, at, top-of}
 use Rattle.round.proofs.ReadLaws.{known}
-use Rattle.buckets.specs.Reach.{Reaches}
 use Rattle.buckets.specs.declared.Reach.{Reach}
 use Rattle.buckets.specs.Stretch.{upto}
 use Rattle.answers.specs.Far.{window-at, bucket-in, Counted-in, Roomy, Flat, Begins, Far-row}

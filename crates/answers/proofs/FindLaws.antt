@@ -1,24 +1,22 @@
 -- The pass over the plan's keys that finds the segment of a slot.
 use mathlib.Core.Path.{_≡_, refl, sym, ap, _∙_, subst}
-use mathlib.Core.Logic.{_⊎_, inl, inr}
+use mathlib.Core.Logic.{inl, inr}
 use mathlib.Core.List.{List}
-use Prim.Native.Nat.{ℕ, zero, suc, _+_, _-_, _/_, _%_, _≤_, _<_, max}
+use Prim.Native.Nat.{ℕ, suc, _+_, _-_, _/_, _%_, _≤_, _<_, max}
 use native.Mathlib.Omega.{arith}
 use native.Mathlib.Numerals.{add-one}
 use lib.ListN.{length, getD}
-use Rattle.rules.specs.Rows.{Row, Round}
+use Rattle.rules.specs.Rows.{Round}
 use Rattle.theory.specs.Tests.{leb?, ltb?, eqb?}
 use Rattle.theory.specs.Feas.{num, num-mono}
 use Rattle.theory.specs.Flags.{with-flag}
 use Rattle.round.specs.Rows.{at}
 use Rattle.keys.specs.Key.{key-at}
-use Rattle.keys.specs.KeyLaws.{some-key}
-use Rattle.keys.specs.Sorted.{many-due, placed}
+use Rattle.keys.specs.Sorted.{placed}
 use Rattle.keys.specs.DueOrder.{each, each-more, placed-all, placed-rises}
-use Rattle.answers.specs.Given.{Given, Asked, Lent-asked}
+use Rattle.answers.specs.Given.{Asked, Lent-asked}
 use Rattle.answers.specs.Near.{Finds}
-use Rattle.answers.specs.declared.find.Found.{Found}
-use Rattle.answers.proofs.KeptLaws.{flagged, flagged-yes, flagged-no, kept, kept-all, filled, fits, At, at-place, Read, key-read, readable, from-slot}
+use Rattle.answers.proofs.KeptLaws.{flagged, flagged-yes, flagged-no, kept, kept-all, filled, fits, At, at-place, Read, key-read, from-slot}
 
 -- a row of the plan among the first p places, by its key
 pub record Kept-at (r : Round) (fs : List ℕ) (n p k : ℕ) : Type 0 where
@@ -260,9 +258,6 @@ Pass ks fs many slot asked first edge low p = (r : Round) (n : ℕ) → Asked r 
 
 -- what reading asks for
 module _ (ks fs : List ℕ) (many slot asked : ℕ) (l : Lent-asked ks fs many slot asked) where
-  pub keys-there : many ≤ length ks
-  keys-there = readable (l .of) ks fs many slot (l .n) (l .given .given)
-
   pub flag-there : (p k i : ℕ) → p < many → k ≡ getD ks p 0 → i ≡ k % 1024 → i < length fs
   flag-there p k i h e d = omega (arith, d, key-read (l .of) ks fs many slot (l .n) (l .given .given) p k h e .fits)
 

@@ -1,11 +1,11 @@
 -- The plan's rows among the first places in due order, and those due before a slot.
-use mathlib.Core.Path.{_≡_, refl, sym, ap, _∙_, subst}
-use mathlib.Core.Logic.{_⊎_, inl, inr}
-use mathlib.Core.Bool.{Bool, true, false, cond}
+use mathlib.Core.Path.{_≡_, refl, sym, ap, _∙_}
+use mathlib.Core.Logic.{inl, inr}
+use mathlib.Core.Bool.{true, false, cond}
 use mathlib.Core.List.{List}
 use Prim.Native.Nat.{ℕ, zero, suc, _+_, _-_, _/_, _%_, _≤_, _<_}
 use native.Mathlib.Omega.{arith}
-use lib.Dec.{ltb, eqb}
+use lib.Dec.{eqb}
 use lib.ListN.{length, getD, take}
 use lib.Seq.{take-length}
 use borrow.Author.Tests.{eq-eqb, ne-eqb}
@@ -14,7 +14,6 @@ use Rattle.rules.specs.Table.{round-in}
 use Rattle.theory.specs.Tests.{eqb?, ltb?, one-if}
 use Rattle.theory.specs.Sum.{sum}
 use Rattle.theory.specs.Feas.{below, num, below-yes, below-late}
-use Rattle.theory.specs.Full.{Fine}
 use Rattle.theory.specs.Index.{chosen-next}
 use Rattle.theory.specs.Members.{Rows-of-plan}
 use Rattle.theory.specs.Near.{rows-feas, near-edge}
@@ -25,10 +24,10 @@ use Rattle.round.proofs.ReadLaws.{known}
 use Rattle.keys.specs.Key.{key-at}
 use Rattle.keys.specs.KeyLaws.{row-fine, row-is, due-is, some-key}
 use Rattle.keys.specs.Sorted.{Sorted, many-due, placed}
-use Rattle.keys.specs.DueOrder.{Place, place, each, each-same, each-more, before-slot, placed-sum, placed-front}
+use Rattle.keys.specs.DueOrder.{place, each, each-same, each-more, before-slot, placed-sum, placed-front}
 use Rattle.buckets.specs.Reach.{Reaches}
 use Rattle.buckets.specs.declared.Reach.{Reach}
-use Rattle.answers.specs.Given.{Given, Asked}
+use Rattle.answers.specs.Given.{Given}
 
 -- FROM A PLAN
 pub given : (t ks fs : List ℕ) (h : Head) (x : Reach) (many : ℕ) → Ready t h → Reaches (round-in t) x → Sorted (round-in t) (x .free) ks →
@@ -181,6 +180,3 @@ module _ (r : Round) (ks fs : List ℕ) (many slot n : ℕ) (g : Given r ks fs m
         by = omega (arith, q, some-key r (g .fine) (g .small) (g .cap) (placed r n p) w .1);
         fits = omega (arith, i, w, g .chosen .long);
       }
-
-  pub readable : many ≤ length ks
-  readable = omega (arith, g .all, g .sorted .enough)

@@ -5,3 +5,4 @@ pub mod FindLaws
 pub mod NearLaws
 pub mod BeginLaws
 pub mod FarLaws
+pub mod AskLaws

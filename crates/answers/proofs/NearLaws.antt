@@ -1,14 +1,14 @@
 -- Marks and substitutes by the segment that a pass over the plan's keys finds.
-use mathlib.Core.Path.{_≡_, refl, sym, ap, _∙_, subst}
-use mathlib.Core.Logic.{_⊎_, inl, inr}
-use mathlib.Core.Bool.{Bool, true, false, true≢false}
+use mathlib.Core.Path.{_≡_, sym, ap, _∙_, subst}
+use mathlib.Core.Logic.{inl, inr}
+use mathlib.Core.Bool.{true, false, true≢false}
 use mathlib.Core.List.{List}
-use Prim.Native.Nat.{ℕ, zero, suc, _+_, _*_, _-_, _/_, _%_, _≤_, _<_, min}
+use Prim.Native.Nat.{ℕ, suc, _+_, _-_, _/_, _%_, _≤_, _<_, min}
 use native.Mathlib.Omega.{arith}
 use lib.ListN.{length, getD}
 use Rattle.rules.specs.Rows.{Row, Round, blank, heavier, In}
-use Rattle.rules.specs.Plan.{plan, in-plan, mark, first-end, substitute}
-use Rattle.theory.specs.Tests.{leb?, ltb?, eqb?}
+use Rattle.rules.specs.Plan.{plan, in-plan, mark, first-end}
+use Rattle.theory.specs.Tests.{ltb?, eqb?}
 use Rattle.theory.specs.Keys.{getD-in}
 use Rattle.theory.specs.Index.{flag-in, each-row, each-chosen, at-flag}
 use Rattle.theory.specs.Members.{found-member}
@@ -19,14 +19,14 @@ use Rattle.theory.specs.Flags.{raised, with-flag}
 use Rattle.round.specs.Rows.{at}
 use Rattle.keys.specs.Key.{key, key-at, blank-key}
 use Rattle.keys.specs.KeyLaws.{row-fine, row-is, weight-is, some-key, greater-key}
-use Rattle.keys.specs.Sorted.{many-due, placed}
+use Rattle.keys.specs.Sorted.{placed}
 use Rattle.keys.specs.DueOrder.{placed-all, placed-rises}
-use Rattle.answers.specs.Given.{Given, Asked, Lent, Lent-asked}
-use Rattle.answers.specs.Near.{Finds, Finds-say, Left-row, Left, Left-say}
+use Rattle.answers.specs.Given.{Given, Asked, Lent}
+use Rattle.answers.specs.Near.{Finds, Left-row, Left}
 use Rattle.answers.specs.Substitute.{Substitutes}
 use Rattle.answers.specs.declared.find.Found.{Found}
 use Rattle.answers.specs.declared.sub.Sub.the-variants.{Row as Row-at, Blank}
-use Rattle.answers.proofs.KeptLaws.{flag-on, flag-off, plan-rows, from-slot, At, at-place, Read, key-read, readable}
+use Rattle.answers.proofs.KeptLaws.{flag-on, flag-off, plan-rows, from-slot, at-place, Read, key-read}
 
 -- a greater key is no heavier row's
 pub key-weighs : (u d i v e j : ℕ) → u ≤ 16777216 → v ≤ 16777216 → d ≤ 4095 → e ≤ 4095 → i < 1024 → j < 1024 → key v e j ≤ key u d i → u ≤ v
@@ -221,9 +221,6 @@ Back ks fs many from k p = (r : Round) (slot n : ℕ) (g : Given r ks fs many sl
 
 pub left-there : (ks fs : List ℕ) (many : ℕ) → Lent ks fs many → (p k i : ℕ) → p < many → k ≡ getD ks p 0 → i ≡ k % 1024 → i < length fs
 left-there ks fs many l p k i h e d = omega (arith, d, key-read (l .of) ks fs many (l .slot) (l .n) (l .given) p k h e .fits)
-
-pub keys-lent : (ks fs : List ℕ) (many : ℕ) → Lent ks fs many → many ≤ length ks
-keys-lent ks fs many l = readable (l .of) ks fs many (l .slot) (l .n) (l .given)
 
 module _ (r : Round) (ks fs : List ℕ) (many slot n : ℕ) (g : Given r ks fs many slot n) (from k p x : ℕ) (o : 0 < p) (h : p ≤ many) (e : x ≡ getD ks (p - 1) 0)
     (b : Backing r ks fs many slot n g from k p) where

@@ -1,17 +1,15 @@
--- The weight of all rows, and the plan's by it.
-use mathlib.Core.Path.{_≡_, sym, ap, _∙_}
-use mathlib.Core.List.{List}
-use Prim.Native.Nat.{ℕ, _+_, _*_, _-_, _≤_, _<_}
+-- The weight of all rows, row by row.
+use mathlib.Core.Path.{_≡_, ap, _∙_}
+use Prim.Native.Nat.{ℕ, _+_, _*_, _≤_, _<_}
 use native.Mathlib.Omega.{arith}
 use native.Mathlib.Numerals.{add-one}
 use lib.ListN.{length, take}
 use lib.Seq.{take-length}
-use Rattle.rules.specs.Rows.{Row, Round, blank}
-use Rattle.rules.specs.Plan.{total, total-weight}
+use Rattle.rules.specs.Rows.{Round, blank}
+use Rattle.rules.specs.Plan.{total-weight}
 use Rattle.theory.specs.Sum.{sum, total-sum}
 use Rattle.theory.specs.Index.{sum-next}
-use Rattle.round.specs.Rows.{Weight-at, at}
-use Rattle.answers.specs.Total.{Lost}
+use Rattle.round.specs.Rows.{Weight-at}
 
 -- SUMMING: n is the weight of the first i rows
 pub record Summing (r : Round) (i n : ℕ) : Type 0 where
@@ -36,7 +34,3 @@ sum-end r i n e s =
       ap (sum (λ x. x .weight)) (ap (λ (n : ℕ). take n (r .rows)) e ∙ take-length (r .rows)),
       total-sum (r .rows),
     )
-
--- THE TOTAL
-pub lost-less : (r : Round) (lost n : ℕ) → Lost r lost → n ≡ total-weight (r .rows) → (lost ≤ n) × (n - lost ≡ total r)
-lost-less r lost n l e = (omega (arith, l .is, e), omega (arith, l .is, e))

@@ -6,8 +6,6 @@ ghost use lib.Dec.{leb};
 ghost use Rattle.rules.specs.Plan.{mark, least-weight};
 ghost use Rattle.rules.specs.Table.{round-in};
 ghost use Rattle.round.specs.Rows.{Ready, at};
-ghost use Rattle.round.specs.Buckets.{Counted};
-ghost use Rattle.buckets.specs.Reach.{Reaches};
 ghost use Rattle.answers.specs.Every.{Whole, Lightest-key};
 ghost use Rattle.answers.specs.Substitute.{Substitutes};
 use crate::sub::Sub;

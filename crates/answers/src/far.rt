@@ -1,8 +1,8 @@
-// The substitute of a far row, one due from free on. The plan has every such row; the blank where its segment begins stands in for it.
+// Far slots, from free on, and the substitute of a row due in one. The plan has every such row; the blank where its segment begins
+// stands in for it.
 ghost use mathlib.Core.Path.{_≡_};
-ghost use mathlib.Core.Bool.{cond};
-ghost use Prim.Native.Nat.{suc, _+_, _-_, _≤_, _<_, min};
-ghost use lib.Dec.{ltb};
+ghost use Prim.Native.Nat.{suc, _+_, _-_, _≤_, _<_};
+ghost use lib.Dec.{leb};
 ghost use lib.ListN.{length, replicate};
 ghost use Rattle.rules.specs.Table.{round-in};
 ghost use Rattle.round.specs.Rows.{Ready};
@@ -13,6 +13,14 @@ use buckets::Reach;
 use round::read::bucket_of;
 use round::read::due_at;
 use sorts::Round;
+
+// Whether a slot is so far that the plan has free ones up to it: its mark is 0.
+pub fn is_far(round: Round, reach: Reach, slot: u32) -> bool
+    requires { ⌜ round .slot .0 ≤ slot ⌝ }
+    ensures { λ r. ⌜ r ≡ leb (reach .free) (slot - round .slot .0) ⌝ }
+{
+    reach.free <= (slot - round.slot.0) as usize
+}
 
 // Buckets 0 to top: slots from low on; bucket mid is the slot where the row is due.
 pub struct Window {

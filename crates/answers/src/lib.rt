@@ -5,4 +5,4 @@ pub mod every; // every.rt: mark and substitute where no row is left out
 pub mod find; // find.rt: the segment of a slot, by the plan's keys
 pub mod mark; // mark.rt: the mark of a slot
 pub mod substitute; // substitute.rt: the substitute of a row
-pub mod far; // far.rt: the substitute of a row that is due where the plan has free slots
+pub mod far; // far.rt: slots so far that the plan has free ones, and the substitute of a row due there

@@ -1,6 +1,6 @@
 -- `answers::far::begin_of` meets its contract: rows wait for bucket s, first behind mid, then up to it.
 use mathlib.Core.Path.{refl}
-use Prim.Native.Nat.{_≤_, _<_}
+use Prim.Native.Nat.{_≤_}
 use native.Mathlib.Omega.{arith}
 use Rattle.answers.proofs.BeginLaws.{Waiting, wait-start, wait-back, Seeking, seek-start, seek-on, seek-back, seek-end, back-few, wait-few}
 use borrow.Author.Needs.{needs}

@@ -1,11 +1,10 @@
 -- `answers::far::count_in` meets its contract. The invariant: the rows passed are counted.
-use mathlib.Core.Path.{_≡_}
 use Prim.Native.Nat.{_-_, _≤_, _<_}
 use native.Mathlib.Omega.{arith}
 use lib.ListN.{length}
 use Rattle.rules.specs.Table.{round-in}
 use Rattle.round.proofs.ReadLaws.{known}
-use Rattle.answers.proofs.FarLaws.{bucket-by, Counting, count-start, count-step, count-end}
+use Rattle.answers.proofs.FarLaws.{Counting, count-start, count-step, count-end}
 use borrow.Author.Needs.{needs}
 use Rattle.answers.proofs.far.count_in.Statement.{statement}
 use Rattle.answers.proofs.far.count_in.Tie as tie

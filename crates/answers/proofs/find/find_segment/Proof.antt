@@ -1,8 +1,8 @@
 -- `answers::find::find_segment` meets its contract: the loop is `Passing`, for every round that the arrays are given for.
 use mathlib.Core.Path.{refl}
-use Prim.Native.Nat.{_-_, _≤_, _<_}
+use Prim.Native.Nat.{_-_, _≤_}
 use native.Mathlib.Omega.{arith}
-use Rattle.answers.proofs.FindLaws.{Pass, pass-start, pass-out, pass-on, pass-cut, pass-found, pass-end, keys-there, flag-there, edge-fits}
+use Rattle.answers.proofs.FindLaws.{Pass, pass-start, pass-out, pass-on, pass-cut, pass-found, pass-end, flag-there, edge-fits}
 use borrow.Author.Needs.{needs}
 use Rattle.answers.proofs.find.find_segment.Statement.{statement}
 use Rattle.answers.proofs.find.find_segment.Tie as tie

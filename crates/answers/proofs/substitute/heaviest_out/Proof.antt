@@ -1,8 +1,8 @@
 -- `answers::substitute::heaviest_out` meets its contract: the loop is `Backing`, for every round that the arrays are given for.
 use mathlib.Core.Path.{refl}
-use Prim.Native.Nat.{_-_, _≤_, _<_}
+use Prim.Native.Nat.{_≤_}
 use native.Mathlib.Omega.{arith}
-use Rattle.answers.proofs.NearLaws.{Back, back-start, stops, stays, takes, back-over, left-there, keys-lent}
+use Rattle.answers.proofs.NearLaws.{Back, back-start, stops, stays, takes, back-over, left-there}
 use borrow.Author.Needs.{needs}
 use Rattle.answers.proofs.substitute.heaviest_out.Statement.{statement}
 use Rattle.answers.proofs.substitute.heaviest_out.Tie as tie

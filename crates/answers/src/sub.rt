@@ -1,0 +1,5 @@
+// Who stands in for a row of the plan: a row by its index, or the blank due at a slot.
+pub enum Sub {
+    Row(usize),
+    Blank(u32),
+}

@@ -1,161 +1,353 @@
--- Rows closed up in place, step by step as the code goes.
+-- Rows closed up in place, run by run as the code goes.
 use mathlib.Core.Path.{_≡_, refl, sym, ap, ap₂, _∙_, subst}
 use mathlib.Core.Logic.{inl, inr}
-use mathlib.Core.Bool.{true, false, _&&_, not}
+use mathlib.Core.Bool.{Bool, true, false, _&&_}
 use mathlib.Core.List.{List, _++_, append-assoc}
 use Prim.Native.Nat.{ℕ, zero, suc, _+_, _*_, _-_, _≤_, _<_}
 use native.Mathlib.Omega.{arith}
-use lib.Dec.{leb, eqb}
-use lib.ListN.{length, getD, take, drop, replicate}
-use lib.Seq.{sets, paste, take-take, drop-length, length-take-le}
-use Rattle.rules.specs.Limits.{row-size, slot-at, used-at, ticket-at, due-at, slot-bytes, wide-bytes}
-use Rattle.rules.specs.Rows.{Row, Round, round, blank}
-use Rattle.rules.specs.Conditions.{row-at}
-use Rattle.rules.specs.Table.{low, field, put, head-bytes, row-bytes, rows-bytes, table, round-in, table-refusal}
-use Rattle.theory.specs.Tests.{ltb?}
+use lib.Dec.{leb, eqb, ltb}
+use borrow.Author.Tests.{le-leb, lt-leb, lt-ltb, le-ltb, ne-eqb, eq-eqb}
+use lib.ListN.{length, getD, take, drop, replicate, length-append}
+use lib.Seq.{sets, paste, paste-zero, length-paste, take-take, drop-at, drop-cons, drop-length, length-take-le}
+use Rattle.rules.specs.Limits.{head-size, row-size, slot-at, used-at, due-at, slot-bytes}
+use Rattle.rules.specs.Rows.{Row, Round, row, round, blank}
+use Rattle.rules.specs.Conditions.{row-at, used-in, ticket-in, due-in}
+use Rattle.rules.specs.Table.{low, field, head-bytes, rows-bytes, rows-in, table, round-in, table-refusal}
+use Rattle.theory.specs.Tests.{ltb?, eqb?}
 use Rattle.theory.specs.All.{all-in}
-use Rattle.theory.specs.Back.{zero-byte, Row-fits, fits-bytes, head-of, length-head-of, table-is}
-use Rattle.theory.specs.Fields.{value-low, field-drop, field-take}
+use Rattle.theory.specs.Sum.{sum}
+use Rattle.theory.specs.Feas.{below, num, below-yes}
+use Rattle.theory.specs.Back.{zero-byte, head-of, length-head-of, table-is}
+use Rattle.theory.specs.Fields.{field-drop}
+use Rattle.theory.specs.Bounds.{Row-fine}
+use Rattle.theory.specs.Change.{rising-above}
+use Rattle.theory.specs.Soundness.{row-in, row-there, row-next}
+use Rattle.theory.specs.Clauses.{rows-count}
 use Rattle.theory.specs.Sane.{Sane, sound}
-use Rattle.theory.specs.Keys.{getD-in}
-use Rattle.theory.specs.Close.{stays, closed, after-slot, kept-of, kept-most, closing-start, bytes-here, kept-more, kept-still, closing-skip, closing-copy, closing-paste, closing-rows, length-closed}
+use Rattle.theory.specs.Keys.{getD-in, tickets-less}
+use Rattle.theory.specs.Close.{stays, closed, after-slot, kept-of, kept-most, closing-start, kept-more, kept-still, closing-skip, closing-copy, closing-paste, closing-rows, length-closed, rows-split, rows-long}
 use Rattle.theory.specs.Write.{head-sets, zeros-join}
 use Rattle.round.specs.Head.{Head-of}
 use Rattle.sorts.specs.declared.Round.{Round as Head}
-use Rattle.closing.specs.Close.{stays-in, Kept, Front, Closing-in, Closed-rows, closed-up}
+use Rattle.closing.specs.Close.{Due-now, gone-ticket, None-due, Search, Next-leaving, Some-left, Left-behind, Closing-in, Closed-rows, closed-up}
+use Rattle.closing.proofs.CopyLaws.{paste-next}
 use Rattle.closing.proofs.HeadLaws.{head-slot, head-used, table-room}
 
--- whether a row stays, as the code reads it
-pub stays-read : (t : List ℕ) (s k i at d n : ℕ) → at ≡ row-at i → d ≡ field (at + 4) 2 t → n ≡ field (at + 0) 4 t →
-    leb s d && not (eqb n k) ≡ stays-in s k t i
-unfolding stays-in
-stays-read t s k i at d n e f g = rw (f, g, e)
+-- THE ROWS by index are the bytes' rows
+rows-there : (n : ℕ) (t : List ℕ) (i j : ℕ) → j < n → getD (rows-in n (drop (row-at i) t)) j (blank 0) ≡ row-in t (i + j)
+unfolding rows-in
+rows-there zero t i j h = absurd (omega arith)
+rows-there (suc n) t i zero h = let e : i ≡ i + 0 = omega arith in row-there t i ∙ ap (row-in t) e
+rows-there (suc n) t i (suc j) h =
+    let e : suc i + j ≡ i + suc j = omega arith in rw (row-next t i) (rows-there n t (suc i) j (omega arith) ∙ ap (row-in t) e)
 
--- the copy of a row that stays
-pub kept-copied : (t u : List ℕ) (i n a b : ℕ) → a ≡ row-at n → b ≡ row-at i → u ≡ paste t a (drop b t) row-size → u ≡ paste t (row-at n) (drop (row-at i) t) row-size
-kept-copied t u i n a b e f g = g ∙ ap₂ (λ (x y : ℕ). paste t x (drop y t) row-size) e f
+at-held : (t : List ℕ) (i : ℕ) → i < used-in t → getD (round-in t .rows) i (blank 0) ≡ row-in t i
+unfolding round-in round
+at-held t i l = let e : 0 + i ≡ i = omega arith in rows-there (used-in t) t 0 i l ∙ ap (row-in t) e
 
--- none looked at, and one more that stays
-pub front-none : (s k u : ℕ) (t : List ℕ) → Front s k u t 0
-front-none s k u t = record { by = omega arith; all = λ i h. absurd (omega arith) }
+used-held : (t : List ℕ) → length (round-in t .rows) ≡ used-in t
+unfolding round-in round
+used-held t = rows-count (used-in t) (drop head-size t)
 
-pub front-more : (s k u : ℕ) (t : List ℕ) (n : ℕ) → Front s k u t n → n < u → stays-in s k t n ≡ true → Front s k u t (n + 1)
-front-more s k u t n f h e =
-    record {
-      by = omega arith;
-      all = λ i l. elim (ltb? i n) [
-        | inl d ↦ f .all i (d .1)
-        | inr d ↦ let q : i ≡ n = omega (arith, d .1, l) in ap (stays-in s k t) q ∙ e
-      ];
-    }
+-- whether a row stays
+stays-yes : (s k : ℕ) (x : Row) → s ≤ x .due → (x .ticket ≡ k → ⊥) → stays s k x ≡ true
+unfolding stays
+stays-yes s k x h n = rw (le-leb s (x .due) h, ne-eqb (x .ticket) k n)
 
--- a row's due slot and ticket among its bytes
-row-due : (x : Row) → Row-fits x → field due-at slot-bytes (row-bytes x) ≡ x .due
-unfolding field row-bytes put low
-row-due x h = value-low 2 (x .due) (h .1 .0)
+due-goes : (s k : ℕ) (x : Row) → x .due < s → stays s k x ≡ false
+unfolding stays
+due-goes s k x h = rw (lt-leb s (x .due) h)
 
-row-ticket : (x : Row) → Row-fits x → field ticket-at wide-bytes (row-bytes x) ≡ x .ticket
-unfolding field row-bytes put low
-row-ticket x h = value-low 4 (x .ticket) (h .0)
+ticket-goes : (s k : ℕ) (x : Row) → x .ticket ≡ k → stays s k x ≡ false
+unfolding stays
+ticket-goes s k x e = rw (eq-eqb (x .ticket) k e) (none (leb s (x .due)))
+  where
+    none : (b : Bool) → b && false ≡ false
+    none true = refl
+    none false = refl
 
--- the number at a place of row i is the number at that place of its bytes
-part-field : (w bs : List ℕ) (i a n : ℕ) → take row-size (drop (row-at i) w) ≡ bs → a + n ≤ row-size → field (row-at i + a) n w ≡ field a n bs
-part-field w bs i a n e h =
-    sym (field-drop (row-at i) a n w) ∙ sym (field-take a n row-size (drop (row-at i) w) h) ∙ ap (field a n) e
+-- SO MANY of the rows from i on are due before e: never more further on
+due-next : (e : ℕ) (xs : List Row) (i : ℕ) → i < length xs → num 0 e (drop i xs) ≡ below 0 e (getD xs i (blank 0)) + num 0 e (drop (suc i) xs)
+due-next e xs i h = ap (num 0 e) (drop-cons xs i (blank 0) h)
 
-module _ (s k : ℕ) (r : Round) (z : Sane r) where
-  abbrev hd : List ℕ
-  hd = head-of r
+due-fall : (e : ℕ) (xs : List Row) (i m : ℕ) → i + m ≤ length xs → num 0 e (drop (i + m) xs) ≤ num 0 e (drop i xs)
+due-fall e xs i zero h = let p : i + 0 ≡ i = omega arith in rw p (omega arith)
+due-fall e xs i (suc m) h =
+    let p : i + suc m ≡ suc (i + m) = omega arith in
+    rw p (omega (arith, due-fall e xs i m (omega arith), due-next e xs (i + m) (omega arith)))
 
-  abbrev zs : List ℕ
-  zs = replicate (row-size * (r .room - length (r .rows))) 0
+due-later : (e : ℕ) (xs : List Row) (i j : ℕ) → i ≤ j → j ≤ length xs → num 0 e (drop j xs) ≤ num 0 e (drop i xs)
+due-later e xs i j h k = let p : i + (j - i) ≡ j = omega arith in rw (p) at (due-fall e xs i (j - i) (omega arith))
+
+module _ (r : Round) where
+  abbrev head₁ : List ℕ
+  head₁ = head-of r
+
+  abbrev zeros₁ : List ℕ
+  zeros₁ = replicate (row-size * (r .room - length (r .rows))) 0
 
   abbrev at : ℕ → Row
   at i = getD (r .rows) i (blank 0)
 
-  row-fits : (i : ℕ) → i < length (r .rows) → Row-fits (at i)
-  row-fits i h =
-      all-in Row-fits (at i) (r .rows) (fits-bytes r 1 (r .rows) (z .size .last) (z .size .next) (z .fine .fine) (z .size .tails) (z .fine .rising))
-      (getD-in (r .rows) (blank 0) i h)
+  -- the bytes from row i on
+  rest-of : (i : ℕ) → i ≤ length (r .rows) → drop (row-at i) (table r) ≡ rows-bytes (drop i (r .rows)) ++ zeros₁
+  rest-of i h =
+      let ps = rows-bytes (take i (r .rows)) in
+      let rest = rows-bytes (drop i (r .rows)) ++ zeros₁ in
+      let n : length (head₁ ++ ps) ≡ row-at i = omega (arith, length-append head₁ ps, length-head-of r, rows-long (r .rows) i h) in
+      ap (drop (row-at i)) (table-is r ∙ ap (λ (bs : List ℕ). head₁ ++ bs) (rows-split (r .rows) i zeros₁) ∙ sym (append-assoc head₁ ps rest))
+      ∙ drop-at (head₁ ++ ps) rest (row-at i) n
 
-  -- the bytes and the row agree on whether it stays
-  stays-is : (i : ℕ) (w : List ℕ) → i < length (r .rows) → Closing-in s k r i w → stays-in s k w i ≡ stays s k (at i)
-  unfolding stays-in stays
-  stays-is i w h q =
-      let b = bytes-here s k hd (r .rows) zs i (blank 0) w h q in
-      ap₂ (λ (d n : ℕ). leb s d && not (eqb n k))
-      (part-field w (row-bytes (at i)) i due-at slot-bytes b (omega arith) ∙ row-due (at i) (row-fits i h))
-      (part-field w (row-bytes (at i)) i ticket-at wide-bytes b (omega arith) ∙ row-ticket (at i) (row-fits i h))
-
-  -- ONE ROW MORE
-  pub closing-step : (i n m : ℕ) (w u : List ℕ) → i < length (r .rows) → n ≡ kept-of s k (r .rows) i → Closing-in s k r i w → Kept s k i n w u m →
-      (m ≡ kept-of s k (r .rows) (i + 1)) × Closing-in s k r (i + 1) u
-  closing-step i n m w u h e q (inl d) =
-      let g : stays s k (at i) ≡ true = sym (stays-is i w h q) ∙ d .0 in
-      let p : suc i ≡ i + 1 = omega arith in
-      rw (← p) (
-        omega (arith, d .1, e, kept-more s k (r .rows) i (blank 0) h g),
-        subst (λ (v : List ℕ). Closing-in s k r (suc i) v) (ap (λ (x : ℕ). paste w (row-at x) (drop (row-at i) w) row-size) (sym e) ∙ sym (d .2))
-            (closing-paste s k hd (r .rows) zs i (blank 0) w h q g),
+  -- A RUN of rows that stay is one copy
+  closing-run : (s k i n m : ℕ) (w : List ℕ) → i + m ≤ length (r .rows) → n ≡ kept-of s k (r .rows) i → Closing-in s k r i w →
+      ((j : ℕ) → i ≤ j → j < i + m → stays s k (at j) ≡ true) →
+      (n + m ≡ kept-of s k (r .rows) (i + m)) × Closing-in s k r (i + m) (paste w (row-at n) (drop (row-at i) w) (row-size * m))
+  closing-run s k i n zero w h e q f =
+      let p : i + 0 ≡ i = omega arith in
+      let o : n + 0 ≡ n = omega arith in (
+        o ∙ e ∙ ap (kept-of s k (r .rows)) (sym p),
+        subst (λ (v : List ℕ). Closing-in s k r (i + 0) v) (paste-zero w (row-at n) (drop (row-at i) w)) (subst (λ (j : ℕ). Closing-in s k r j w) (sym p) q),
       )
-  closing-step i n m w u h e q (inr d) =
-      let g : stays s k (at i) ≡ false = sym (stays-is i w h q) ∙ d .0 in
-      let p : suc i ≡ i + 1 = omega arith in
-      rw (← p) (
-        omega (arith, d .1, e, kept-still s k (r .rows) i (blank 0) h g),
-        subst (λ (v : List ℕ). Closing-in s k r (suc i) v) (sym (d .2)) (closing-skip s k hd (r .rows) zs i (blank 0) w w h q g refl refl refl),
-      )
-
-  -- the first rows, where all stay: nothing is written
-  front-from : (t : List ℕ) → t ≡ table r → (u n : ℕ) → Front s k u t n → (m : ℕ) → m ≤ n → n ≤ length (r .rows) →
-      (m ≡ kept-of s k (r .rows) m) × Closing-in s k r m t
-  unfolding closed round
-  front-from t e u n f zero l h = (
-    refl,
-    subst (λ (v : List ℕ). Closing-in s k r 0 v) (sym (e ∙ table-is r))
-        (closing-start s k hd (r .rows) zs (length-head-of r)),
-  )
-  front-from t e u n f (suc m) l h =
-      let c = front-from t e u n f m (omega arith) h in
-      let i : m < length (r .rows) = omega arith in
-      let g : stays s k (at m) ≡ true = sym (stays-is m t i (c .1)) ∙ f .all m l in (
-        omega (arith, c .0, kept-more s k (r .rows) m (blank 0) i g),
-        closing-copy s k hd (r .rows) zs m (blank 0) t t i (c .1) g refl refl (ap (λ (x : ℕ). take row-size (drop (row-at x) t)) (sym (c .0))) refl,
+  closing-run s k i n (suc m) w h e q f =
+      let c = closing-run s k i n m w (omega arith) e q (λ j a b. f j a (omega (arith, b))) in
+      let u = paste w (row-at n) (drop (row-at i) w) (row-size * m) in
+      let g : stays s k (at (i + m)) ≡ true = f (i + m) (omega arith) (omega arith) in
+      let l : i + m < length (r .rows) = omega arith in
+      let p : suc (i + m) ≡ i + suc m = omega arith in
+      let x : row-at (kept-of s k (r .rows) (i + m)) ≡ row-at n + row-size * m = omega (arith, c .0) in
+      let y : row-at (i + m) ≡ row-at i + row-size * m = omega arith in
+      let z : row-size * m + row-size ≡ row-size * suc m = omega arith in
+      let b = kept-most s k (r .rows) i (omega arith) in
+      let d : paste u (row-at (kept-of s k (r .rows) (i + m))) (drop (row-at (i + m)) u) row-size ≡ paste w (row-at n) (drop (row-at i) w) (row-size * suc m) =
+      ap₂ (λ (a b : ℕ). paste u a (drop b u) row-size) x y
+      ∙ paste-next w u (row-at n) (row-at i) (row-size * m) row-size (omega (arith, e, b)) (omega (arith, q .long, h)) refl
+      ∙ ap (λ (a : ℕ). paste w (row-at n) (drop (row-at i) w) a) z in (
+        omega (arith, c .0, kept-more s k (r .rows) (i + m) (blank 0) l g, ap (kept-of s k (r .rows)) p),
+        subst (λ (j : ℕ). Closing-in s k r j (paste w (row-at n) (drop (row-at i) w) (row-size * suc m))) p
+            (subst (λ (v : List ℕ). Closing-in s k r (suc (i + m)) v) d (closing-paste s k head₁ (r .rows) zeros₁ (i + m) (blank 0) u l (c .1) g)),
       )
 
--- THE LOOP: row i of u is next, and n of those before it are kept
-pub record Moving (s k u : ℕ) (t : List ℕ) (i n : ℕ) (w : List ℕ) : Type 0 where
-  pub by : i ≤ u
+-- THE STATE: row i leaves or is past the last, the rows before it are closed up, and at most l due now are left from it on
+pub record Runs (t : List ℕ) (g i n l : ℕ) (w : List ℕ) : Type 0 where
+  pub by : i ≤ length (round-in t .rows)
   pub long : length w ≡ length t
-  pub kept : n ≡ kept-of s k (round-in t .rows) i
-  pub rows : Closing-in s k (round-in t) i w
+  pub kept : n ≡ kept-of (suc (round-in t .slot)) (gone-ticket t g) (round-in t .rows) i
+  pub rows : Closing-in (suc (round-in t .slot)) (gone-ticket t g) (round-in t) i w
+  pub left : num 0 (suc (round-in t .slot)) (drop i (round-in t .rows)) ≤ l
+  pub leaves : i < length (round-in t .rows) → stays (suc (round-in t .slot)) (gone-ticket t g) (at (round-in t) i) ≡ false
 
-module _ {s k u : ℕ} {t : List ℕ} (e : table-refusal t ≡ 0) (l : u ≡ length (round-in t .rows)) where
-  pub moving-start : {n : ℕ} → Front s k u t n → Moving s k u t n n t
-  moving-start {n} f =
-      let h = sound t e in
-      let q = front-from s k (round-in t) (h .sane) t (sym (h .bytes)) u n f n (omega arith) (omega (arith, f .by)) in
-      record { by = f .by; long = refl; kept = q .0; rows = q .1 }
+module _ {t : List ℕ} {h : Head} {g : ℕ} (e : table-refusal t ≡ 0) (d : Head-of t h) (b : g ≤ h .used) where
+  abbrev xs : List Row
+  xs = round-in t .rows
 
-  module _ {i n : ℕ} {w : List ℕ} (q : Moving s k u t i n w) where
-    pub moving-room : i < u → (i < 1024) × (row-at (suc i) ≤ length w) × (n ≤ i)
-    moving-room h =
-        let g = table-room t e l in
-        (omega (arith, g .0), omega (arith, g .1, q .long), omega (arith, q .kept, kept-most s k (round-in t .rows) i (omega (arith, l))))
+  abbrev s : ℕ
+  s = suc (round-in t .slot)
 
-    pub moving-step : {m : ℕ} {v : List ℕ} → i < u → Kept s k i n w v m → length v ≡ length w → Moving s k u t (i + 1) m v
-    moving-step {m} {v} h d g =
-        let c = closing-step s k (round-in t) (sound t e .sane) i n m w v (omega (arith, l)) (q .kept) (q .rows) d in
-        record { by = omega arith; long = g ∙ q .long; kept = c .0; rows = c .1 }
+  abbrev k : ℕ
+  k = gone-ticket t g
 
-    pub moving-end : u ≤ i → Closed-rows s k t w n
-    moving-end h =
-        let r = round-in t in
-        let f : i ≡ length (r .rows) = omega (arith, q .by, l) in
-        let c : Closing-in s k r (length (r .rows)) w = subst (λ (j : ℕ). Closing-in s k r j w) f (q .rows) in
-        let g = closing-rows s k (head-of r) (r .rows) (replicate (row-size * (r .room - length (r .rows))) 0) w
-        (length-head-of r) c in
-        record { rows = c; many = q .kept ∙ ap (kept-of s k (r .rows)) f ∙ g .0 }
+  abbrev row-of : ℕ → Row
+  row-of = at (round-in t)
+
+  due-is : (j : ℕ) → j < length xs → due-in t j ≡ row-of j .due
+  unfolding row
+  due-is j l = sym (ap (λ (x : Row). x .due) (at-held t j (omega (arith, l, used-held t))))
+
+  ticket-is : (j : ℕ) → j < length xs → ticket-in t j ≡ row-of j .ticket
+  unfolding row
+  ticket-is j l = sym (ap (λ (x : Row). x .ticket) (at-held t j (omega (arith, l, used-held t))))
+
+  due-from : (j : ℕ) → j < length xs → round-in t .slot ≤ row-of j .due
+  due-from j l = all-in (Row-fine (round-in t)) (row-of j) xs (sound t e .sane .fine .fine) (getD-in xs (blank 0) j l) .due-from
+
+  ticket-some : (j : ℕ) → j < length xs → 1 ≤ row-of j .ticket
+  ticket-some j l = rising-above 1 (round-in t .next) (row-of j) xs (sound t e .sane .fine .rising) (getD-in xs (blank 0) j l)
+
+  gone-is : g < length xs → k ≡ row-of g .ticket
+  gone-is l = rw (lt-ltb g (used-in t) (omega (arith, l, used-held t))) (ticket-is g l)
+
+  gone-none : length xs ≤ g → k ≡ 0
+  gone-none l = rw (le-ltb g (used-in t) (omega (arith, l, used-held t)))
+
+  -- the row that goes has its ticket, and no other has
+  ticket-same : (j : ℕ) → j < length xs → j ≡ g → row-of j .ticket ≡ k
+  ticket-same j l q = ap (λ (n : ℕ). row-of n .ticket) q ∙ sym (gone-is (omega (arith, l, q)))
+
+  ticket-other : (j : ℕ) → j < length xs → (j ≡ g → ⊥) → row-of j .ticket ≡ k → ⊥
+  ticket-other j l n q = elim (ltb? g (length xs)) [
+    | inr c ↦ omega (arith, q, gone-none (c .1), ticket-some j l)
+    | inl c ↦ elim (ltb? j g) [
+      | inl a ↦ omega (arith, q, gone-is (c .1), less j g (a .1) (c .1))
+      | inr a ↦ elim (ltb? g j) [
+        | inl o ↦ omega (arith, q, gone-is (c .1), less g j (o .1) l)
+        | inr o ↦ n (omega (arith, a .1, o .1))
+      ]
+    ]
+  ]
+    where
+      less : (i j : ℕ) → i < j → j < length xs → row-of i .ticket < row-of j .ticket
+      less i j = tickets-less 1 (round-in t .next) xs (blank 0) i j (sound t e .sane .fine .rising)
+
+  module _ {i : ℕ} {w : List ℕ} (q : Closing-in s k (round-in t) i w) (o : length w ≡ length t) {f : ℕ} (m : i ≤ f) where
+    -- what is not closed up yet is as it was
+    due-still : (j : ℕ) → f ≤ j → j < length xs → due-in w j ≡ row-of j .due
+    due-still j a l =
+        let p : row-at i + (row-size * (j - i) + due-at) ≡ row-at j + due-at = omega (arith, a, m) in
+        let y : drop (row-at i) w ≡ drop (row-at i) t = q .rest ∙ sym (rest-of (round-in t) i (q .ahead)) ∙ ap (drop (row-at i)) (sound t e .bytes) in
+        ap (λ (n : ℕ). field n slot-bytes w) (sym p)
+        ∙ sym (field-drop (row-at i) (row-size * (j - i) + due-at) slot-bytes w)
+        ∙ ap (field (row-size * (j - i) + due-at) slot-bytes) y
+        ∙ field-drop (row-at i) (row-size * (j - i) + due-at) slot-bytes t
+        ∙ ap (λ (n : ℕ). field n slot-bytes t) p
+        ∙ due-is j l
+
+    due-now : (j : ℕ) → f ≤ j → j < length xs → due-in w j ≡ h .slot .0 → num 0 s (drop j xs) ≡ suc (num 0 s (drop (suc j) xs))
+    due-now j a l c =
+        omega (
+          arith,
+          due-next s xs j l,
+          below-yes 0 s (row-of j) (omega arith) (omega (arith, due-still j a l, c, head-slot d)),
+        )
+
+    searched : {l : ℕ} → f ≤ h .used → num 0 s (drop f xs) ≤ l → Search (h .slot .0) g f (h .used) l w
+    searched {l} n c =
+        let z = table-room t e (head-used d) in
+        record {
+          by = n;
+          gone-by = b;
+          few = z .0;
+          long = omega (arith, z .1, o);
+          none = λ v j x y u.
+              let p : j < length xs = omega (arith, y, head-used d) in
+              absurd (omega (arith, v, c, due-now j x p u, due-later s xs f j x (omega (arith, p))));
+        }
+
+    module _ {n : ℕ} (v : Next-leaving (h .slot .0) g f (h .used) w n) where
+      next-by : n ≤ length xs
+      next-by = omega (arith, v .before .by, head-used d)
+
+      next-stay : (j : ℕ) → f ≤ j → j < n → stays s k (row-of j) ≡ true
+      next-stay j x y =
+          let p : j < length xs = omega (arith, y, next-by) in
+          stays-yes s k (row-of j) (late p) (ticket-other j p (v .other j x y))
+        where
+          late : j < length xs → s ≤ row-of j .due
+          late p = elim (eqb? (row-of j .due) (round-in t .slot)) [
+            | inl c ↦ absurd (v .before .none j x y (due-still j x p ∙ c .1 ∙ sym (head-slot d)))
+            | inr c ↦ let u = c .1 in omega (arith, due-from j p)
+          ]
+
+      next-leaves : n < length xs → stays s k (row-of n) ≡ false
+      next-leaves p = elim (v .leaves (omega (arith, p, head-used d))) [
+        | inl c ↦ due-goes s k (row-of n) (omega (arith, due-still n (v .before .onward) p, c, head-slot d))
+        | inr c ↦ ticket-goes s k (row-of n) (ticket-same n p c)
+      ]
+
+  -- BEFORE THE FIRST RUN: the rows in front stay where they are
+  start : Closing-in s k (round-in t) 0 t
+  start =
+      subst (λ (v : List ℕ). Closing-in s k (round-in t) 0 v) (sym (table-is (round-in t)) ∙ sound t e .bytes)
+      (closing-start s k (head-of (round-in t)) xs (zeros₁ (round-in t)) (length-head-of (round-in t)))
+
+  pub search-start : {l : ℕ} → Due-now t l → Search (h .slot .0) g 0 (h .used) l t
+  search-start c = searched start refl (omega arith) (omega arith) c
+
+  in-front : (n : ℕ) → n ≤ length xs → ((j : ℕ) → j < n → stays s k (row-of j) ≡ true) → (n ≡ kept-of s k xs n) × Closing-in s k (round-in t) n t
+  unfolding closed
+  in-front zero l f = (refl, start)
+  in-front (suc n) l f =
+      let c = in-front n (omega arith) (λ j a. f j (omega (arith, a))) in
+      let y = f n (omega arith) in (
+        omega (arith, c .0, kept-more s k xs n (blank 0) l y),
+        closing-copy s k (head-of (round-in t)) xs (zeros₁ (round-in t)) n (blank 0) t t l (c .1) y refl refl
+            (ap (λ (x : ℕ). take row-size (drop (row-at x) t)) (sym (c .0))) refl,
+      )
+
+  pub runs-start : {l i : ℕ} → Due-now t l → Next-leaving (h .slot .0) g 0 (h .used) t i → Runs t g i i l t
+  runs-start {l} {i} c v =
+      let n = next-by start refl (omega arith) v in
+      let q = in-front i n (λ j. next-stay start refl (omega arith) v j (omega arith)) in
+      record {
+        by = n;
+        long = refl;
+        kept = q .0;
+        rows = q .1;
+        left = omega (arith, c, due-later s xs 0 i (omega arith) n);
+        leaves = next-leaves start refl (omega arith) v;
+      }
+
+  -- ONE ROW LEAVES, AND A RUN MOVES
+  module _ {i n l : ℕ} {w : List ℕ} (q : Runs t g i n l w) (p : i < h .used) where
+    pub some-left : Some-left (h .slot .0) i l w
+    some-left =
+        let z = table-room t e (head-used d) in
+        record {
+          few = omega (arith, p, z .0);
+          long = omega (arith, p, z .1, q .long);
+          some = λ c. omega (arith, due-now (q .rows) (q .long) {f = i} (omega arith) i (omega arith) (omega (arith, p, head-used d)) c, q .left);
+        }
+
+    gone-on : Closing-in s k (round-in t) (i + 1) w
+    gone-on =
+        let j : i < length xs = omega (arith, p, head-used d) in
+        let y : suc i ≡ i + 1 = omega arith in
+        subst (λ (a : ℕ). Closing-in s k (round-in t) a w) y
+        (closing-skip s k (head-of (round-in t)) xs (zeros₁ (round-in t)) i (blank 0) w w j (q .rows) (q .leaves j) refl refl refl)
+
+    still-kept : n ≡ kept-of s k xs (i + 1)
+    still-kept =
+        let j : i < length xs = omega (arith, p, head-used d) in
+        let y : suc i ≡ i + 1 = omega arith in
+        q .kept ∙ sym (kept-still s k xs i (blank 0) j (q .leaves j)) ∙ ap (kept-of s k xs) y
+
+    module _ {m : ℕ} (c : Left-behind (h .slot .0) i l w m) where
+      left-after : num 0 s (drop (i + 1) xs) ≤ m
+      left-after =
+          let j : i < length xs = omega (arith, p, head-used d) in
+          let y : suc i ≡ i + 1 = omega arith in
+          let z = ap (λ (a : ℕ). num 0 s (drop a xs)) y in
+          elim c [
+            | inl a ↦ omega (arith, z, a .1, q .left, due-now (q .rows) (q .long) {f = i} (omega arith) i (omega arith) j (a .0))
+            | inr a ↦ omega (arith, z, a .1, q .left, due-later s xs i (suc i) (omega arith) j)
+          ]
+
+      pub search-more : Search (h .slot .0) g (i + 1) (h .used) m w
+      search-more = searched gone-on (q .long) (omega arith) (omega (arith, p)) left-after
+
+      module _ {a : ℕ} (v : Next-leaving (h .slot .0) g (i + 1) (h .used) w a) where
+        pub run-room : (n ≤ i + 1) × (i + 1 ≤ a) × (a ≤ 1024) × (row-at a ≤ length w)
+        run-room =
+            let z = table-room t e (head-used d) in (
+              omega (arith, still-kept, kept-most s k xs (i + 1) (omega (arith, p, head-used d))),
+              v .before .onward,
+              omega (arith, v .before .by, z .0),
+              omega (arith, v .before .by, z .1, q .long),
+            )
+
+        pub runs-more : {u : List ℕ} → length u ≡ length w → u ≡ paste w (row-at n) (drop (row-at (i + 1)) w) (row-size * (a - (i + 1))) →
+            Runs t g a (n + (a - (i + 1))) m u
+        runs-more {u} o f =
+            let x : i + 1 + (a - (i + 1)) ≡ a = omega (arith, v .before .onward) in
+            let y = next-by gone-on (q .long) (omega arith) v in
+            let z = closing-run (round-in t) s k (i + 1) n (a - (i + 1)) w (omega (arith, x, y)) still-kept gone-on
+            (λ j b c. next-stay gone-on (q .long) (omega arith) v j b (omega (arith, c, x))) in
+            record {
+              by = y;
+              long = o ∙ q .long;
+              kept = z .0 ∙ ap (kept-of s k xs) x;
+              rows = subst (λ (bs : List ℕ). Closing-in s k (round-in t) a bs) (sym f)
+                  (subst (λ (j : ℕ). Closing-in s k (round-in t) j (paste w (row-at n) (drop (row-at (i + 1)) w) (row-size * (a - (i + 1))))) x (z .1));
+              left = omega (arith, left-after, due-later s xs (i + 1) a (v .before .onward) y);
+              leaves = next-leaves gone-on (q .long) (omega arith) v;
+            }
+
+  pub runs-end : {i n l : ℕ} {w : List ℕ} → Runs t g i n l w → h .used ≤ i → Closed-rows (suc (h .slot .0)) k t w n
+  runs-end {i} {n} {l} {w} q o =
+      let f : i ≡ length xs = omega (arith, q .by, o, head-used d) in
+      let c : Closing-in s k (round-in t) (length xs) w = subst (λ (j : ℕ). Closing-in s k (round-in t) j w) f (q .rows) in
+      let y = closing-rows s k (head-of (round-in t)) xs (zeros₁ (round-in t)) w (length-head-of (round-in t)) c in
+      let a : s ≡ suc (h .slot .0) = omega (arith, head-slot d) in
+      subst (λ (z : ℕ). Closed-rows z k t w n) a record { rows = c; many = q .kept ∙ ap (kept-of s k xs) f ∙ y .0 }
 
 -- AT THE END: zeros behind the rows kept, the head's slot and count
 module _ (k : ℕ) (t w : List ℕ) (n : ℕ) (e : table-refusal t ≡ 0) (q : Closed-rows (suc (round-in t .slot)) k t w n) where
@@ -223,11 +415,12 @@ module _ {s k : ℕ} {t w : List ℕ} {n : ℕ} (q : Closed-rows s k t w n) (e :
       )
 
 -- the same with the head's numbers
-pub closed-written : {t w v x y : List ℕ} {h : Head} {k n s from end : ℕ} → table-refusal t ≡ 0 → Head-of t h → s ≡ h .slot .0 + 1 → Closed-rows s k t w n →
+pub closed-written : {t w v x y : List ℕ} {h : Head} {k n from end : ℕ} → table-refusal t ≡ 0 → Head-of t h → Closed-rows (suc (h .slot .0)) k t w n →
     from ≡ row-at n → end ≡ row-at (h .used) → v ≡ take from (take end w) ++ replicate (length (take end w) - from) 0 →
-    x ≡ sets (v ++ drop end w) slot-at (low slot-bytes s) → y ≡ sets x used-at (low slot-bytes n) → y ≡ closed-up k t
-closed-written {t} {w} {v} {x} {y} {h} {k} {n} {s} {from} {end} e d i q a b c f g =
-    let j : s ≡ suc (round-in t .slot) = omega (arith, head-slot d) in
+    x ≡ sets (v ++ drop end w) slot-at (low slot-bytes (h .slot .0 + 1)) → y ≡ sets x used-at (low slot-bytes n) → y ≡ closed-up k t
+closed-written {t} {w} {v} {x} {y} {h} {k} {n} {from} {end} e d q a b c f g =
+    let i : suc (h .slot .0) ≡ suc (round-in t .slot) = omega (arith, head-slot d) in
+    let j : h .slot .0 + 1 ≡ suc (round-in t .slot) = omega (arith, head-slot d) in
     g
-    ∙ closed-table k t w n e (subst (λ (m : ℕ). Closed-rows m k t w n) j q) (v ++ drop end w) x from end a (b ∙ ap row-at (head-used d))
+    ∙ closed-table k t w n e (subst (λ (m : ℕ). Closed-rows m k t w n) i q) (v ++ drop end w) x from end a (b ∙ ap row-at (head-used d))
     (ap (λ (bs : List ℕ). bs ++ drop end w) c) (f ∙ ap (λ (m : ℕ). sets (v ++ drop end w) slot-at (low slot-bytes m)) j)

@@ -1,4 +1,4 @@
 pub mod CopyLaws
-pub mod WriteLaws
+pub mod SearchLaws
 pub mod HeadLaws
 pub mod CloseLaws

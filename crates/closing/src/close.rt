@@ -1,83 +1,37 @@
-// Rows that stay close up, the rows behind them become zero, and the head is written.
+// Rows due in the current slot leave, and one that goes; the others close up, and the slot moves on.
 ghost use mathlib.Core.Path.{_≡_};
-ghost use Prim.Native.Nat.{suc, _+_, _≤_, _<_};
-ghost use lib.ListN.{length, drop};
-ghost use lib.Seq.{paste};
-ghost use Rattle.rules.specs.Conditions.{row-at};
+ghost use mathlib.Core.Bool.{cond};
+ghost use Prim.Native.Nat.{suc, _≤_, _<_};
+ghost use lib.Dec.{leb};
+ghost use lib.ListN.{length};
+ghost use Rattle.rules.specs.Conditions.{row-at, due-in};
 ghost use Rattle.rules.specs.Table.{round-in, table-refusal};
 ghost use Rattle.round.specs.Head.{Head-of};
-ghost use Rattle.closing.specs.Close.{stays-in, Kept, Front, Closed-rows, closed-up};
+ghost use Rattle.closing.specs.Close.{Due-now, gone-ticket, Next-due, Search, Next-leaving, Some-left, Left-behind, Closed-rows, closed-up};
+use crate::runs::move_run;
 use numbers::read2;
-use numbers::read4;
 use numbers::write2;
 use round::rows::row_at;
 use round::zeros::clear;
 use sorts::Round;
 use sorts::Slot;
-use sorts::Ticket;
 
-// Whether a row stays: due from a slot on, and not the one that goes.
-fn row_stays(table: &[u8], row: usize, slot: Slot, gone: Ticket) -> bool
+// The due slot of a row.
+fn due_of(table: &[u8], row: usize) -> u32
     requires { ⌜ (row < 1024) × (row-at (suc row) ≤ length (now table)) ⌝ }
-    ensures { λ r. ⌜ r ≡ stays-in (slot .0) (gone .0) (now (table .entry)) row ⌝ }
+    ensures { λ r. ⌜ r ≡ due-in (now (table .entry)) row ⌝ }
 {
-    let at = row_at(row);
-    (slot.0 <= read2(table, at + Round::DUE_AT)) & (read4(table, at + Round::TICKET_AT) != gone.0)
+    read2(table, row_at(row) + Round::DUE_AT)
 }
 
-// Eight bytes copied within the table: all are read before one is written.
-fn copy8(table: &mut [u8], to: usize, from: usize)
-    requires { ⌜ (to ≤ from) × (from + 8 ≤ length (now table)) ⌝ }
-    ensures { λ _. ⌜ now (table .exit) ≡ paste (now (table .entry)) to (drop from (now (table .entry))) 8 ⌝ }
+// The first row due in a slot, from one up to another; the latter if none is.
+fn next_due(table: &[u8], from: usize, to: usize, slot: Slot) -> usize
+    requires { ⌜ (from ≤ to) × (to ≤ 1024) × (row-at to ≤ length (now table)) ⌝ }
+    ensures { λ r. ⌜ Next-due (slot .0) from to (now (table .entry)) r ⌝ }
 {
-    let a = table[from];
-    let b = table[from + 1];
-    let c = table[from + 2];
-    let d = table[from + 3];
-    let e = table[from + 4];
-    let f = table[from + 5];
-    let g = table[from + 6];
-    let h = table[from + 7];
-    table[to] = a;
-    table[to + 1] = b;
-    table[to + 2] = c;
-    table[to + 3] = d;
-    table[to + 4] = e;
-    table[to + 5] = f;
-    table[to + 6] = g;
-    table[to + 7] = h;
-}
-
-// A row copied to a place that is no later.
-fn copy_row(table: &mut [u8], to: usize, from: usize)
-    requires { ⌜ (to ≤ from) × (from + 24 ≤ length (now table)) ⌝ }
-    ensures { λ _. ⌜ now (table .exit) ≡ paste (now (table .entry)) to (drop from (now (table .entry))) 24 ⌝ }
-{
-    copy8(table, to, from);
-    copy8(table, to + 8, from + 8);
-    copy8(table, to + 16, from + 16);
-}
-
-// A row that stays goes behind those kept so far. Answers how many are kept.
-fn keep_row(table: &mut [u8], row: usize, kept: usize, slot: Slot, gone: Ticket) -> usize
-    requires { ⌜ (row < 1024) × (row-at (suc row) ≤ length (now table)) × (kept ≤ row) ⌝ }
-    ensures { λ r. ⌜ Kept (slot .0) (gone .0) row kept (now (table .entry)) (now (table .exit)) r ⌝ }
-{
-    if row_stays(table, row, slot, gone) {
-        copy_row(table, row_at(kept), row_at(row));
-        return kept + 1;
-    }
-    kept
-}
-
-// The first row that leaves, or how many there are.
-fn first_leaving(table: &[u8], used: usize, slot: Slot, gone: Ticket) -> usize
-    requires { ⌜ (used ≤ 1024) × (row-at used ≤ length (now table)) ⌝ }
-    ensures { λ r. ⌜ Front (slot .0) (gone .0) used (now (table .entry)) r ⌝ }
-{
-    let mut i: usize = 0;
-    while i < used {
-        if !row_stays(table, i, slot, gone) {
+    let mut i = from;
+    while i < to {
+        if due_of(table, i) == slot.0 {
             return i;
         }
         i += 1;
@@ -85,31 +39,75 @@ fn first_leaving(table: &[u8], used: usize, slot: Slot, gone: Ticket) -> usize
     i
 }
 
-// The rows that stay, moved to the front. Answers how many.
-fn close_rows(table: &mut [u8], used: usize, slot: Slot, gone: Ticket) -> usize
-    requires { ⌜ (table-refusal (now table) ≡ 0) × (used ≡ length (round-in (now table) .rows)) ⌝ }
-    ensures { λ r. ⌜ Closed-rows (slot .0) (gone .0) (now (table .entry)) (now (table .exit)) r ⌝ }
+// Where a search from a row on ends: at the row that goes, if it is not behind, or past the last.
+fn search_end(from: usize, used: usize, gone: usize) -> usize
+    ensures { λ r. ⌜ r ≡ cond (leb from gone) gone used ⌝ }
 {
-    let mut i = first_leaving(table, used, slot, gone);
+    if from <= gone {
+        return gone;
+    }
+    used
+}
+
+// The next row that leaves, or how many there are. With no row due now left there is nothing to search.
+fn next_leaving(
+    table: &[u8],
+    from: usize,
+    used: usize,
+    slot: Slot,
+    left: usize,
+    gone: usize,
+) -> usize
+    requires { ⌜ Search (slot .0) gone from used left (now table) ⌝ }
+    ensures { λ r. ⌜ Next-leaving (slot .0) gone from used (now (table .entry)) r ⌝ }
+{
+    let end = search_end(from, used, gone);
+    if left == 0 {
+        return end;
+    }
+    next_due(table, from, end, slot)
+}
+
+// How many rows due now can be behind a row, where so many can be from it on.
+fn left_behind(table: &[u8], row: usize, slot: Slot, left: usize) -> usize
+    requires { ⌜ Some-left (slot .0) row left (now table) ⌝ }
+    ensures { λ r. ⌜ Left-behind (slot .0) row left (now (table .entry)) r ⌝ }
+{
+    if due_of(table, row) == slot.0 {
+        return left - 1;
+    }
+    left
+}
+
+// The rows that stay, moved to the front in runs between rows that leave. Answers how many.
+fn close_rows(table: &mut [u8], round: Round, expiring: usize, gone: usize) -> usize
+    requires { ⌜ (table-refusal (now table) ≡ 0) × Head-of (now table) round × (gone ≤ round .used) × Due-now (now table) expiring ⌝ }
+    ensures { λ r. ⌜ Closed-rows (suc (round .slot .0)) (gone-ticket (now (table .entry)) gone) (now (table .entry)) (now (table .exit)) r ⌝ }
+{
+    let used = round.used;
+    let mut left = expiring;
+    let mut i = next_leaving(table, 0, used, round.slot, left, gone);
     let mut kept = i;
     while i < used {
-        kept = keep_row(table, i, kept, slot, gone);
-        i += 1;
+        left = left_behind(table, i, round.slot, left);
+        let from = i + 1;
+        let next = next_leaving(table, from, used, round.slot, left, gone);
+        move_run(table, from, next, kept);
+        kept += next - from;
+        i = next;
     }
     kept
 }
 
-// The slot moves on: rows due before it leave, and the one that goes; ticket 0 is no row's.
-pub fn close_up(table: &mut [u8], round: Round, gone: Ticket)
-    requires { ⌜ (table-refusal (now table) ≡ 0) × Head-of (now table) round ⌝ }
-    ensures { λ _. ⌜ now (table .exit) ≡ closed-up (gone .0) (now (table .entry)) ⌝ }
+// The slot moves on: rows due in it leave, at most expiring, and the row at gone; used is no row's place.
+pub fn close_up(table: &mut [u8], round: Round, expiring: usize, gone: usize)
+    requires { ⌜ (table-refusal (now table) ≡ 0) × Head-of (now table) round × (gone ≤ round .used) × Due-now (now table) expiring ⌝ }
+    ensures { λ _. ⌜ now (table .exit) ≡ closed-up (gone-ticket (now (table .entry)) gone) (now (table .entry)) ⌝ }
 {
-    let used = round.used;
-    let slot = round.slot.0 + 1;
-    let kept = close_rows(table, used, Slot(slot), gone);
-    let end = row_at(used);
+    let kept = close_rows(table, round, expiring, gone);
+    let end = row_at(round.used);
     let from = row_at(kept);
     clear(&mut table[..end], from);
-    write2(table, Round::SLOT_AT, slot);
+    write2(table, Round::SLOT_AT, round.slot.0 + 1);
     write2(table, Round::USED_AT, kept as u32);
 }

@@ -1,3 +1,3 @@
-// What a sending writes into the lent table: rows closed up, and a row's numbers in place.
-pub mod close; // close.rt: rows close up
-pub mod write; // write.rt: a row's numbers written in place
+// The table when its current slot is over: rows leave, the others close up.
+pub mod runs; // runs.rt: rows moved down in runs
+pub mod close; // close.rt: the rows that leave, and the table after

@@ -3,6 +3,7 @@ pub mod RowLaws
 pub mod HeadLaws
 pub mod JudgeLaws
 pub mod WriteLaws
+pub mod StoreLaws
 pub mod TableLaws
 pub mod ByHead
 pub mod ReadLaws

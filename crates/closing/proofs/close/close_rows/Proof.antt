@@ -1,46 +1,59 @@
 -- `closing::close::close_rows` meets its contract.
 use Prim.Native.Nat.{_-_}
 use borrow.Author.Needs.{needs}
-use Rattle.closing.proofs.HeadLaws.{table-room}
-use Rattle.closing.proofs.CloseLaws.{Moving, moving-start, moving-room, moving-step, moving-end}
+use Rattle.closing.proofs.CloseLaws.{Runs, search-start, runs-start, some-left, search-more, run-room, runs-more, runs-end}
 use Rattle.closing.proofs.close.close_rows.Statement.{statement}
 use Rattle.closing.proofs.close.close_rows.Tie as tie
 
 abbrev Inv-loop : tie.InvT-loop
-Inv-loop table₀ used slot gone i₀ kept₀ table i kept = Moving (slot .0) (gone .0) used table₀ i kept table
+Inv-loop table₀ round expiring gone used left₀ i₀ kept₀ table left i kept = Runs table₀ gone i kept left table
 
 abbrev μ-loop : tie.MeasureT-loop
-μ-loop table₀ used slot gone i₀ kept₀ table i kept = used - i
+μ-loop table₀ round expiring gone used left₀ i₀ kept₀ table left i kept = used - i
 
-first-leaving-requires : tie.Need-first-leaving-requires Inv-loop μ-loop
-first-leaving-requires c κs =
-    let s = c .before .before in
-    table-room (s .args .table .now) (s .pre .0) (s .pre .1)
+next-leaving-requires : tie.Need-next-leaving-requires Inv-loop μ-loop
+next-leaving-requires c κs = search (search-start, needs)
 
 loop-holds : tie.Need-loop-holds Inv-loop μ-loop
-loop-holds c =
-    let s = c .before .before .before in
-    moving-start (s .pre .0) (s .pre .1) (c .first-leaving .ensures)
+loop-holds c = search (runs-start, needs)
 
-keep-row-requires : tie.Need-keep-row-requires Inv-loop μ-loop
-keep-row-requires c κs =
-    let s = c .before .before .before .before .before .before in
-    moving-room (s .pre .0) (s .pre .1) (c .before .before .loop .inv) (search needs)
+left-behind-requires : tie.Need-left-behind-requires Inv-loop μ-loop
+left-behind-requires c κs = search (some-left, needs)
 
-add-i : tie.Need-add-i Inv-loop μ-loop
-add-i c = search needs
+add-from : tie.Need-add-from Inv-loop μ-loop
+add-from c = search needs
+
+next-leaving-requires-2 : tie.Need-next-leaving-requires-2 Inv-loop μ-loop
+next-leaving-requires-2 c κs = search (search-more, needs)
+
+move-run-requires : tie.Need-move-run-requires Inv-loop μ-loop
+move-run-requires c κs =
+    let l = c .before .before .before .before .before .before in
+    let s = l .before .before .before .before in
+    run-room (s .pre .0) (s .pre .1) (s .pre .2) (l .loop .inv) (search needs) (c .before .before .before .left-behind .ensures) (c .before .next-leaving2 .ensures)
+
+sub-kept : tie.Need-sub-kept Inv-loop μ-loop
+sub-kept c = search needs
+
+add-kept : tie.Need-add-kept Inv-loop μ-loop
+add-kept c =
+    let l = c .before .before .before .before .before .before .before .before .before in
+    let s = l .before .before .before .before in
+    let r = run-room (s .pre .0) (s .pre .1) (s .pre .2) (l .loop .inv) (search needs) (c .before .before .before .before .before .before .left-behind .ensures)
+    (c .before .before .before .before .next-leaving2 .ensures) in
+    search needs
 
 loop-less : tie.Need-loop-less Inv-loop μ-loop
 loop-less c = search needs
 
 loop-again : tie.Need-loop-again Inv-loop μ-loop
-loop-again c = search (moving-step, needs)
+loop-again c = search (runs-more, needs)
 
 same-length : tie.Need-same-length Inv-loop μ-loop
-same-length c = let l = c .before .loop .inv .long in search needs
+same-length c = c .before .loop .inv .long
 
 returns : tie.Need-returns Inv-loop μ-loop
-returns c = search (moving-end, needs)
+returns c = search (runs-end, needs)
 
 pub close-rows-spec : {M : Type 1} → statement M
 close-rows-spec =
@@ -48,10 +61,14 @@ close-rows-spec =
     (tie.spec
     Inv-loop
     μ-loop
-    first-leaving-requires
+    next-leaving-requires
     loop-holds
-    keep-row-requires
-    add-i
+    left-behind-requires
+    add-from
+    next-leaving-requires-2
+    move-run-requires
+    sub-kept
+    add-kept
     loop-less
     loop-again
     same-length

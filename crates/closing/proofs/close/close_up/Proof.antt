@@ -3,35 +3,32 @@ use mathlib.Core.Path.{sym}
 use native.Mathlib.Omega.{arith}
 use borrow.Author.Needs.{needs}
 use lib.Seq.{length-take-le}
-use Rattle.closing.proofs.HeadLaws.{head-used, table-room, slot-small}
+use Rattle.closing.proofs.HeadLaws.{slot-small}
 use Rattle.closing.proofs.CloseLaws.{kept-few, closed-written}
 use Rattle.closing.proofs.close.close_up.Statement.{statement}
 use Rattle.closing.proofs.close.close_up.Tie as tie
 
-add-slot : tie.Need-add-slot
-add-slot c = omega (arith, slot-small (c .before .before .pre .0) (c .before .before .pre .1))
-
 close-rows-requires : tie.Need-close-rows-requires
-close-rows-requires c κs = (c .before .before .before .pre .0, head-used (c .before .before .before .pre .1))
+close-rows-requires c κs = search needs
 
 row-at-requires : tie.Need-row-at-requires
 row-at-requires c κs =
-    let s = c .before .before .before .before .before .before in
-    table-room (s .args .table .now) (s .pre .0) (head-used (s .pre .1)) .0
+    let s = c .before .before .before .before .before in
+    kept-few (c .before .before .close-rows .ensures) (s .pre .0) (s .pre .1) .1
 
 row-at-requires-2 : tie.Need-row-at-requires-2
 row-at-requires-2 c κs =
-    let s = c .before .before .before .before .before .before .before in
+    let s = c .before .before .before .before .before .before in
     omega (arith, kept-few (c .before .before .before .close-rows .ensures) (s .pre .0) (s .pre .1))
 
 slice-relend-prefix-clear : tie.Need-slice-relend-prefix-clear
 slice-relend-prefix-clear c =
-    let s = c .before .before .before .before .before .before .before .before in
+    let s = c .before .before .before .before .before .before .before in
     omega (arith, kept-few (c .before .before .before .before .close-rows .ensures) (s .pre .0) (s .pre .1), c .before .row-at .ensures)
 
 slice-aggregate-clear : tie.Need-slice-aggregate-clear
 slice-aggregate-clear c =
-    let s = c .before .before .before .before .before .before .before .before .before in
+    let s = c .before .before .before .before .before .before .before .before in
     sym (length-take-le _ _ (omega (
       arith,
       kept-few (c .before .before .before .before .before .close-rows .ensures) (s .pre .0) (s .pre .1),
@@ -40,7 +37,7 @@ slice-aggregate-clear c =
 
 clear-requires : tie.Need-clear-requires
 clear-requires c κs =
-    let s = c .before .before .before .before .before .before .before .before .before in
+    let s = c .before .before .before .before .before .before .before .before in
     let k = kept-few (c .before .before .before .before .before .close-rows .ensures) (s .pre .0) (s .pre .1) in
     omega (
       arith,
@@ -51,13 +48,17 @@ clear-requires c κs =
       c .before .row-at2 .ensures,
     )
 
+add-write2 : tie.Need-add-write2
+add-write2 c =
+    let s = c .before .before .before .before .before .before .before .before .before .before .before .before .before in omega (arith, slot-small (s .pre .0) (s .pre .1))
+
 write2-requires : tie.Need-write2-requires
 write2-requires c κs = search needs
 
 cast-write2 : tie.Need-cast-write2
 cast-write2 c =
-    let closed = c .before .before .before .before .before .before .before .before .before .before .before .before .before in
-    let entry = closed .before .before .before .before in
+    let closed = c .before .before .before .before .before .before .before .before .before .before .before .before .before .before in
+    let entry = closed .before .before .before in
     omega (arith, kept-few (closed .close-rows .ensures) (entry .pre .0) (entry .pre .1))
 
 write2-requires-2 : tie.Need-write2-requires-2
@@ -69,24 +70,24 @@ same-length c = search needs
 returns : tie.Need-returns
 returns c =
     let written = c .before .before .before .before .before .before in
-    let cleared = written .before .before .before .before in
+    let cleared = written .before .before .before .before .before in
     let ends = cleared .before .before in
     let closed = ends .before .before .before .before in
-    let entry = closed .before .before .before .before in
-    closed-written (entry .pre .0) (entry .pre .1) (search needs) (closed .close-rows .ensures) (ends .row-at2 .ensures)
+    let entry = closed .before .before .before in
+    closed-written (entry .pre .0) (entry .pre .1) (closed .close-rows .ensures) (ends .row-at2 .ensures)
     (ends .before .row-at .ensures) (cleared .clear .ensures) (written .write2 .ensures) (c .before .before .write22 .ensures)
 
 pub close-up-spec : {M : Type 1} → statement M
 close-up-spec =
     tie.close
     (tie.spec
-    add-slot
     close-rows-requires
     row-at-requires
     row-at-requires-2
     slice-relend-prefix-clear
     slice-aggregate-clear
     clear-requires
+    add-write2
     write2-requires
     cast-write2
     write2-requires-2

@@ -1,8 +1,8 @@
--- `closing::write::write_kept` meets its contract.
+-- `round::write::write_kept` meets its contract.
 use borrow.Author.Needs.{needs}
-use Rattle.closing.proofs.WriteLaws.{kept-stored}
-use Rattle.closing.proofs.write.write_kept.Statement.{statement}
-use Rattle.closing.proofs.write.write_kept.Tie as tie
+use Rattle.round.proofs.StoreLaws.{kept-stored}
+use Rattle.round.proofs.write.write_kept.Statement.{statement}
+use Rattle.round.proofs.write.write_kept.Tie as tie
 
 write-shift-requires : tie.Need-write-shift-requires
 write-shift-requires c κs = search needs

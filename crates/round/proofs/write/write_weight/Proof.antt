@@ -1,8 +1,8 @@
--- `closing::write::write_weight` meets its contract.
+-- `round::write::write_weight` meets its contract.
 use borrow.Author.Needs.{needs}
-use Rattle.closing.proofs.WriteLaws.{weight-stored}
-use Rattle.closing.proofs.write.write_weight.Statement.{statement}
-use Rattle.closing.proofs.write.write_weight.Tie as tie
+use Rattle.round.proofs.StoreLaws.{weight-stored}
+use Rattle.round.proofs.write.write_weight.Statement.{statement}
+use Rattle.round.proofs.write.write_weight.Tie as tie
 
 row-at-requires : tie.Need-row-at-requires
 row-at-requires c κs = search needs

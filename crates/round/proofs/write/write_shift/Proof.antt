@@ -1,8 +1,8 @@
--- `closing::write::write_shift` meets its contract.
+-- `round::write::write_shift` meets its contract.
 use borrow.Author.Needs.{needs}
-use Rattle.closing.proofs.WriteLaws.{shift-stored}
-use Rattle.closing.proofs.write.write_shift.Statement.{statement}
-use Rattle.closing.proofs.write.write_shift.Tie as tie
+use Rattle.round.proofs.StoreLaws.{shift-stored}
+use Rattle.round.proofs.write.write_shift.Statement.{statement}
+use Rattle.round.proofs.write.write_shift.Tie as tie
 
 row-at-requires : tie.Need-row-at-requires
 row-at-requires c κs = search needs

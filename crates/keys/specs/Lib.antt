@@ -1,2 +1,4 @@
 pub mod Key
 pub mod Sorted
+pub mod KeyLaws
+pub mod DueOrder

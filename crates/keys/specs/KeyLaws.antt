@@ -1,0 +1,98 @@
+-- What a key tells, and that keys are the order heavier: key-weight, key-due, key-row, key-some, heavier-key, keys-apart.
+use mathlib.Core.Path.{_≡_, sym, ap, _∙_}
+use mathlib.Core.Logic.{inl, inr}
+use mathlib.Core.Bool.{true, false}
+use Prim.Native.Nat.{ℕ, _+_, _*_, _-_, _/_, _%_, _≤_, _<_}
+use native.Mathlib.Omega.{arith}
+use lib.Dec.{ltb}
+use lib.ListN.{length}
+use borrow.Author.Tests.{lt-ltb, le-ltb, ltb-true, ltb-false}
+use Rattle.rules.specs.Rows.{Row, Round, blank, heavier, Heavier}
+use Rattle.theory.specs.All.{all-in}
+use Rattle.theory.specs.Bounds.{Row-fine}
+use Rattle.theory.specs.Full.{Fine}
+use Rattle.theory.specs.Order.{Not-over, heavier?}
+use Rattle.theory.specs.Keys.{getD-in, tickets-rise}
+use Rattle.round.specs.Rows.{at}
+use Rattle.keys.specs.Key.{key, blank-key, key-at}
+
+-- WHAT A KEY TELLS
+pub key-weight : (w d i : ℕ) → w ≤ 16777216 → d ≤ 4095 → i < 1024 → 16777217 - key w d i / 16777216 ≡ w
+unfolding key
+key-weight w d i a b c = omega arith
+
+pub key-due : (w d i : ℕ) → d ≤ 4095 → i < 1024 → key w d i / 4096 % 4096 ≡ d
+unfolding key
+key-due w d i b c = omega arith
+
+pub key-row : (w d i : ℕ) → i < 1024 → key w d i % 1024 ≡ i
+unfolding key
+key-row w d i c = omega arith
+
+-- no key is 0, and only what weighs nothing has a blank's
+pub key-some : (w d i : ℕ) → w ≤ 16777216 → 1 ≤ key w d i
+unfolding key
+key-some w d i a = omega arith
+
+pub key-most : (w d i : ℕ) → 1 ≤ w → d ≤ 4095 → i < 1024 → key w d i < blank-key
+unfolding key
+key-most w d i a b c = omega arith
+
+-- A LESSER KEY IS A HEAVIER ROW, where indices rise as tickets do
+pub heavier-by-key : (a b : Row) (i j : ℕ) → i < 1024 → j < 1024 → a .due ≤ 4095 → b .due ≤ 4095 → a .weight ≤ 16777216 → b .weight ≤ 16777216 →
+    ltb (a .ticket) (b .ticket) ≡ ltb i j → heavier a b ≡ ltb (key (a .weight) (a .due) i) (key (b .weight) (b .due) j)
+unfolding key
+heavier-by-key a b i j h k m n o p e = elim (heavier? a b) [
+  | inl u ↦ u .0 ∙ sym (lt-ltb _ _ (above (u .1)))
+  | inr u ↦ u .0 ∙ sym (le-ltb _ _ (below (u .1)))
+]
+  where
+    above : Heavier a b → (16777217 - a .weight) * 16777216 + a .due * 4096 + i < (16777217 - b .weight) * 16777216 + b .due * 4096 + j
+    above (inl u) = omega arith
+    above (inr (u, inl v)) = omega arith
+    above (inr (u, inr (v, w))) = let c : i < j = ltb-true i j (sym e ∙ lt-ltb (a .ticket) (b .ticket) w) in omega arith
+
+    below : Not-over a b → (16777217 - b .weight) * 16777216 + b .due * 4096 + j ≤ (16777217 - a .weight) * 16777216 + a .due * 4096 + i
+    below (inl u) = omega arith
+    below (inr (u, inl v)) = omega arith
+    below (inr (u, inr (v, w))) = let c : j ≤ i = ltb-false i j (sym e ∙ le-ltb (a .ticket) (b .ticket) w) in omega arith
+
+-- A ROUND'S ROWS by index
+module _ (r : Round) (f : Fine r) (small : length (r .rows) ≤ 1024) (cap : r .last ≤ 4095) where
+  pub row-fine : (i : ℕ) → i < length (r .rows) → Row-fine r (at r i)
+  row-fine i h = all-in (Row-fine r) (at r i) (r .rows) (f .fine) (getD-in (r .rows) (blank 0) i h)
+
+  pub weight-is : (i : ℕ) → i < length (r .rows) → 16777217 - key-at r i / 16777216 ≡ at r i .weight
+  weight-is i h =
+      let b = row-fine i h in key-weight (at r i .weight) (at r i .due) i (b .most) (omega (arith, b .due-by)) (omega (arith, h))
+
+  pub due-is : (i : ℕ) → i < length (r .rows) → key-at r i / 4096 % 4096 ≡ at r i .due
+  due-is i h = let b = row-fine i h in key-due (at r i .weight) (at r i .due) i (omega (arith, b .due-by)) (omega (arith, h))
+
+  pub row-is : (i : ℕ) → i < length (r .rows) → key-at r i % 1024 ≡ i
+  row-is i h = key-row (at r i .weight) (at r i .due) i (omega (arith, h))
+
+  pub some-key : (i : ℕ) → i < length (r .rows) → (1 ≤ key-at r i) × (key-at r i < blank-key)
+  some-key i h =
+      let b = row-fine i h in (
+        key-some (at r i .weight) (at r i .due) i (b .most),
+        key-most (at r i .weight) (at r i .due) i (b .some) (omega (arith, b .due-by)) (omega (arith, h)),
+      )
+
+  -- different rows have different keys
+  pub keys-apart : (i j : ℕ) → i < length (r .rows) → j < length (r .rows) → key-at r i ≡ key-at r j → i ≡ j
+  keys-apart i j h k e = sym (row-is i h) ∙ ap (λ (x : ℕ). x % 1024) e ∙ row-is j k
+
+  -- and the order is heavier
+  pub heavier-key : (i j : ℕ) → i < length (r .rows) → j < length (r .rows) → heavier (at r i) (at r j) ≡ ltb (key-at r i) (key-at r j)
+  heavier-key i j h k =
+      let b = row-fine i h in
+      let c = row-fine j k in
+      heavier-by-key (at r i) (at r j) i j (omega (arith, h)) (omega (arith, k)) (omega (arith, b .due-by)) (omega (arith, c .due-by)) (b .most) (c .most)
+      (tickets-rise 1 (r .next) (r .rows) (blank 0) i j (f .rising) h k)
+
+  pub lesser-key : (i j : ℕ) → i < length (r .rows) → j < length (r .rows) → key-at r i < key-at r j → heavier (at r i) (at r j) ≡ true
+  lesser-key i j h k l = heavier-key i j h k ∙ lt-ltb (key-at r i) (key-at r j) l
+
+  pub greater-key : (i j : ℕ) → i < length (r .rows) → j < length (r .rows) → key-at r j ≤ key-at r i → heavier (at r i) (at r j) ≡ false
+  greater-key i j h k l = heavier-key i j h k ∙ le-ltb (key-at r i) (key-at r j) l

@@ -1,2 +1,5 @@
 pub mod MarkLaws
 pub mod LinkLaws
+pub mod MoveLaws
+pub mod ChainLaws
+pub mod ShiftLaws

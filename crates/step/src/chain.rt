@@ -4,9 +4,9 @@ ghost use Prim.Native.Nat.{suc, _≤_, _<_, min, max, _-_, _/_};
 ghost use lib.ListN.{length, getD};
 ghost use Rattle.rules.specs.Table.{round-in};
 ghost use Rattle.step.specs.Chain.{Lies-in, Lowered, Named, linked, passed, Chained, Shifts};
-use closing::write::write_shift;
 use keys::row_of;
 use keys::weight_of;
+use round::write::write_shift;
 use sorts::Slot;
 use sorts::Weight;
 

@@ -1,11 +1,9 @@
+-- `step::chain::lower_marks` meets its contract.
 use borrow.Author.Needs.{needs}
 use native.Mathlib.Omega.{arith}
 use Rattle.step.proofs.MarkLaws.{Lowering, lowering-start, lowering-step, lowering-end}
 use Rattle.step.proofs.chain.lower_marks.Statement.{statement}
 use Rattle.step.proofs.chain.lower_marks.Tie as tie
-use Rattle.step.proofs.chain.lower_marks.Reads as reads
-use Rattle.step.proofs.chain.lower_marks.Lts as lts
-use Rattle.step.proofs.chain.smaller.Reads as smaller-reads
 
 abbrev Inv-loop : tie.InvT-loop
 Inv-loop lows₀ count to k₀ lows k = Lowering count to lows₀ lows k
@@ -13,59 +11,45 @@ Inv-loop lows₀ count to k₀ lows k = Lowering count to lows₀ lows k
 abbrev μ-loop : tie.MeasureT-loop
 μ-loop lows₀ count to k₀ lows k = k
 
--- src/chain.rt:39:17
 sub-k : tie.Need-sub-k Inv-loop μ-loop
 sub-k c = search needs
 
--- src/chain.rt:40:5
 loop-holds : tie.Need-loop-holds Inv-loop μ-loop
 loop-holds c = search (lowering-start, needs)
 
--- src/chain.rt:41:20
 mul-mark : tie.Need-mul-mark Inv-loop μ-loop
 mul-mark c = search needs
 
--- src/chain.rt:41:20
 slice-read-mark : tie.Need-slice-read-mark Inv-loop μ-loop
 slice-read-mark c = search needs
 
--- src/chain.rt:42:9
 sub-k-2 : tie.Need-sub-k-2 Inv-loop μ-loop
 sub-k-2 c = search needs
 
--- src/chain.rt:43:33
 mul-smaller : tie.Need-mul-smaller Inv-loop μ-loop
 mul-smaller c = search needs
 
--- src/chain.rt:43:33
 slice-read-smaller : tie.Need-slice-read-smaller Inv-loop μ-loop
 slice-read-smaller c = search needs
 
--- src/chain.rt:43:19
 smaller-requires : tie.Need-smaller-requires Inv-loop μ-loop
 smaller-requires c κs = search needs
 
--- src/chain.rt:43:9
 mul-lows : tie.Need-mul-lows Inv-loop μ-loop
 mul-lows c = search needs
 
--- src/chain.rt:43:9
 slice-write-lows : tie.Need-slice-write-lows Inv-loop μ-loop
 slice-write-lows c = search needs
 
--- src/chain.rt:40:5
 loop-less : tie.Need-loop-less Inv-loop μ-loop
 loop-less c = search needs
 
--- src/chain.rt:40:5
 loop-again : tie.Need-loop-again Inv-loop μ-loop
 loop-again c = search (lowering-step, needs)
 
--- src/chain.rt:35:1
 same-length : tie.Need-same-length Inv-loop μ-loop
 same-length c = search needs
 
--- src/chain.rt:35:1
 returns : tie.Need-returns Inv-loop μ-loop
 returns c = search (lowering-end, needs)
 

@@ -1,10 +1,9 @@
+-- `step::chain::segment_by` meets its contract.
 use borrow.Author.Needs.{needs}
 use native.Mathlib.Omega.{arith}
 use Rattle.step.proofs.MarkLaws.{Walking, walk-start, walk-some, walk-step, walk-end}
 use Rattle.step.proofs.chain.segment_by.Statement.{statement}
 use Rattle.step.proofs.chain.segment_by.Tie as tie
-use Rattle.step.proofs.chain.segment_by.Reads as reads
-use Rattle.step.proofs.chain.segment_by.Lts as lts
 
 abbrev Inv-loop : tie.InvT-loop
 Inv-loop ends own slot k₀ k = Walking ends own slot k
@@ -12,31 +11,26 @@ Inv-loop ends own slot k₀ k = Walking ends own slot k
 abbrev μ-loop : tie.MeasureT-loop
 μ-loop ends own slot k₀ k = k
 
--- src/chain.rt:19:5
 loop-holds : tie.Need-loop-holds Inv-loop μ-loop
 loop-holds c = walk-start _ _ _
 
--- src/chain.rt:19:11
 mul-if1 : tie.Need-mul-if1 Inv-loop μ-loop
 mul-if1 c = search needs
 
--- src/chain.rt:19:11
 shared-slice-read-if1 : tie.Need-shared-slice-read-if1 Inv-loop μ-loop
 shared-slice-read-if1 c = search needs
 
--- src/chain.rt:20:9
 sub-k : tie.Need-sub-k Inv-loop μ-loop
 sub-k c = search (walk-some, needs)
 
--- src/chain.rt:19:5
 loop-less : tie.Need-loop-less Inv-loop μ-loop
-loop-less c = search (walk-some, needs)
+loop-less c =
+    let h = walk-some _ _ _ _ (c .before .before .before .pre .1) (c .before .before .loop .inv) (search needs) in
+    search needs
 
--- src/chain.rt:19:5
 loop-again : tie.Need-loop-again Inv-loop μ-loop
 loop-again c = search (walk-step, walk-some, needs)
 
--- src/chain.rt:14:1
 returns : tie.Need-returns Inv-loop μ-loop
 returns c = search (walk-end, needs)
 

@@ -1,79 +1,67 @@
+-- `step::chain::shift_chain` meets its contract.
+use borrow.Author.Needs.{needs}
+use Prim.Native.Nat.{_-_}
+use native.Mathlib.Omega.{arith}
+use Rattle.rules.specs.Table.{round-in}
+use Rattle.step.proofs.ShiftLaws.{Linking, places, shift-none, shift-start, shift-named, shift-long, shift-fair, shift-again, shift-end}
 use Rattle.step.proofs.chain.shift_chain.Statement.{statement}
 use Rattle.step.proofs.chain.shift_chain.Tie as tie
-use Rattle.step.proofs.chain.shift_chain.Reads as reads
-use Rattle.step.proofs.chain.shift_chain.Lts as lts
-use Rattle.step.proofs.chain.pass_segment.Reads as pass-segment-reads
-use Rattle.step.proofs.chain.shift_link.Reads as shift-link-reads
 
 abbrev Inv-loop : tie.InvT-loop
-Inv-loop table₀ ends tops marks to own waiting₀ k₀ table waiting k = ?
+Inv-loop table₀ ends tops marks to own waiting₀ k₀ table waiting k = Linking (round-in table₀) ends to own k waiting table
 
 abbrev μ-loop : tie.MeasureT-loop
-μ-loop table₀ ends tops marks to own waiting₀ k₀ table waiting k = ?
+μ-loop table₀ ends tops marks to own waiting₀ k₀ table waiting k = own - k
 
--- src/chain.rt:101:9
 returns : tie.Need-returns Inv-loop μ-loop
-returns c = ?
+returns c = search (shift-none, needs)
 
--- src/chain.rt:103:23
 mul-waiting : tie.Need-mul-waiting Inv-loop μ-loop
-mul-waiting c = ?
+mul-waiting c = search needs
 
--- src/chain.rt:103:23
 shared-slice-read-waiting : tie.Need-shared-slice-read-waiting Inv-loop μ-loop
-shared-slice-read-waiting c = ?
+shared-slice-read-waiting c = search needs
 
--- src/chain.rt:104:17
 add-k : tie.Need-add-k Inv-loop μ-loop
-add-k c = ?
+add-k c = search needs
 
--- src/chain.rt:105:5
 loop-holds : tie.Need-loop-holds Inv-loop μ-loop
-loop-holds c = ?
+loop-holds c = search (shift-start, needs)
 
--- src/chain.rt:106:9
 pass-segment-requires : tie.Need-pass-segment-requires Inv-loop μ-loop
-pass-segment-requires c κs = ?
+pass-segment-requires c κs = shift-fair (c .before .before .before .before .before .before .before .before .before .pre) (c .before .before .loop .inv)
 
--- src/chain.rt:107:9
 add-k-2 : tie.Need-add-k-2 Inv-loop μ-loop
-add-k-2 c = ?
+add-k-2 c = search needs
 
--- src/chain.rt:105:5
 loop-less : tie.Need-loop-less Inv-loop μ-loop
-loop-less c = ?
+loop-less c = search needs
 
--- src/chain.rt:105:5
 loop-again : tie.Need-loop-again Inv-loop μ-loop
-loop-again c = ?
+loop-again c = search (shift-again, needs)
 
--- src/chain.rt:109:32
 mul-shift-link : tie.Need-mul-shift-link Inv-loop μ-loop
-mul-shift-link c = ?
+mul-shift-link c = search needs
 
--- src/chain.rt:109:32
 shared-slice-read-shift-link : tie.Need-shared-slice-read-shift-link Inv-loop μ-loop
-shared-slice-read-shift-link c = ?
+shared-slice-read-shift-link c = search needs
 
--- src/chain.rt:109:43
 mul-shift-link-2 : tie.Need-mul-shift-link-2 Inv-loop μ-loop
-mul-shift-link-2 c = ?
+mul-shift-link-2 c = search needs
 
--- src/chain.rt:109:43
 shared-slice-read-shift-link-2 : tie.Need-shared-slice-read-shift-link-2 Inv-loop μ-loop
-shared-slice-read-shift-link-2 c = ?
+shared-slice-read-shift-link-2 c = search needs
 
--- src/chain.rt:109:5
 shift-link-requires : tie.Need-shift-link-requires Inv-loop μ-loop
-shift-link-requires c κs = ?
+shift-link-requires c κs = search (shift-named, needs)
 
--- src/chain.rt:89:1
 same-length : tie.Need-same-length Inv-loop μ-loop
-same-length c = ?
+same-length c =
+    let e = shift-long (c .before .before .before .before .before .before .before .before .before .before .before .before .before .before .pre) (c .before .before .before .before .before .before .before .loop .inv) in
+    search needs
 
--- src/chain.rt:89:1
 returns-2 : tie.Need-returns-2 Inv-loop μ-loop
-returns-2 c = ?
+returns-2 c = search (shift-end, needs)
 
 pub shift-chain-spec : {M : Type 1} → statement M
 shift-chain-spec =

@@ -3,3 +3,6 @@ pub mod LinkLaws
 pub mod MoveLaws
 pub mod ChainLaws
 pub mod ShiftLaws
+pub mod StandLaws
+pub mod LeaveLaws
+pub mod SendLaws

@@ -1,0 +1,81 @@
+-- `step::send::send_planned` meets its contract.
+use borrow.Author.Needs.{needs}
+use Rattle.step.proofs.send.send_planned.Statement.{statement}
+use Rattle.step.proofs.send.send_planned.Tie as tie
+
+far-score-requires : tie.Need-far-score-requires
+far-score-requires c κs = ?
+
+row-of-requires : tie.Need-row-of-requires
+row-of-requires c κs = search needs
+
+send-row-requires : tie.Need-send-row-requires
+send-row-requires c κs = ?
+
+same-length : tie.Need-same-length
+same-length c = search needs
+
+returns : tie.Need-returns
+returns c = search needs
+
+add-if2 : tie.Need-add-if2
+add-if2 c = ?
+
+row-of-requires-2 : tie.Need-row-of-requires-2
+row-of-requires-2 c κs = search needs
+
+send-row-requires-2 : tie.Need-send-row-requires-2
+send-row-requires-2 c κs = ?
+
+same-length-2 : tie.Need-same-length-2
+same-length-2 c = search needs
+
+returns-2 : tie.Need-returns-2
+returns-2 c = search needs
+
+send-blank-requires : tie.Need-send-blank-requires
+send-blank-requires c κs = ?
+
+same-length-3 : tie.Need-same-length-3
+same-length-3 c = search needs
+
+same-length-4 : tie.Need-same-length-4
+same-length-4 c = search needs
+
+returns-3 : tie.Need-returns-3
+returns-3 c = search needs
+
+send-swapped-requires : tie.Need-send-swapped-requires
+send-swapped-requires c κs = ?
+
+same-length-5 : tie.Need-same-length-5
+same-length-5 c = search needs
+
+same-length-6 : tie.Need-same-length-6
+same-length-6 c = search needs
+
+returns-4 : tie.Need-returns-4
+returns-4 c = search needs
+
+pub send-planned-spec : {M : Type 1} → statement M
+send-planned-spec =
+    tie.close
+    (tie.spec
+    far-score-requires
+    row-of-requires
+    send-row-requires
+    same-length
+    returns
+    add-if2
+    row-of-requires-2
+    send-row-requires-2
+    same-length-2
+    returns-2
+    send-blank-requires
+    same-length-3
+    same-length-4
+    returns-3
+    send-swapped-requires
+    same-length-5
+    same-length-6
+    returns-4)

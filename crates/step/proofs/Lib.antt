@@ -6,3 +6,4 @@ pub mod ShiftLaws
 pub mod StandLaws
 pub mod LeaveLaws
 pub mod SendLaws
+pub mod LeapLaws

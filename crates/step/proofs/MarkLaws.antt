@@ -106,6 +106,17 @@ module _ (r : Round) (f : Fine r) (n to : ℕ) (es ts ls us : List ℕ) (p : Pie
             (sym (start-later (r .slot) n es k s)),
       )
 
+  -- each is some row's weight
+  some-from : (j k : ℕ) → to ≤ k → k < n → n ≡ suc (k + j) → 1 ≤ getD us k 0
+  some-from zero k h i e =
+      let d : n - 1 ≡ k = omega arith in
+      omega (arith, ap (λ (x : ℕ). getD us x 0) d, ap (λ (x : ℕ). getD ls x 0) d, l .first, p .piece k i .some)
+  some-from (suc j) k h i e =
+      let s : suc k < n = omega arith in omega (arith, l .next k h s, some-from j (suc k) (omega arith) s (omega arith), p .piece k i .some)
+
+  pub mark-some : (k : ℕ) → to ≤ k → k < n → 1 ≤ getD us k 0
+  mark-some k h i = some-from (n - suc k) k h i (omega (arith, i))
+
   pub marked : Marked r n to es us
   marked =
       record {

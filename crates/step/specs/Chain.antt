@@ -25,6 +25,7 @@ pub record Piece (r : Round) (b e k w : ℕ) : Type 0 where
   pub top : Heaviest (Within (plan r) b e) (at r row)
   pub low : Row
   pub weight : w ≡ low .weight
+  pub some : 1 ≤ w
   pub least : Lightest (Within (plan r) b e) low
 
 -- the first slot of segment k of n: the current one for the first, which is number n - 1, else the one behind the segment before

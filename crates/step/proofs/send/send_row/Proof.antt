@@ -1,5 +1,6 @@
 -- `step::send::send_row` meets its contract.
 use borrow.Author.Needs.{needs}
+use Rattle.step.proofs.SendLaws.{alone-says}
 use Rattle.step.proofs.send.send_row.Statement.{statement}
 use Rattle.step.proofs.send.send_row.Tie as tie
 
@@ -13,7 +14,7 @@ same-length : tie.Need-same-length
 same-length c = search needs
 
 returns : tie.Need-returns
-returns c = ?
+returns c = search (alone-says, needs)
 
 pub send-row-spec : {M : Type 1} → statement M
 send-row-spec = tie.close (tie.spec went-of-requires close-up-requires same-length returns)

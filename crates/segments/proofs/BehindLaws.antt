@@ -67,18 +67,26 @@ module _ (r : Round) (f : Fine r) (small : length (r .rows) ≤ 1024) (cap : r .
     | inr a ↦ subst (λ (t : Bool). Leads r (h ∷ gs) (cond t h g)) (a .0) (leads-own r f b z h gs p g l)
   ]
 
+pub closed-count : (l : Lead) (heavy other : ℕ) → closed l heavy other .count ≡ suc (l .count)
+closed-count l h o =
+    both-ways (λ (v : Lead). v .count ≡ suc (l .count)) (leb (l .score) (score (weight-in h) (weight-in o)))
+    (record { count = suc (l .count); score = score (weight-in h) (weight-in o); key = h; segment = l .count; other = o })
+    (record { count = suc (l .count); score = l .score; key = l .key; segment = l .segment; other = l .other })
+    (λ e. refl) (λ e. refl)
+
 -- what is stored stays, below the next number
 stored-set : (r : Round) (es ts ls : List ℕ) (gs : List Segment) (k a t w : ℕ) → length gs ≤ k → Stored r es ts ls gs →
     Stored r (set es k a) (set ts k t) (set ls k w) gs
 stored-set r es ts ls [] k a t w h s = s
 stored-set r es ts ls (g ∷ gs) k a t w h s =
-    let n : length gs ≡ k → ⊥ = λ e. omega (arith, e, h) in
-    (record {
-      end = getD-set-other es k (length gs) a 0 n ∙ s .0 .end;
-      top = subst (Keyed r (g .top)) (sym (getD-set-other ts k (length gs) t 0 n)) (s .0 .top);
-      low = getD-set-other ls k (length gs) w 0 n ∙ s .0 .low;
-    },
-    stored-set r es ts ls gs k a t w (omega (arith, h)) (s .1))
+    let n : length gs ≡ k → ⊥ = λ e. omega (arith, e, h) in (
+      record {
+        end = getD-set-other es k (length gs) a 0 n ∙ s .0 .end;
+        top = subst (Keyed r (g .top)) (sym (getD-set-other ts k (length gs) t 0 n)) (s .0 .top);
+        low = getD-set-other ls k (length gs) w 0 n ∙ s .0 .low;
+      },
+      stored-set r es ts ls gs k a t w (omega (arith, h)) (s .1),
+    )
 
 module _ (r : Round) (f : Fine r) (small : length (r .rows) ≤ 1024) (cap : r .last ≤ 4095) (z b end heavy light out other : ℕ)
     (m : Made r b end heavy light out) (es ts ls : List ℕ) (l : Lead) (w : Behind r (suc end) z es ts ls l) where
@@ -87,15 +95,16 @@ module _ (r : Round) (f : Fine r) (small : length (r .rows) ≤ 1024) (cap : r .
 
   next-stored : l .count < length es → l .count < length ts → l .count < length ls →
       Stored r (set es (l .count) end) (set ts (l .count) heavy) (set ls (l .count) (weight-in light)) (m .of ∷ w .segments)
-  next-stored a c d =
-      (record {
-        end = ap (λ k. getD (set es (l .count) end) k 0) (sym (w .count)) ∙ getD-set-same es (l .count) end 0 a ∙ sym (m .last);
-        top = subst (Keyed r (m .of .top))
-            (sym (ap (λ k. getD (set ts (l .count) heavy) k 0) (sym (w .count)) ∙ getD-set-same ts (l .count) heavy 0 c)) (m .top);
-        low = ap (λ k. getD (set ls (l .count) (weight-in light)) k 0) (sym (w .count)) ∙ getD-set-same ls (l .count) (weight-in light) 0 d
-            ∙ keyed-weight r f small cap (m .of .low) light (m .low);
-      },
-      stored-set r es ts ls (w .segments) (l .count) end heavy (weight-in light) (omega (arith, w .count)) (w .stored))
+  next-stored a c d = (
+    record {
+      end = ap (λ k. getD (set es (l .count) end) k 0) (sym (w .count)) ∙ getD-set-same es (l .count) end 0 a ∙ sym (m .last);
+      top = subst (Keyed r (m .of .top))
+          (sym (ap (λ k. getD (set ts (l .count) heavy) k 0) (sym (w .count)) ∙ getD-set-same ts (l .count) heavy 0 c)) (m .top);
+      low = ap (λ k. getD (set ls (l .count) (weight-in light)) k 0) (sym (w .count)) ∙ getD-set-same ls (l .count) (weight-in light) 0 d
+          ∙ keyed-weight r f small cap (m .of .low) light (m .low);
+    },
+    stored-set r es ts ls (w .segments) (l .count) end heavy (weight-in light) (omega (arith, w .count)) (w .stored),
+  )
 
   -- ONE SEGMENT CLOSED
   module _ (o : Named r b (stand-in r (m .of)) other) where
@@ -145,20 +154,13 @@ module _ (r : Round) (f : Fine r) (small : length (r .rows) ≤ 1024) (cap : r .
           }
         ]
 
-    pub next-count : closed l heavy other .count ≡ suc (l .count)
-    next-count =
-        both-ways (λ (v : Lead). v .count ≡ suc (l .count)) (leb (l .score) (score (weight-in heavy) (weight-in other)))
-        (record { count = suc (l .count); score = score (weight-in heavy) (weight-in other); key = heavy; segment = l .count; other = other })
-        (record { count = suc (l .count); score = l .score; key = l .key; segment = l .segment; other = l .other })
-        (λ e. refl) (λ e. refl)
-
     pub behind-next : l .count < length es → l .count < length ts → l .count < length ls →
         Behind r b z (set es (l .count) end) (set ts (l .count) heavy) (set ls (l .count) (weight-in light)) (closed l heavy other)
     behind-next a c d =
         record {
           segments = m .of ∷ w .segments;
           drawn = next-drawn;
-          count = next-count ∙ ap suc (w .count);
+          count = closed-count l heavy other ∙ ap suc (w .count);
           stored = next-stored a c d;
           leader = inr next-leader;
         }

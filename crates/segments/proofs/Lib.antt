@@ -4,3 +4,8 @@ pub mod PlaceLaws
 pub mod OpenLaws
 pub mod MadeLaws
 pub mod BehindLaws
+pub mod PassLaws
+pub mod LeadLaws
+pub mod TurnLaws
+pub mod GivenLaws
+pub mod SegmentedLaws

@@ -92,9 +92,13 @@ module _ (r : Round) (ks fs : List ℕ) (many slot n : ℕ) (g : Given r ks fs m
       let d = ap (λ (y : Row). y .due) (w .2) in
       let q = placed-all r n (w .0) (w .1) (due-from (w .0) (w .1))
       (omega (arith, d, near-out r (g .fine) (with-flag r fs) rows-of-it (r .slot + n) (g .near) x i l)) in
-      let e : x ≡ at r (placed r n (q .0)) = sym (w .2) ∙ ap (at r) (sym (q .2)) in
-      (q .0, q .1, (λ o. not-found r (g .fine) (with-flag r fs) rows-of-it x i l
-      (subst (λ (y : Row). In y (with-flag r fs)) (sym e) (member-there (placed r n (q .0)) (placed-row r n (q .0) (q .1) .0) o))), e)
+      let e : x ≡ at r (placed r n (q .0)) = sym (w .2) ∙ ap (at r) (sym (q .2)) in (
+        q .0,
+        q .1,
+        (λ o. not-found r (g .fine) (with-flag r fs) rows-of-it x i l
+            (subst (λ (y : Row). In y (with-flag r fs)) (sym e) (member-there (placed r n (q .0)) (placed-row r n (q .0) (q .1) .0) o))),
+        e,
+      )
 
   -- COUNTS: the plan's rows fit, and fill the n slots
   pub rows-fit : (s : ℕ) → s ≤ n → num 0 (r .slot + s) (with-flag r fs) ≤ s

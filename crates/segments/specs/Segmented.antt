@@ -1,10 +1,10 @@
 -- The near segments in arrays, numbered from the back, and the one that leads.
 use mathlib.Core.Path.{_≡_}
 use mathlib.Core.Logic.{_⊎_}
-use mathlib.Core.Bool.{cond}
+use mathlib.Core.Bool.{Bool, false, cond}
 use mathlib.Core.List.{List, [], _∷_}
 use Prim.Native.Nat.{ℕ, suc, _+_, _-_, _/_, _≤_, _<_}
-use lib.Dec.{leb}
+use lib.Dec.{leb, ltb, eqb}
 use lib.ListN.{length, getD}
 use Rattle.rules.specs.Rows.{Row, Round, blank}
 use Rattle.rules.specs.PlanM.{score}
@@ -61,6 +61,10 @@ pub record Segmented (r : Round) (n : ℕ) (es ts ls : List ℕ) (l : Lead) : Ty
 -- of whatever round is given
 abbrev pub Segments-say : (ks fs : List ℕ) (many slot n : ℕ) (es ts ls : List ℕ) → Lead → Type 0
 Segments-say ks fs many slot n es ts ls l = (r : Round) → Given r ks fs many slot n → Segmented r n es ts ls l
+
+-- A NEW SEGMENT ENDS in a due slot: the plan's rows so far fill every slot by it, and it is not the open one's end
+abbrev pub ends-here : (due slot kept end : ℕ) → Bool
+ends-here d s k e = cond (eqb d e) false (ltb (d - s) k)
 
 -- ONE SEGMENT CLOSED: the lead after it
 abbrev pub weight-in : (key : ℕ) → ℕ

@@ -4,7 +4,7 @@ ghost use Prim.Native.Nat.{_+_, _-_, _≤_, _<_};
 ghost use lib.ListN.{length, set};
 ghost use Rattle.rules.specs.PlanM.{score};
 ghost use Rattle.segments.specs.Given.{Lent};
-ghost use Rattle.segments.specs.Segmented.{weight-in, closed, Segments-say};
+ghost use Rattle.segments.specs.Segmented.{ends-here, weight-in, closed, Segments-say};
 use keys::BLANK;
 use keys::due_of;
 use keys::larger;
@@ -72,6 +72,7 @@ fn close_segment(
 // The plan's rows so far fill every slot by this one: a segment ends here, unless it is the open one's end.
 fn ends_here(due: u32, slot: u32, kept: usize, end: u32) -> bool
     requires { ⌜ slot ≤ due ⌝ }
+    ensures { λ r. ⌜ r ≡ ends-here due slot kept end ⌝ }
 {
     if due == end {
         return false;

@@ -1,3 +1,8 @@
+-- `segments::close_segment` meets its contract.
+use mathlib.Core.Path.{refl, ap}
+use Prim.Native.Nat.{ℕ}
+use lib.ListN.{set}
+use Rattle.segments.proofs.LeadLaws.{closed-takes, closed-keeps}
 use borrow.Author.Needs.{needs}
 use Rattle.segments.proofs.close_segment.Statement.{statement}
 use Rattle.segments.proofs.close_segment.Tie as tie
@@ -64,7 +69,14 @@ same-length-3 c = search needs
 
 -- src/lib.rt:55:9
 returns : tie.Need-returns
-returns c = ?
+returns c =
+    let s = c .before .before .before .before .before .before .before .before .before in (
+      closed-takes (s .args .lead) (s .args .heavy) (s .args .other) (c .before .before .before .before .before .weight-of .result) (c .before .before .before .before .weight-of2 .result)
+          (c .before .before .before .score-of .result) (search needs) (search needs) (search needs) (search needs),
+      refl,
+      refl,
+      ap (λ (v : ℕ). set (s .args .lows .now) (s .args .lead .count) v) (c .before .before .weight-of3 .ensures),
+    )
 
 -- src/lib.rt:64:16
 add-t13 : tie.Need-add-t13
@@ -84,7 +96,14 @@ same-length-6 c = search needs
 
 -- src/lib.rt:33:1
 returns-2 : tie.Need-returns-2
-returns-2 c = ?
+returns-2 c =
+    let s = c .before .before .before .before .before .before .before .before .before in (
+      closed-keeps (s .args .lead) (s .args .heavy) (s .args .other) (c .before .before .before .before .before .weight-of .result) (c .before .before .before .before .weight-of2 .result)
+          (c .before .before .before .score-of .result) (search needs) (search needs) (search needs) (search needs),
+      refl,
+      refl,
+      ap (λ (v : ℕ). set (s .args .lows .now) (s .args .lead .count) v) (c .before .before .weight-of3 .ensures),
+    )
 
 pub close-segment-spec : {M : Type 1} → statement M
 close-segment-spec =

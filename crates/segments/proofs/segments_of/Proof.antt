@@ -1,121 +1,198 @@
+-- `segments::segments_of` meets its contract. The invariant: the segments behind the open one, and what is seen of that, of whatever round is given.
+use borrow.Author.Needs.{needs}
+use mathlib.Core.Path.{_≡_, refl, sym, ap, _∙_}
+use mathlib.Core.Logic.{⊎-elim}
+use Prim.Native.Nat.{_-_}
+use native.Mathlib.Omega.{arith}
+use lib.ListN.{length}
+use Rattle.segments.proofs.PassLaws.{Passing}
+use Rattle.segments.proofs.TurnLaws.{bounds, passing-first, Goes, read-there, roomy, due-late, row-there, goes-on, goes-new, says, kept-further, left-further, some-further}
 use Rattle.segments.proofs.segments_of.Statement.{statement}
 use Rattle.segments.proofs.segments_of.Tie as tie
-use Rattle.segments.proofs.segments_of.Reads as reads
-use Rattle.segments.proofs.segments_of.Lts as lts
-use Rattle.keys.proofs.due_of.Reads as due-of-reads
-use Rattle.keys.proofs.larger.Reads as larger-reads
-use Rattle.keys.proofs.lesser.Reads as lesser-reads
-use Rattle.keys.proofs.row_of.Reads as row-of-reads
-use Rattle.segments.proofs.close_segment.Reads as close-segment-reads
-use Rattle.segments.proofs.ends_here.Reads as ends-here-reads
 
 abbrev Inv-loop : tie.InvT-loop
 Inv-loop keys flags many slot free ends₀ tops₀ lows₀ lead₀ end₀ heavy₀ light₀ out₀ kept₀ i₀ ends tops lows lead end heavy light out kept i =
-    ?
+    Passing keys flags many slot free ends tops lows lead end heavy light out kept i × (length ends ≡ length ends₀) × (length tops ≡ length tops₀)
+    × (length lows ≡ length lows₀)
 
 abbrev μ-loop : tie.MeasureT-loop
-μ-loop keys flags many slot free ends₀ tops₀ lows₀ lead₀ end₀ heavy₀ light₀ out₀ kept₀ i₀ ends tops lows lead end heavy light out kept i =
-    ?
+μ-loop keys flags many slot free ends₀ tops₀ lows₀ lead₀ end₀ heavy₀ light₀ out₀ kept₀ i₀ ends tops lows lead end heavy light out kept i = i
 
--- src/lib.rt:103:26
+-- where the ways meet after a segment may have closed
+goes : (c : tie.Joined1 Inv-loop μ-loop) →
+    let s = c .before .before .before .before .before .before .before .before .before .before .before .args in
+    let v = c .before .before .before .before .before .loop in
+    let u = c .if1 in
+    Goes (s .keys .now) (s .flags .now) (s .many) (s .slot) (s .free) (s .ends .now) (s .tops .now) (s .lows .now) (u .ends) (u .tops) (u .lows) (u .lead) (u .end) (u .heavy) (u .light) (v .out) (v .kept) (v .i - 1)
+goes c =
+    let s = c .before .before .before .before .before .before .before .before .before .before .before .args in
+    let p = c .before .before .before .before .before .before .before .before .before .before .before .pre in
+    let v = c .before .before .before .before .before .loop in
+    let u = c .if1 in
+    let d = c .before .before .due-of in
+    ⊎-elim
+    (λ w. goes-new (s .keys .now) (s .flags .now) (s .many) (s .slot) (s .free) (s .ends .now) (s .tops .now) (s .lows .now) p (v .ends) (v .tops) (v .lows) (v .lead) (v .end) (v .heavy) (v .light) (v .out) (v .kept) (v .i) (v .inv .0) (v .inv .1) (v .inv .2) (v .inv .3) (c .before .before .before .before .loop-test .taken) (d .result) (d .ensures)
+    (u .ends) (u .tops) (u .lows) (u .lead) (u .end) (u .heavy) (u .light) (sym (c .before .ends-here .ensures) ∙ w .0 .taken)
+    (w .11 ∙ w .4 .ensures .1) (w .12 ∙ w .4 .ensures .2) (w .13 ∙ w .4 .ensures .3) (w .14 ∙ w .4 .ensures .0) (w .15) (w .16) (w .17))
+    (λ w. goes-on (s .keys .now) (s .flags .now) (s .many) (s .slot) (s .free) (s .ends .now) (s .tops .now) (s .lows .now) p (v .ends) (v .tops) (v .lows) (v .lead) (v .end) (v .heavy) (v .light) (v .out) (v .kept) (v .i) (v .inv .0) (v .inv .1) (v .inv .2) (v .inv .3) (c .before .before .before .before .loop-test .taken) (d .result) (d .ensures)
+    (u .ends) (u .tops) (u .lows) (u .lead) (u .end) (u .heavy) (u .light) (sym (c .before .ends-here .ensures) ∙ w .0 .left)
+    (w .1) (w .2) (w .3) (w .4) (w .5) (w .6) (w .7))
+    (u .came)
+
 cast-end : tie.Need-cast-end Inv-loop μ-loop
-cast-end c = ?
+cast-end c =
+    let s = c .before .before .before .before .before .args in
+    let k = bounds (s .keys .now) (s .flags .now) (s .many) (s .slot) (s .free) (s .ends .now) (s .tops .now) (s .lows .now) (c .before .before .before .before .before .pre) in
+    omega (arith, k .some, k .early)
 
--- src/lib.rt:103:19
 add-end : tie.Need-add-end Inv-loop μ-loop
-add-end c = ?
+add-end c =
+    let s = c .before .before .before .before .before .args in
+    let k = bounds (s .keys .now) (s .flags .now) (s .many) (s .slot) (s .free) (s .ends .now) (s .tops .now) (s .lows .now) (c .before .before .before .before .before .pre) in
+    omega (arith, k .some, k .early)
 
--- src/lib.rt:103:19
 sub-end : tie.Need-sub-end Inv-loop μ-loop
-sub-end c = ?
+sub-end c =
+    let s = c .before .before .before .before .before .args in
+    let k = bounds (s .keys .now) (s .flags .now) (s .many) (s .slot) (s .free) (s .ends .now) (s .tops .now) (s .lows .now) (c .before .before .before .before .before .pre) in
+    omega (arith, k .some, k .early)
 
--- src/lib.rt:109:5
 loop-holds : tie.Need-loop-holds Inv-loop μ-loop
-loop-holds c = ?
+loop-holds c =
+    let s = c .before .before .before .before .before .args in
+    (passing-first (s .keys .now) (s .flags .now) (s .many) (s .slot) (s .free) (s .ends .now) (s .tops .now) (s .lows .now) _ refl refl, refl, refl, refl)
 
--- src/lib.rt:110:9
 sub-i : tie.Need-sub-i Inv-loop μ-loop
-sub-i c = ?
+sub-i c = search needs
 
--- src/lib.rt:111:19
 mul-key : tie.Need-mul-key Inv-loop μ-loop
-mul-key c = ?
+mul-key c =
+    let s = c .before .before .before .before .before .before .before .args in
+    let p = c .before .before .before .before .before .before .before .pre in
+    let v = c .before .loop in
+    omega (
+      arith,
+      c .before .before .before .before .before .before .before .good .0 .1,
+      bounds (s .keys .now) (s .flags .now) (s .many) (s .slot) (s .free) (s .ends .now) (s .tops .now) (s .lows .now) p .there,
+      read-there (s .keys .now) (s .flags .now) (s .many) (s .slot) (s .free) (s .ends .now) (s .tops .now) (s .lows .now) p (v .ends) (v .tops) (v .lows) (v .lead) (v .end) (v .heavy) (v .light) (v .out) (v .kept) (v .i) (v .inv .0) (v .inv .1) (v .inv .2) (v .inv .3),
+      c .loop-test .taken,
+    )
 
--- src/lib.rt:111:19
 shared-slice-read-key : tie.Need-shared-slice-read-key Inv-loop μ-loop
-shared-slice-read-key c = ?
+shared-slice-read-key c =
+    let s = c .before .before .before .before .before .before .before .before .args in
+    let p = c .before .before .before .before .before .before .before .before .pre in
+    let v = c .before .before .loop in
+    omega (arith, bounds (s .keys .now) (s .flags .now) (s .many) (s .slot) (s .free) (s .ends .now) (s .tops .now) (s .lows .now) p .there, read-there (s .keys .now) (s .flags .now) (s .many) (s .slot) (s .free) (s .ends .now) (s .tops .now) (s .lows .now) p (v .ends) (v .tops) (v .lows) (v .lead) (v .end) (v .heavy) (v .light) (v .out) (v .kept) (v .i) (v .inv .0) (v .inv .1) (v .inv .2) (v .inv .3), c .before .loop-test .taken)
 
--- src/lib.rt:112:13
 due-of-requires : tie.Need-due-of-requires Inv-loop μ-loop
-due-of-requires c κs = ?
+due-of-requires c κs = search needs
 
--- src/lib.rt:113:12
 ends-here-requires : tie.Need-ends-here-requires Inv-loop μ-loop
-ends-here-requires c κs = ?
+ends-here-requires c κs =
+    let s = c .before .before .before .before .before .before .before .before .before .args in
+    let p = c .before .before .before .before .before .before .before .before .before .pre in
+    let v = c .before .before .before .loop in
+    due-late (s .keys .now) (s .flags .now) (s .many) (s .slot) (s .free) (s .ends .now) (s .tops .now) (s .lows .now) p (v .ends) (v .tops) (v .lows) (v .lead) (v .end) (v .heavy) (v .light) (v .out) (v .kept) (v .i) (v .inv .0) (v .inv .1) (v .inv .2) (v .inv .3) (c .before .before .loop-test .taken) (c .due-of .result) (c .due-of .ensures)
 
--- src/lib.rt:114:13
 close-segment-requires : tie.Need-close-segment-requires Inv-loop μ-loop
-close-segment-requires c κs = ?
+close-segment-requires c κs =
+    let s = c .before .before .before .before .before .before .before .before .before .before .before .before .before .before .args in
+    let p = c .before .before .before .before .before .before .before .before .before .before .before .before .before .before .pre in
+    let v = c .before .before .before .before .before .before .before .before .loop in
+    let k = roomy (s .keys .now) (s .flags .now) (s .many) (s .slot) (s .free) (s .ends .now) (s .tops .now) (s .lows .now) p (v .ends) (v .tops) (v .lows) (v .lead) (v .end) (v .heavy) (v .light) (v .out) (v .kept) (v .i) (v .inv .0) (v .inv .1) (v .inv .2) (v .inv .3) in
+    (k .ends, k .tops, k .lows, k .heavies, k .lights, k .outs)
 
--- src/lib.rt:119:18
 row-of-requires : tie.Need-row-of-requires Inv-loop μ-loop
-row-of-requires c κs = ?
+row-of-requires c κs = search needs
 
--- src/lib.rt:119:12
 shared-slice-read-if2 : tie.Need-shared-slice-read-if2 Inv-loop μ-loop
-shared-slice-read-if2 c = ?
+shared-slice-read-if2 c =
+    let s = c .before .before .before .before .before .before .before .before .before .before .before .before .before .args in
+    let p = c .before .before .before .before .before .before .before .before .before .before .before .before .before .pre in
+    let v = c .before .before .before .before .before .before .before .loop in
+    row-there (s .keys .now) (s .flags .now) (s .many) (s .slot) (s .free) (s .ends .now) (s .tops .now) (s .lows .now) p (v .ends) (v .tops) (v .lows) (v .lead) (v .end) (v .heavy) (v .light) (v .out) (v .kept) (v .i) (v .inv .0) (v .inv .1) (v .inv .2) (v .inv .3) (c .before .before .before .before .before .before .loop-test .taken) _ (c .before .row-of .result) refl (c .before .row-of .ensures)
 
--- src/lib.rt:120:13
 lesser-requires : tie.Need-lesser-requires Inv-loop μ-loop
-lesser-requires c κs = ?
+lesser-requires c κs = search needs
 
--- src/lib.rt:121:13
 larger-requires : tie.Need-larger-requires Inv-loop μ-loop
-larger-requires c κs = ?
+larger-requires c κs = search needs
 
--- src/lib.rt:122:13
 sub-kept : tie.Need-sub-kept Inv-loop μ-loop
-sub-kept c = ?
+sub-kept c =
+    let s = c .before .before .before .before .before .before .before .before .before .before .before .before .before .before .before .before .args in
+    let p = c .before .before .before .before .before .before .before .before .before .before .before .before .before .before .before .before .pre in
+    let v = c .before .before .before .before .before .before .before .before .before .before .loop in
+    let u = c .before .before .before .before .before .if1 in
+    some-further (s .keys .now) (s .flags .now) (s .many) (s .slot) (s .free) (s .ends .now) (s .tops .now) (s .lows .now) (u .ends) (u .tops) (u .lows) (u .lead) (u .end) (u .heavy) (u .light) (v .out) (v .kept) (v .i)
+    (goes (c .before .before .before .before .before)) _ (c .before .before .before .before .row-of .result) refl (c .before .before .before .before .row-of .ensures) p (c .before .before .if2 .taken)
 
--- src/lib.rt:109:5
 loop-less : tie.Need-loop-less Inv-loop μ-loop
-loop-less c = ?
+loop-less c = search needs
 
--- src/lib.rt:109:5
 loop-again : tie.Need-loop-again Inv-loop μ-loop
-loop-again c = ?
+loop-again c =
+    let s = c .before .before .before .before .before .before .before .before .before .before .before .before .before .before .before .before .args in
+    let p = c .before .before .before .before .before .before .before .before .before .before .before .before .before .before .before .before .pre in
+    let v = c .before .before .before .before .before .before .before .before .before .before .loop in
+    let u = c .before .before .before .before .before .if1 in
+    let g = goes (c .before .before .before .before .before) in (
+      kept-further (s .keys .now) (s .flags .now) (s .many) (s .slot) (s .free) (s .ends .now) (s .tops .now) (s .lows .now) (u .ends) (u .tops) (u .lows) (u .lead) (u .end) (u .heavy) (u .light) (v .out) (v .kept) (v .i)
+          (goes (c .before .before .before .before .before)) _ (c .before .before .before .before .row-of .result) refl (c .before .before .before .before .row-of .ensures)
+          (c .before .before .if2 .taken) (c .before .lesser .result) (c .larger .result) (c .before .lesser .ensures) (c .larger .ensures),
+      g .ends,
+      g .tops,
+      g .lows,
+    )
 
--- src/lib.rt:124:13
 lesser-requires-2 : tie.Need-lesser-requires-2 Inv-loop μ-loop
-lesser-requires-2 c κs = ?
+lesser-requires-2 c κs = search needs
 
--- src/lib.rt:109:5
 loop-less-2 : tie.Need-loop-less-2 Inv-loop μ-loop
-loop-less-2 c = ?
+loop-less-2 c = search needs
 
--- src/lib.rt:109:5
 loop-again-2 : tie.Need-loop-again-2 Inv-loop μ-loop
-loop-again-2 c = ?
+loop-again-2 c =
+    let s = c .before .before .before .before .before .before .before .before .before .before .before .before .before .before .before .args in
+    let p = c .before .before .before .before .before .before .before .before .before .before .before .before .before .before .before .pre in
+    let v = c .before .before .before .before .before .before .before .before .before .loop in
+    let u = c .before .before .before .before .if1 in
+    let g = goes (c .before .before .before .before) in (
+      left-further (s .keys .now) (s .flags .now) (s .many) (s .slot) (s .free) (s .ends .now) (s .tops .now) (s .lows .now) (u .ends) (u .tops) (u .lows) (u .lead) (u .end) (u .heavy) (u .light) (v .out) (v .kept) (v .i)
+          (goes (c .before .before .before .before)) _ (c .before .before .before .row-of .result) refl (c .before .before .before .row-of .ensures)
+          (c .before .if2 .left) (c .lesser2 .result) (c .lesser2 .ensures),
+      g .ends,
+      g .tops,
+      g .lows,
+    )
 
--- src/lib.rt:127:5
 close-segment-requires-2 : tie.Need-close-segment-requires-2 Inv-loop μ-loop
-close-segment-requires-2 c κs = ?
+close-segment-requires-2 c κs =
+    let s = c .before .before .before .before .before .before .before .before .before .before .args in
+    let p = c .before .before .before .before .before .before .before .before .before .before .pre in
+    let v = c .before .before .before .before .loop in
+    let k = roomy (s .keys .now) (s .flags .now) (s .many) (s .slot) (s .free) (s .ends .now) (s .tops .now) (s .lows .now) p (v .ends) (v .tops) (v .lows) (v .lead) (v .end) (v .heavy) (v .light) (v .out) (v .kept) (v .i) (v .inv .0) (v .inv .1) (v .inv .2) (v .inv .3) in
+    (k .ends, k .tops, k .lows, k .heavies, k .lights, k .lights)
 
--- src/lib.rt:83:1
 same-length : tie.Need-same-length Inv-loop μ-loop
-same-length c = ?
+same-length c = search (needs, c .before .before .before .before .before .before .close-segment2 .kept .0, c .before .before .before .before .before .before .before .before .before .before .before .loop .inv .1)
 
--- src/lib.rt:83:1
 same-length-2 : tie.Need-same-length-2 Inv-loop μ-loop
-same-length-2 c = ?
+same-length-2 c = search (needs, c .before .before .before .before .before .before .close-segment2 .kept .1 .0, c .before .before .before .before .before .before .before .before .before .before .before .loop .inv .2)
 
--- src/lib.rt:83:1
 same-length-3 : tie.Need-same-length-3 Inv-loop μ-loop
-same-length-3 c = ?
+same-length-3 c = search (needs, c .before .before .before .before .before .before .close-segment2 .kept .1 .1 .0, c .before .before .before .before .before .before .before .before .before .before .before .loop .inv .3)
 
--- src/lib.rt:83:1
 returns : tie.Need-returns Inv-loop μ-loop
-returns c = ?
+returns c =
+    let s = c .before .before .before .before .before .before .before .before .before .before .before .before .before .before .before .before .before .args in
+    let p = c .before .before .before .before .before .before .before .before .before .before .before .before .before .before .before .before .before .pre in
+    let v = c .before .before .before .before .before .before .before .before .before .before .before .loop in
+    let d = c .before .before .before .before .before .before .close-segment2 in
+    let t = c .before .before .before .before .before .before .before .before .before .before .loop-test .left in
+    says (s .keys .now) (s .flags .now) (s .many) (s .slot) (s .free) (s .ends .now) (s .tops .now) (s .lows .now) p (v .ends) (v .tops) (v .lows) (v .lead) (v .end) (v .heavy) (v .light) (v .out) (v .kept) (v .i) (v .inv .0) (v .inv .1) (v .inv .2) (v .inv .3) (omega (arith, t)) _ _ _ (d .result) (d .ensures .0) (d .ensures .1) (d .ensures .2)
+    (d .ensures .3)
 
 pub segments-of-spec : {M : Type 1} → statement M
 segments-of-spec =

@@ -1,0 +1,139 @@
+-- A turn of the pass and its end, as the code asks for them.
+use mathlib.Core.Path.{_≡_, refl, sym, ap, _∙_, subst}
+use mathlib.Core.Bool.{true, false}
+use mathlib.Core.List.{List}
+use Prim.Native.Nat.{ℕ, zero, suc, _+_, _-_, _/_, _%_, _≤_, _<_, min, max}
+use native.Mathlib.Omega.{arith}
+use lib.ListN.{length, getD, set, length-set}
+use Rattle.rules.specs.Rows.{Round}
+use Rattle.keys.specs.Key.{blank-key}
+use Rattle.keys.specs.Sorted.{many-due, placed}
+use Rattle.keys.specs.DueOrder.{placed-row}
+use Rattle.segments.specs.Given.{Given, Lent}
+use Rattle.segments.specs.Segmented.{Segmented, Segments-say, ends-here, weight-in, closed}
+use Rattle.segments.specs.declared.Lead.{Lead}
+use Rattle.segments.proofs.PlaceLaws.{due-told, row-told}
+use Rattle.segments.proofs.PassLaws.{Pass, Passing, Meeting, pass-first, pass-last, room, fair-keys, passing-on, passing-new, passing-kept, passing-left, passing-some}
+
+-- numbers are small
+pub record Bounds (ks : List ℕ) (many slot n : ℕ) : Type 0 where
+  pub some : 1 ≤ n
+  pub early : slot + n ≤ 4096
+  pub there : many ≤ length ks
+
+pub bounds : (ks fs : List ℕ) (many slot n : ℕ) (es ts ls : List ℕ) → Lent ks fs many slot n es ts ls → Bounds ks many slot n
+bounds ks fs many slot n es ts ls w =
+    let g = w .given in
+    record {
+      some = g .some;
+      early = omega (arith, g .now, g .near .by, g .cap);
+      there = omega (arith, g .all, g .sorted .enough);
+    }
+
+pub passing-first : (ks fs : List ℕ) (many slot n : ℕ) (es ts ls : List ℕ) (l : Lead) → l .count ≡ 0 → l .score ≡ 0 →
+    Passing ks fs many slot n es ts ls l (slot + n - 1) blank-key 0 blank-key n many
+passing-first ks fs many slot n es ts ls l c s r g = pass-first r ks fs many slot n g es ts ls l c s
+
+-- WHERE THE WAYS MEET: no new segment at the next place, and the arrays are as long as at first
+pub record Goes (ks fs : List ℕ) (many slot n : ℕ) (es₀ ts₀ ls₀ es ts ls : List ℕ) (l : Lead) (end heavy light out kept p : ℕ) : Type 0 where
+  pub meeting : Meeting ks fs many slot n es ts ls l end heavy light out kept p
+  pub ends : length es ≡ length es₀
+  pub tops : length ts ≡ length ts₀
+  pub lows : length ls ≡ length ls₀
+
+-- what closing a segment asks for
+pub record Room (es ts ls : List ℕ) (l : Lead) (heavy light out : ℕ) : Type 0 where
+  pub ends : l .count < length es
+  pub tops : l .count < length ts
+  pub lows : l .count < length ls
+  pub heavies : heavy ≤ blank-key
+  pub lights : light ≤ blank-key
+  pub outs : out ≤ blank-key
+
+module _ (ks fs : List ℕ) (many slot n : ℕ) (es₀ ts₀ ls₀ : List ℕ) (given : Lent ks fs many slot n es₀ ts₀ ls₀) (es ts ls : List ℕ) (l : Lead)
+    (end heavy light out kept i : ℕ) (w : Passing ks fs many slot n es ts ls l end heavy light out kept i) (a : length es ≡ length es₀)
+    (b : length ts ≡ length ts₀) (c : length ls ≡ length ls₀) where
+  it : Pass (given .of) fs n es ts ls l end heavy light out kept i
+  it = w (given .of) (given .given)
+
+  pub read-there : i ≤ many
+  read-there = omega (arith, it .now .seen, given .given .all)
+
+  pub roomy : Room es ts ls l heavy light out
+  roomy =
+      let k = room (given .of) ks fs many slot n (given .given) es ts ls l end heavy light out kept i it in
+      let f = fair-keys (given .of) ks fs many slot n (given .given) es ts ls l end heavy light out kept i it in
+      record {
+        ends = omega (arith, k, a, given .ends);
+        tops = omega (arith, k, b, given .tops);
+        lows = omega (arith, k, c, given .lows);
+        heavies = f .0;
+        lights = f .1;
+        outs = f .2;
+      }
+
+  -- a key's due slot and its row's flag
+  pub due-late : 0 < i → (due : ℕ) → due ≡ getD ks (i - 1) 0 / 4096 % 4096 → slot ≤ due
+  due-late h due d =
+      let k : i - 1 < many-due (given .of) n = omega (arith, h, it .now .seen) in
+      omega (
+        arith,
+        d,
+        due-told (given .of) ks fs many slot n (given .given) (i - 1) k,
+        placed-row (given .of) n (i - 1) k .1,
+        given .given .now,
+      )
+
+  pub row-there : 0 < i → (key row : ℕ) → key ≡ getD ks (i - 1) 0 → row ≡ key % 1024 → row < length fs
+  row-there h key row e d =
+      let k : i - 1 < many-due (given .of) n = omega (arith, h, it .now .seen) in
+      omega (
+        arith,
+        d ∙ ap (λ (v : ℕ). v % 1024) e,
+        row-told (given .of) ks fs many slot n (given .given) (i - 1) k,
+        placed-row (given .of) n (i - 1) k .0,
+        given .given .chosen .long,
+      )
+
+  module _ (h : 0 < i) (due : ℕ) (d : due ≡ getD ks (i - 1) 0 / 4096 % 4096) (es' ts' ls' : List ℕ) (l' : Lead) (end' heavy' light' : ℕ) where
+    pub goes-on : ends-here due slot kept end ≡ false → es' ≡ es → ts' ≡ ts → ls' ≡ ls → l' ≡ l → end' ≡ end → heavy' ≡ heavy → light' ≡ light →
+        Goes ks fs many slot n es₀ ts₀ ls₀ es' ts' ls' l' end' heavy' light' out kept (i - 1)
+    goes-on t e₁ e₂ e₃ e₄ e₅ e₆ e₇ =
+        rw (e₁, e₂, e₃, e₄, e₅, e₆, e₇)
+        (record { meeting = passing-on ks fs many slot n es ts ls l end heavy light out kept i w h due d t; ends = a; tops = b; lows = c })
+
+    pub goes-new : ends-here due slot kept end ≡ true → es' ≡ set es (l .count) end → ts' ≡ set ts (l .count) heavy →
+        ls' ≡ set ls (l .count) (weight-in light) → l' ≡ closed l heavy out → end' ≡ due → heavy' ≡ blank-key → light' ≡ 0 →
+        Goes ks fs many slot n es₀ ts₀ ls₀ es' ts' ls' l' end' heavy' light' out kept (i - 1)
+    goes-new t e₁ e₂ e₃ e₄ e₅ e₆ e₇ =
+        rw (e₁, e₂, e₃, e₄, e₅, e₆, e₇)
+        (record {
+          meeting = passing-new ks fs many slot n es ts ls l end heavy light out kept i w h due d t (roomy .ends) (roomy .tops) (roomy .lows);
+          ends = length-set es (l .count) end ∙ a;
+          tops = length-set ts (l .count) heavy ∙ b;
+          lows = length-set ls (l .count) (weight-in light) ∙ c;
+        })
+
+  -- THE END
+  pub says : i ≡ 0 → (es' ts' ls' : List ℕ) (l' : Lead) → l' ≡ closed l heavy light → es' ≡ set es (l .count) end → ts' ≡ set ts (l .count) heavy →
+      ls' ≡ set ls (l .count) (weight-in light) → Segments-say ks fs many slot n es' ts' ls' l'
+  says z es' ts' ls' l' e₁ e₂ e₃ e₄ r g =
+      rw (e₁, e₂, e₃, e₄)
+      (pass-last r ks fs many slot n g es ts ls l end heavy light out kept (subst (Pass r fs n es ts ls l end heavy light out kept) z (w r g))
+      (roomy .ends) (roomy .tops) (roomy .lows))
+
+-- ONE PLACE FURTHER
+module _ (ks fs : List ℕ) (many slot n : ℕ) (es₀ ts₀ ls₀ es ts ls : List ℕ) (l : Lead) (end heavy light out kept i : ℕ)
+    (w : Goes ks fs many slot n es₀ ts₀ ls₀ es ts ls l end heavy light out kept (i - 1)) (key row : ℕ) (k : key ≡ getD ks (i - 1) 0)
+    (j : row ≡ key % 1024) where
+  pub kept-further : getD fs row 0 ≡ 1 → (heavy' light' : ℕ) → heavy' ≡ min heavy key → light' ≡ max light key →
+      Passing ks fs many slot n es ts ls l end heavy' light' out (kept - 1) (i - 1)
+  kept-further y heavy' light' e₁ e₂ =
+      rw (e₁, e₂) (passing-kept ks fs many slot n es ts ls l end heavy light out kept i (w .meeting) key row (getD fs row 0) k j refl y)
+
+  pub left-further : (getD fs row 0 ≡ 1 → ⊥) → (out' : ℕ) → out' ≡ min out key → Passing ks fs many slot n es ts ls l end heavy light out' kept (i - 1)
+  left-further y out' e = rw (e) (passing-left ks fs many slot n es ts ls l end heavy light out kept i (w .meeting) key row (getD fs row 0) k j refl y)
+
+  pub some-further : Lent ks fs many slot n es₀ ts₀ ls₀ → getD fs row 0 ≡ 1 → 1 ≤ kept
+  some-further g y =
+      passing-some ks fs many slot n es ts ls l end heavy light out kept i (w .meeting) key row (getD fs row 0) k j refl (g .of) (g .given) y

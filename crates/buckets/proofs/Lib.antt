@@ -1,0 +1,4 @@
+pub mod LevelLaws
+pub mod ReachLaws
+pub mod StretchLaws
+pub mod SegmentLaws

@@ -1,0 +1,4 @@
+pub mod BestLaws
+pub mod LeadLaws
+pub mod WholeLaws
+pub mod SendLaws

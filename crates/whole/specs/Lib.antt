@@ -1,0 +1,3 @@
+pub mod Best
+pub mod Look
+pub mod Whole

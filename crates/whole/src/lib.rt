@@ -1,0 +1,99 @@
+// Which row goes where no row is left out: a blank stands in for every row past the first segment, so passes over the table tell it.
+ghost use mathlib.Core.Path.{_≡_};
+ghost use Prim.Native.Nat.{_≤_};
+ghost use Rattle.rules.specs.PlanM.{score};
+ghost use Rattle.rules.specs.Table.{round-in};
+ghost use Rattle.whole.specs.Look.{First-goes};
+ghost use Rattle.whole.specs.Whole.{Given, Past, Picked};
+
+pub mod best; // best.rt: the heavier of two rows
+pub mod look; // look.rt: the passes over the table
+
+use crate::best::Best;
+use crate::look::Found;
+use crate::look::heaviest;
+use crate::look::look;
+use buckets::Reach;
+use buckets::stretch::stretch_of;
+use sorts::Round;
+
+// The row that goes, and how.
+pub enum Whole {
+    // Ordinary: it is in the first segment.
+    First { row: usize },
+    // A leap from where the plan isn't full: nothing stays behind.
+    Far { row: usize },
+    // A leap onto its segment's blank, which is kept: the slot where the segment begins, and its mark.
+    Kept { row: usize, first: u32, mark: u32 },
+}
+
+fn score_of(weight: u32, substitute: u32) -> u64
+    requires { ⌜ (weight ≤ 16777216) × (substitute ≤ 16777216) ⌝ }
+    ensures { λ r. ⌜ r ≡ score weight substitute ⌝ }
+{
+    weight as u64 * 39088169 + substitute as u64 * 63245986
+}
+
+// The first segment's heaviest row goes unless the heaviest of all, past it, has the greater score: its substitute weighs nothing.
+fn first_goes(best: Best, found: Found) -> bool
+    requires { ⌜ (best .weight ≤ 16777216) × (found .first .weight ≤ 16777216) × (found .lightest ≤ 16777216) ⌝ }
+    ensures { λ r. ⌜ First-goes best found r ⌝ }
+{
+    if score_of(best.weight, 0) <= score_of(found.first.weight, found.lightest) {
+        return true;
+    }
+    false
+}
+
+// The heaviest row is due past the first segment, which ends at slot end.
+fn choose_past(
+    table: &[u8],
+    counts: &[u32],
+    round: Round,
+    reach: Reach,
+    best: Best,
+    end: u32,
+) -> Whole
+    requires { ⌜ Past (now table) (now counts) round reach best end ⌝ }
+    ensures { λ r. ⌜ Picked (round-in (now (table .entry))) (reach .free) r ⌝ }
+{
+    let slot = round.slot.0;
+    let ahead = (best.due - slot) as usize;
+    if reach.free <= ahead {
+        let found = look(table, round, end, end);
+        if first_goes(best, found) {
+            return Whole::First {
+                row: found.first.row,
+            };
+        }
+        return Whole::Far { row: best.row };
+    }
+    let own = stretch_of(counts, reach.free, ahead);
+    let found = look(table, round, end, slot + own.last as u32);
+    if first_goes(best, found) {
+        return Whole::First {
+            row: found.first.row,
+        };
+    }
+    Whole::Kept {
+        row: best.row,
+        first: slot + own.first as u32,
+        mark: found.mark,
+    }
+}
+
+// Counts are the scan's, reach what they say.
+pub fn choose_whole(table: &[u8], counts: &[u32], round: Round, reach: Reach) -> Whole
+    requires { ⌜ Given (now table) (now counts) round reach ⌝ }
+    ensures { λ r. ⌜ Picked (round-in (now (table .entry))) (reach .free) r ⌝ }
+{
+    let best = heaviest(table, round);
+    if reach.free == 0 {
+        return Whole::Far { row: best.row };
+    }
+    let end = round.slot.0 + stretch_of(counts, reach.free, 0).last as u32;
+    if best.due <= end {
+        return Whole::First { row: best.row };
+    }
+    choose_past(table, counts, round, reach, best, end)
+}

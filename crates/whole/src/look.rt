@@ -1,0 +1,88 @@
+// The passes over the table.
+ghost use Prim.Native.Nat.{_≤_};
+ghost use Rattle.rules.specs.Table.{round-in};
+ghost use Rattle.round.specs.Rows.{Ready};
+ghost use Rattle.whole.specs.Best.{Heaviest};
+ghost use Rattle.whole.specs.Look.{Notes, Looks};
+use crate::best::Best;
+use crate::best::least;
+use crate::best::see;
+use round::read::due_at;
+use round::read::weight_at;
+use sorts::Round;
+
+// The heaviest of all rows. A due slot is read only where it can count.
+pub fn heaviest(table: &[u8], round: Round) -> Best
+    requires { ⌜ Ready (now table) round ⌝ }
+    ensures { λ r. ⌜ Heaviest (round-in (now (table .entry))) (round .used) (round .last .0) r ⌝ }
+{
+    let used = round.used;
+    let mut best = Best {
+        weight: 0,
+        due: 0,
+        row: 0,
+    };
+    let mut i: usize = 0;
+    while i < used {
+        let row = i;
+        let weight = weight_at(table, round, row);
+        i += 1;
+        if best.weight <= weight {
+            best = see(best, weight, due_at(table, round, row), row);
+        }
+    }
+    best
+}
+
+// The heaviest row and the least weight due by the first segment's end, and the least weight due by another's.
+pub struct Found {
+    pub first: Best,
+    pub lightest: u32,
+    pub mark: u32,
+}
+
+// A row due by the other segment's end.
+fn note(found: Found, weight: u32, due: u32, row: usize, end: u32) -> Found
+    ensures { λ r. ⌜ Notes found weight due row end r ⌝ }
+{
+    let first = found.first;
+    let mark = least(found.mark, weight);
+    if end < due {
+        return Found {
+            first,
+            lightest: found.lightest,
+            mark,
+        };
+    }
+    Found {
+        first: see(first, weight, due, row),
+        lightest: least(found.lightest, weight),
+        mark,
+    }
+}
+
+pub fn look(table: &[u8], round: Round, end: u32, own: u32) -> Found
+    requires { ⌜ Ready (now table) round × (end ≤ own) ⌝ }
+    ensures { λ r. ⌜ Looks (round-in (now (table .entry))) (round .used) end own r ⌝ }
+{
+    let used = round.used;
+    let mut found = Found {
+        first: Best {
+            weight: 0,
+            due: 0,
+            row: 0,
+        },
+        lightest: Round::WEIGHT.0,
+        mark: Round::WEIGHT.0,
+    };
+    let mut i: usize = 0;
+    while i < used {
+        let row = i;
+        let due = due_at(table, round, row);
+        i += 1;
+        if due <= own {
+            found = note(found, weight_at(table, round, row), due, row, end);
+        }
+    }
+    found
+}

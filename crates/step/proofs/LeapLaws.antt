@@ -40,9 +40,10 @@ use Rattle.segments.specs.declared.Lead.{Lead}
 use Rattle.step.specs.Chain.{start-of, Lies-in, Lowered, Chained, having, Shifts}
 use Rattle.step.specs.Send.{Went-of, Sent-says, Keeps-blank, Leaps, Leaps-blank, Leaps-row}
 use Rattle.step.specs.declared.send.Went.{Went}
-use Rattle.step.proofs.MarkLaws.{start-later, marked, mark-some}
+use Rattle.step.proofs.MarkLaws.{start-later, number-fits, marked, mark-some}
 use Rattle.step.proofs.MoveLaws.{table-weight, moves-other, length-having}
 use Rattle.step.proofs.StandLaws.{Rows-fit, Stood, stood, stood-closed, sent-says, fit-self, fit-changed, fit-moves}
+use Rattle.step.proofs.SendLaws.{Closes}
 use Rattle.step.proofs.LeaveLaws.{changed-tickets, moves-tickets, gone-stood, same-changed, late-moves, due-stood}
 
 mark-most : (r : Round) (e : ℕ) → mark r e ≤ 16777216
@@ -187,6 +188,16 @@ module _ {t : List ℕ} {h : Head} {es ts ls : List ℕ} {l : Lead} (w : Leaps-r
           )
     ]
 
+    pub swap-low : to ≤ 4095
+    swap-low =
+        let k : 0 < l .count = omega (arith, v .later) in
+        omega (
+          arith,
+          number-fits (round-in t) (l .count) es ts ls (v .pieces) to to-in,
+          v .pieces .piece 0 k .spans .ahead,
+          leap-known v .cap,
+        )
+
     pub swap-place : {us : List ℕ} → Lowered (l .count) to ls us → to < length us
     swap-place m = omega (arith, to-in, m .size, v .pieces .lows)
 
@@ -289,14 +300,8 @@ module _ {t : List ℕ} {h : Head} {es ts ls : List ℕ} {l : Lead} (w : Leaps-r
             (omega (arith, w .below, xs-long)) mk)
             ∙ ap (λ (o : Row). table (having (round-in t) (changed (o .ticket) (row (o .ticket) (o .due) mk (o .tail)) xs))) y-there)
 
-        pub swap-sound : table-refusal x ≡ 0
-        swap-sound = swap-stood .sound
-
-        pub swap-head : Head-of x h
-        swap-head = swap-stood .head
-
         -- no more rows are due now
-        pub swap-due : {n : ℕ} → Due-now t n → Due-now x n
+        swap-due : {n : ℕ} → Due-now t n → Due-now x n
         unfolding row
         swap-due {n} q =
             let o = own-spans v in
@@ -307,6 +312,9 @@ module _ {t : List ℕ} {h : Head} {es ts ls : List ℕ} {l : Lead} (w : Leaps-r
                   (rising-moves (round-in t) 1 (round-in t .next) eo (s .links) (round-in t .rows) (f .rising)) i refl,
               late-moves (round-in t) f rs c (suc (round-in t .slot)) eo g (omega (arith, own-later v, o .by)) (s .links) (round-in t .rows) (s .chain),
             ))
+
+        pub swap-closes : {o : ℕ} → o ≡ l .key % 1024 → {n : ℕ} → Due-now t n → Closes x h n o
+        swap-closes q d1 = let p = leap-used v q in (swap-stood .sound, swap-stood .head, omega (arith, p), swap-due d1)
 
         pub swap-says : {o : ℕ} → o ≡ l .key % 1024 → {wt : Went} → Went-of (at (round-in t) o) true wt → {n : List ℕ} → n ≡ closed-up (gone-ticket x o) x →
             Sent-says t n wt

@@ -7,3 +7,4 @@ pub mod StandLaws
 pub mod LeaveLaws
 pub mod SendLaws
 pub mod LeapLaws
+pub mod PlanLaws

@@ -77,6 +77,13 @@ start-first t n es k e = rw (eq-eqb (suc k) n e)
 pub start-later : (t n : ℕ) (es : List ℕ) (k : ℕ) → suc k < n → start-of t n es k ≡ suc (getD es (suc k) 0)
 start-later t n es k h = rw (ne-eqb (suc k) n (λ e. omega (arith, e, h)))
 
+-- each segment ends before the one behind it, so numbers are small
+pub number-fits : (r : Round) (n : ℕ) (es ts ls : List ℕ) → Pieces r n es ts ls → (k : ℕ) → k < n → getD es k 0 + k ≤ getD es 0 0
+number-fits r n es ts ls p zero h = omega arith
+number-fits r n es ts ls p (suc k) h =
+    let q = p .piece k (omega arith) .spans in
+    omega (arith, number-fits r n es ts ls p k (omega arith), q .by, start-later (r .slot) n es k h)
+
 -- THE LEAST SO FAR ARE THE MARKS
 module _ (r : Round) (f : Fine r) (n to : ℕ) (es ts ls us : List ℕ) (p : Pieces r n es ts ls) (l : Lowered n to ls us) where
   mark-from : (j k : ℕ) → to ≤ k → k < n → n ≡ suc (k + j) → getD us k 0 ≡ mark r (getD es k 0)

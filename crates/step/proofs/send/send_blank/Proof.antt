@@ -1,5 +1,6 @@
 -- `step::send::send_blank` meets its contract.
 use borrow.Author.Needs.{needs}
+use Rattle.step.proofs.LeapLaws.{blank-fits, blank-keeps}
 use Rattle.step.proofs.send.send_blank.Statement.{statement}
 use Rattle.step.proofs.send.send_blank.Tie as tie
 
@@ -16,7 +17,9 @@ shared-slice-read-first : tie.Need-shared-slice-read-first
 shared-slice-read-first c = search needs
 
 add-first-2 : tie.Need-add-first-2
-add-first-2 c = ?
+add-first-2 c =
+    let h = blank-fits (c .before .before .before .before .before .before .before .before .before .pre .0) in
+    search needs
 
 mul-mark : tie.Need-mul-mark
 mul-mark c = search needs
@@ -28,7 +31,7 @@ row-of-requires : tie.Need-row-of-requires
 row-of-requires c κs = search needs
 
 send-kept-requires : tie.Need-send-kept-requires
-send-kept-requires c κs = ?
+send-kept-requires c κs = search (blank-keeps, needs)
 
 same-length : tie.Need-same-length
 same-length c = search needs

@@ -8,3 +8,4 @@ pub mod LeaveLaws
 pub mod SendLaws
 pub mod LeapLaws
 pub mod PlanLaws
+pub mod WholeLaws

@@ -18,9 +18,13 @@ use Rattle.picture.specs.Picture.{Heaviest}
 use Rattle.sorts.specs.declared.Round.{Round as Head}
 use Rattle.round.specs.Rows.{Ready, at}
 use Rattle.keys.specs.Key.{blank-key, key-at}
+use Rattle.buckets.specs.Reach.{Reaches}
+use Rattle.buckets.specs.declared.Reach.{Reach}
 use Rattle.segments.specs.Segmented.{Segmented}
 use Rattle.segments.specs.declared.Lead.{Lead}
-use Rattle.step.specs.Chain.{start-of, Pieces}
+use Rattle.whole.specs.Whole.{Picked}
+use Rattle.whole.specs.declared.Whole.{Whole}
+use Rattle.step.specs.Chain.{Pieces}
 use Rattle.step.specs.declared.send.Went.{Went}
 
 -- the row that goes, and the kind of step
@@ -103,3 +107,11 @@ pub record Planned-step (t : List ℕ) (h : Head) (es ts ls : List ℕ) (far : �
   pub near : Near (round-in t) (round-in t .slot + free)
   pub segments : Segmented (round-in t) free es ts ls l
   pub first-far : Far-first (round-in t) (round-in t .slot + free) far
+
+-- WHERE NO ROW IS LEFT OUT: the pick that passes over the table found
+pub record Whole-step (t : List ℕ) (h : Head) (w : Whole) : Type 0 where
+  pub ready : Ready t h
+  pub reach : Reach
+  pub reaches : Reaches (round-in t) reach
+  pub none : reach .over ≡ 0
+  pub picked : Picked (round-in t) (reach .free) w

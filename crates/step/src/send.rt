@@ -4,7 +4,7 @@ ghost use Prim.Native.Nat.{_*_, _-_, _/_, _≤_, _<_};
 ghost use Rattle.rules.specs.Table.{round-in};
 ghost use Rattle.round.specs.Rows.{Ready, at};
 ghost use Rattle.closing.specs.Close.{Due-now};
-ghost use Rattle.step.specs.Send.{Went-of, Sent-says, Leaves-alone, Keeps-blank, Leaps-blank, Leaps-row, Planned-step};
+ghost use Rattle.step.specs.Send.{Went-of, Sent-says, Leaves-alone, Keeps-blank, Leaps-blank, Leaps-row, Planned-step, Whole-step};
 use crate::chain::lower_marks;
 use crate::chain::segment_by;
 use crate::chain::shift_chain;
@@ -22,6 +22,7 @@ use sorts::Round;
 use sorts::Slot;
 use sorts::Ticket;
 use sorts::Weight;
+use whole::Whole;
 
 // What went out: a row's ticket and kind; ticket 0 is silence.
 pub struct Went {
@@ -158,4 +159,16 @@ pub fn send_planned(
         return send_blank(table, ends, tops, lows, round, lead, expiring);
     }
     send_swapped(table, ends, tops, lows, round, lead, expiring)
+}
+
+// The same where no row is left out: as the passes over the table found it.
+pub fn send_whole(table: &mut [u8], round: Round, whole: Whole, expiring: usize) -> Went
+    requires { ⌜ Whole-step (now table) round whole × Due-now (now table) expiring ⌝ }
+    ensures { λ r. ⌜ Sent-says (now (table .entry)) (now (table .exit)) r ⌝ }
+{
+    match whole {
+        Whole::First { row } => send_row(table, round, row, false, expiring),
+        Whole::Far { row } => send_row(table, round, row, true, expiring),
+        Whole::Kept { row, first, mark } => send_kept(table, round, row, first, mark, expiring),
+    }
 }

@@ -1,0 +1,11 @@
+pub mod MarkLaws
+pub mod LinkLaws
+pub mod MoveLaws
+pub mod ChainLaws
+pub mod ShiftLaws
+pub mod StandLaws
+pub mod LeaveLaws
+pub mod SendLaws
+pub mod LeapLaws
+pub mod PlanLaws
+pub mod WholeLaws

@@ -1,0 +1,174 @@
+// A sending, once the row that goes is known: what it writes, and what went out. At most expiring rows are due in the current slot.
+ghost use mathlib.Core.Path.{_≡_};
+ghost use Prim.Native.Nat.{_*_, _-_, _/_, _≤_, _<_};
+ghost use Rattle.rules.specs.Table.{round-in};
+ghost use Rattle.round.specs.Rows.{Ready, at};
+ghost use Rattle.closing.specs.Close.{Due-now};
+ghost use Rattle.step.specs.Send.{Went-of, Sent-says, Leaves-alone, Keeps-blank, Leaps-blank, Leaps-row, Planned-step, Whole-step};
+use crate::chain::lower_marks;
+use crate::chain::segment_by;
+use crate::chain::shift_chain;
+use closing::close::close_up;
+use keys::BLANK;
+use keys::due_of;
+use keys::row_of;
+use keys::weight_of;
+use round::read::kind_at;
+use round::read::ticket_at;
+use round::write::write_kept;
+use round::write::write_weight;
+use segments::Lead;
+use sorts::Round;
+use sorts::Slot;
+use sorts::Ticket;
+use sorts::Weight;
+use whole::Whole;
+
+// What went out: a row's ticket and kind; ticket 0 is silence.
+pub struct Went {
+    pub leap: bool,
+    pub ticket: Ticket,
+    pub kind: u8,
+}
+
+// Read before anything is written.
+fn went_of(table: &[u8], round: Round, row: usize, leap: bool) -> Went
+    requires { ⌜ Ready (now table) round × (row < round .used) ⌝ }
+    ensures { λ r. ⌜ Went-of (at (round-in (now (table .entry))) row) leap r ⌝ }
+{
+    Went {
+        leap,
+        ticket: ticket_at(table, round, row),
+        kind: kind_at(table, round, row),
+    }
+}
+
+// Where no row waits, the slot alone moves on.
+pub fn send_silence(table: &mut [u8], round: Round) -> Went
+    requires { ⌜ Ready (now table) round × (round .used ≡ 0) ⌝ }
+    ensures { λ r. ⌜ Sent-says (now (table .entry)) (now (table .exit)) r ⌝ }
+{
+    close_up(table, round, 0, round.used);
+    Went {
+        leap: false,
+        ticket: Ticket(0),
+        kind: 0,
+    }
+}
+
+// Only the row that goes leaves: an ordinary step, or a leap from afar.
+pub fn send_row(table: &mut [u8], round: Round, row: usize, leaps: bool, expiring: usize) -> Went
+    requires { ⌜ Leaves-alone (now table) round leaps row × Due-now (now table) expiring ⌝ }
+    ensures { λ r. ⌜ Sent-says (now (table .entry)) (now (table .exit)) r ⌝ }
+{
+    let went = went_of(table, round, row, leaps);
+    close_up(table, round, expiring, row);
+    went
+}
+
+// A leap onto a blank, which is kept in the row that goes.
+pub fn send_kept(
+    table: &mut [u8],
+    round: Round,
+    row: usize,
+    first: u32,
+    mark: u32,
+    expiring: usize,
+) -> Went
+    requires { ⌜ Keeps-blank (now table) round row first mark × Due-now (now table) expiring ⌝ }
+    ensures { λ r. ⌜ Sent-says (now (table .entry)) (now (table .exit)) r ⌝ }
+{
+    let went = went_of(table, round, row, true);
+    write_kept(table, row, Slot(first), Weight(mark));
+    close_up(table, round, expiring, round.used); // no row goes
+    went
+}
+
+// A leap onto the blank of the segment that leads, due in its first slot with its mark.
+fn send_blank(
+    table: &mut [u8],
+    ends: &[u32],
+    tops: &[u64],
+    lows: &mut [u32],
+    round: Round,
+    lead: Lead,
+    expiring: usize,
+) -> Went
+    requires { ⌜ Leaps-blank (now table) round (now ends) (now tops) (now lows) lead × Due-now (now table) expiring ⌝ }
+    ensures { λ r. ⌜ Sent-says (now (table .entry)) (now (table .exit)) r ⌝ }
+{
+    let own = lead.segment;
+    lower_marks(lows, lead.count, own);
+    let first = ends[own + 1] + 1;
+    let mark = lows[own];
+    send_kept(table, round, row_of(lead.key), first, mark, expiring)
+}
+
+// A leap onto a row left out: the links between the two segments' ends move, and that row gets its segment's mark.
+fn send_swapped(
+    table: &mut [u8],
+    ends: &[u32],
+    tops: &[u64],
+    lows: &mut [u32],
+    round: Round,
+    lead: Lead,
+    expiring: usize,
+) -> Went
+    requires { ⌜ Leaps-row (now table) round (now ends) (now tops) (now lows) lead × Due-now (now table) expiring ⌝ }
+    ensures { λ r. ⌜ Sent-says (now (table .entry)) (now (table .exit)) r ⌝ }
+{
+    let row = row_of(lead.key);
+    let went = went_of(table, round, row, true);
+    let to = segment_by(ends, lead.segment, due_of(lead.other));
+    lower_marks(lows, lead.count, to);
+    shift_chain(table, ends, tops, lows, to, lead.segment);
+    write_weight(table, row_of(lead.other), Weight(lows[to]));
+    close_up(table, round, expiring, row);
+    went
+}
+
+// A far row has no substitute, so its score is its weight's alone.
+fn far_score(far: u64) -> u64
+    requires { ⌜ far ≤ 281474993487872 ⌝ }
+    ensures { λ r. ⌜ r ≡ (16777217 - far / 16777216) * 39088169 ⌝ }
+{
+    weight_of(far) as u64 * 39088169
+}
+
+// The heaviest far row goes if it scores more than the segment that leads; else that segment's heaviest row: in an ordinary step from the first, else in a leap.
+pub fn send_planned(
+    table: &mut [u8],
+    ends: &[u32],
+    tops: &[u64],
+    lows: &mut [u32],
+    round: Round,
+    far: u64,
+    lead: Lead,
+    expiring: usize,
+) -> Went
+    requires { ⌜ Planned-step (now table) round (now ends) (now tops) (now lows) far lead × Due-now (now table) expiring ⌝ }
+    ensures { λ r. ⌜ Sent-says (now (table .entry)) (now (table .exit)) r ⌝ }
+{
+    if lead.score < far_score(far) {
+        return send_row(table, round, row_of(far), true, expiring);
+    }
+    if lead.segment + 1 == lead.count {
+        return send_row(table, round, row_of(lead.key), false, expiring);
+    }
+    if lead.other == BLANK {
+        return send_blank(table, ends, tops, lows, round, lead, expiring);
+    }
+    send_swapped(table, ends, tops, lows, round, lead, expiring)
+}
+
+// The same where no row is left out: as the passes over the table found it.
+pub fn send_whole(table: &mut [u8], round: Round, whole: Whole, expiring: usize) -> Went
+    requires { ⌜ Whole-step (now table) round whole × Due-now (now table) expiring ⌝ }
+    ensures { λ r. ⌜ Sent-says (now (table .entry)) (now (table .exit)) r ⌝ }
+{
+    match whole {
+        Whole::First { row } => send_row(table, round, row, false, expiring),
+        Whole::Far { row } => send_row(table, round, row, true, expiring),
+        Whole::Kept { row, first, mark } => send_kept(table, round, row, first, mark, expiring),
+    }
+}

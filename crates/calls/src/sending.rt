@@ -18,22 +18,35 @@ use sorts::Round;
 pub fn send_slot(table: &mut [u8]) -> Sent
     ensures { λ r. ⌜ Says (acting sending) (of-sent r) (now (table .entry)) (now (table .exit)) ⌝ }
 {
-    match judge(table) {
+    if table.len() <= Round::FEW_SIZE {
+        let mut counts = [0u32; Round::FEW_PLACES];
+        return send_scanned(table, &mut counts);
+    }
+    let mut counts = [0u32; Round::PLACES];
+    send_scanned(table, &mut counts)
+}
+
+// The same with places for the scan's counts.
+fn send_scanned(table: &mut [u8], counts: &mut [u32]) -> Sent
+    requires { ⌜ Lent-counts (now table) (now counts) ⌝ }
+    ensures { λ r. ⌜ Says (acting sending) (of-sent r) (now (table .entry)) (now (table .exit)) ⌝ }
+{
+    match scan(table, counts) {
         Judged::Refused(n) => Sent::Refused(n),
-        Judged::Sound(round) => send_in(table, round),
+        Judged::Sound(round) => send_in(table, counts, round),
     }
 }
 
 // The same on a sound table.
-fn send_in(table: &mut [u8], round: Round) -> Sent
-    requires { ⌜ (table-refusal (now table) ≡ 0) × Head-of (now table) round ⌝ }
+fn send_in(table: &mut [u8], counts: &mut [u32], round: Round) -> Sent
+    requires { ⌜ Scanned (now table) (now counts) round ⌝ }
     ensures { λ r. ⌜ Says (acting sending) (of-sent r) (now (table .entry)) (now (table .exit)) ⌝ }
 {
     let refusal = sending_refusal(round);
     if 0 < refusal {
         return Sent::Refused(refusal);
     }
-    Sent::Went(step_of(send_sound(table, round)))
+    Sent::Went(step_of(send_sound(table, counts, round)))
 }
 
 fn step_of(went: Went) -> Step

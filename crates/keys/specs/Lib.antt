@@ -2,3 +2,4 @@ pub mod Key
 pub mod Sorted
 pub mod KeyLaws
 pub mod DueOrder
+pub mod CanonicalKey

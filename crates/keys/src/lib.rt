@@ -5,6 +5,8 @@ ghost use Rattle.keys.specs.Key.{key};
 use sorts::Slot;
 use sorts::Weight;
 
+pub mod canonical; // canonical.rt: one number for a row's place in canonical order
+
 // No row: what a blank would have, which weighs nothing.
 pub const BLANK: u64 = 281474993487872;
 

@@ -1,8 +1,8 @@
 pub mod TotalLaws
-pub mod WindowLaws
-pub mod BackLaws
-pub mod SpanLaws
-pub mod KeepLaws
-pub mod MarkLaws
-pub mod SegmentLaws
-pub mod SubstituteLaws
+pub mod EveryLaws
+pub mod KeptLaws
+pub mod FindLaws
+pub mod NearLaws
+pub mod BeginLaws
+pub mod FarLaws
+pub mod AskLaws

@@ -1,3 +1,6 @@
-pub mod Window
-pub mod Span
+pub mod Total
+pub mod Every
 pub mod Substitute
+pub mod Given
+pub mod Near
+pub mod Far

@@ -1,4 +1,3 @@
-pub mod KeyLaws
 pub mod GatherLaws
 pub mod DrainLaws
 pub mod OrderLaws

@@ -1,4 +1,3 @@
-pub mod Keys
 pub mod Gather
 pub mod Drain
 pub mod Ordered

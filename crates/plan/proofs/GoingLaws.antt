@@ -1,136 +1,384 @@
--- The sweep on its way, with its heap and its flags: one row more, the next row of a list, the next list.
+-- The sweep on its way, with its heap: its top is the lightest row kept, and it follows the sweep's steps.
 use mathlib.Core.Path.{_≡_, refl, sym, ap, _∙_}
-use mathlib.Core.Bool.{false}
+use mathlib.Core.Logic.{_⊎_, inl, inr}
+use mathlib.Core.Bool.{Bool, true, cond}
 use mathlib.Core.List.{List}
-use Prim.Native.Nat.{ℕ, suc, _+_, _%_, _≤_, _<_}
+use Prim.Native.Nat.{ℕ, zero, suc, _+_, _*_, _-_, _/_, _%_, _≤_, _<_, max}
 use native.Mathlib.Omega.{arith}
 use native.Mathlib.Numerals.{add-one}
-use lib.ListN.{length, getD, set, replicate, length-replicate}
-use Rattle.plan.specs.Keys.{key-in, ahead-in}
-use Rattle.plan.specs.Lists.{Next, Nexts}
-use Rattle.plan.specs.Heap.{Grown, Replaced}
-use Rattle.plan.specs.Sweep.{kept?, Flagged, Going, Swept-by, Lightest}
-use Rattle.plan.proofs.SweepLaws.{flagged-as, count-by, not-kept, count-under, joined, stayed, in-z, on-z, exchanged, next-row, next-list, none-swept}
-use Rattle.plan.proofs.HeapedLaws.{top-lightest, heap-joined, heap-exchanged, none-heaped}
-use Rattle.plan.proofs.ShowLaws.{show-none, show-joined, show-out, show-exchanged, show-next, show-onward}
+use lib.Dec.{eqb}
+use lib.ListN.{length, getD, set, replicate, length-set, length-replicate}
+use Rattle.theory.specs.Tests.{leb?, ltb?, eqb?}
+use Rattle.keys.specs.DueOrder.{each}
+use Rattle.heap.specs.Heap.{Heap, heaped, Grown, Replaced}
+use Rattle.heap.proofs.HeapLaws.{heaped-at, heaped-some, top-most}
+use Rattle.plan.specs.Sweep.{tally, Queue, Swept, Heaped, Leaves, Crowds, First-crowded, Filled, Greatest, Empty-heap, Fills, Crowd, Parted}
+use Rattle.plan.specs.Sweep.{key-on, row-on, ahead-on, weight-on, kept-on, left-on}
+use Rattle.plan.proofs.TallyLaws.{tally-yes, tally-at, tally-some, tally-all, tally-most}
+use Rattle.plan.proofs.SweepLaws.{keys-differ, count-few, kept-less, swept-joins, swept-leaves, swept-none, swept-front, crowded-in}
 
--- NOTHING KEPT YET
-pub going-start : (t heap gs : List ℕ) → Flagged t gs → heap ≡ replicate 1026 1 → gs ≡ replicate (length gs) 1 → Going t heap gs 0 0 0
-going-start t heap gs F g e =
+-- 1 for one number alone
+unfoldable is : (v x : ℕ) → ℕ
+is v x = cond (eqb x v) 1 0
+
+is? : (v x : ℕ) → ((is v x ≡ 1) × (x ≡ v)) ⊎ ((is v x ≡ 0) × (x ≡ v → ⊥))
+unfolding is
+is? v x = elim (eqb? x v) [ inl a ↦ inl (rw (a .0), a .1) | inr a ↦ inr (rw (a .0), a .1) ]
+
+is-1 : (v : ℕ) → is v v ≡ 1
+is-1 v = elim (is? v v) [ inl a ↦ a .0 | inr a ↦ absurd (a .1 refl) ]
+
+is-yes : (v x : ℕ) → 1 ≤ is v x → x ≡ v
+is-yes v x h = elim (is? v x) [ inl a ↦ a .1 | inr a ↦ absurd (omega (arith, h, a .0)) ]
+
+-- THE TOP is the key of the lightest row kept
+module _ (ks hs gs : List ℕ) (p count : ℕ) (H : Heaped ks hs gs p count) where
+  pub top-held : 1 ≤ count → (z : ℕ) × (z < p) × (kept-on ks gs z ≡ true) × (key-on ks z ≡ getD hs 1 0)
+  top-held some =
+      let v = getD hs 1 0 in
+      let a = heaped-at (is v) count hs 1 (omega arith) some in
+      let r = tally-some (λ q. is v (key-on ks q)) (kept-on ks gs) p (omega (arith, a, is-1 v, H .keys (is v))) in
+      (r .0, r .1, r .2, is-yes v (key-on ks (r .0)) (r .3))
+
+  pub under-top : (j : ℕ) → j < p → kept-on ks gs j ≡ true → key-on ks j ≤ getD hs 1 0
+  under-top j h e =
+      let v = key-on ks j in
+      let a = tally-at (λ q. is v (key-on ks q)) (kept-on ks gs) p j h e in
+      let r = heaped-some (is v) count hs (omega (arith, a, is-1 v, H .keys (is v))) in
+      omega (arith, is-yes v (getD hs (r .0) 0) (r .3), top-most count hs (H .ordered) (r .0) (r .0) (omega arith) (r .1) (r .2))
+
+-- WHO LEAVES, by the code's two answers
+pub leaves-top : (count key : ℕ) (h u : List ℕ) (top : ℕ) → top ≡ getD h 1 0 → key < top → Replaced count key h u → Leaves count key h u top
+leaves-top count key h u top e l R =
     record {
-      flags = replicate (length gs) 0;
-      shows = show-none (ahead-in t) (replicate (length gs) 0) gs (sym long) e;
-      swept = none-swept t (replicate (length gs) 0) (flagged-as t gs (replicate (length gs) 0) F long) none;
-      heaped = none-heaped t heap (replicate (length gs) 0) g none;
+      heap = R .heap;
+      keys = λ μ. omega (arith, R .keys μ, ap μ e);
+      over-top = omega (arith, e);
+      over-key = omega (arith, l);
+      is = inl e;
+    }
+
+pub leaves-key : (count key : ℕ) (h : List ℕ) → getD h 1 0 ≤ key → Heap count h → Leaves count key h h key
+leaves-key count key h l H =
+    record { heap = H; keys = λ μ. refl; over-top = l; over-key = omega arith; is = inr refl }
+
+-- IN THE MIDST OF THE SWEEP
+pub record Going (ks hs gs : List ℕ) (slot free over p count w : ℕ) : Type 0 where
+  pub swept : Swept ks gs slot (free + over) p count w
+  pub heaped : Heaped ks hs gs p count
+  pub room : free + over + 2 ≤ length hs
+  pub few : p ≤ count + over
+
+module _ (ks hs gs : List ℕ) (slot free over p count w : ℕ) (Q : Queue ks slot free (free + over)) (G : Going ks hs gs slot free over p count w) where
+  pub going-count : (count ≤ free) × (count ≤ p)
+  going-count = count-few ks gs slot free (free + over) p count w Q (G .swept)
+
+  -- while not all have left there is a place more
+  pub place-more : p < count + over → p < free + over
+  place-more l = omega (arith, l, going-count .0)
+
+  pub lost-bound : w ≤ p * 16777217
+  lost-bound = omega (arith, G .swept .lost, tally-most (weight-on ks) (left-on ks gs) p (λ j. omega arith))
+
+  pub going-end : count + over ≤ p → Parted ks gs slot free over w
+  going-end l = record { place = p; count = count; swept = G .swept; left = omega (arith, l, G .few) }
+
+  module _ (l : p < count + over) (k : ℕ) (e : k ≡ key-on ks p) where
+    here : p < free + over
+    here = place-more l
+
+    pub going-joins : (u : List ℕ) → count ≤ ahead-on ks slot p → Grown count k hs u → Going ks u gs slot free over (p + 1) (count + 1) w
+    going-joins u f R =
+        rw (add-one, add-one) (record {
+          swept = swept-joins ks gs slot free (free + over) p count w Q (G .swept) here f;
+          heaped = record {
+            ordered = R .heap;
+            keys = λ μ. omega (
+              arith,
+              R .keys μ,
+              G .heaped .keys μ,
+              ap μ e,
+              tally-yes (λ q. μ (key-on ks q)) (kept-on ks gs) p (G .swept .waits p (omega arith) here),
+            );
+          };
+          room = omega (arith, R .long, G .room);
+          few = omega (arith, l);
+        })
+
+    -- who leaves has a place, and is lighter than all others kept
+    pub record Leaver (out : ℕ) : Type 0 where
+      pub place : ℕ
+      pub within : place ≤ p
+      pub kept : kept-on ks gs place ≡ true
+      pub is : out ≡ key-on ks place
+      pub most : (j : ℕ) → j ≤ p → kept-on ks gs j ≡ true → (j ≡ place → ⊥) → key-on ks j < key-on ks place
+
+    lighter : (u : List ℕ) (out z : ℕ) → Leaves count k hs u out → z ≤ p → out ≡ key-on ks z → (j : ℕ) → j ≤ p → kept-on ks gs j ≡ true → (j ≡ z → ⊥) →
+        key-on ks j < key-on ks z
+    lighter u out z L a b j c d n = elim (ltb? (key-on ks j) (key-on ks z)) [
+      | inl y ↦ y .1
+      | inr y ↦ absurd (n (keys-differ ks slot free (free + over) Q j z (omega (arith, c, here)) (omega (arith, a, here))
+          (omega (arith, y .1, b, at-most))))
+    ]
+      where
+        at-most : key-on ks j ≤ out
+        at-most = elim (eqb? j p) [
+          | inl x ↦ omega (arith, ap (key-on ks) (x .1), e, L .over-key)
+          | inr x ↦ let d′ = x .1 in omega (arith, L .over-top, under-top ks hs gs p count (G .heaped) j (omega (arith, c)) d)
+        ]
+
+    pub leaver : (u : List ℕ) (out : ℕ) → ahead-on ks slot p < count → Leaves count k hs u out → Leaver out
+    leaver u out full L = elim (L .is) [
+      | inl a ↦
+          let t = top-held ks hs gs p count (G .heaped) (omega (arith, full)) in
+          let q : out ≡ key-on ks (t .0) = a ∙ sym (t .3) in
+          record {
+            place = t .0;
+            within = omega (arith, t .1);
+            kept = t .2;
+            is = q;
+            most = lighter u out (t .0) L (omega (arith, t .1)) q;
+          }
+      | inr a ↦ record {
+        place = p;
+        within = omega arith;
+        kept = G .swept .waits p (omega arith) here;
+        is = a ∙ e;
+        most = lighter u out p L (omega arith) (a ∙ e);
+      }
+    ]
+
+    -- its key names a row with a flag
+    module _ (u : List ℕ) (out : ℕ) (full : ahead-on ks slot p < count) (L : Leaves count k hs u out) where
+      X : Leaver out
+      X = leaver u out full L
+
+      pub out-row : out % 1024 < length gs
+      out-row =
+          omega (arith, ap (λ (v : ℕ). v % 1024) (X .is), G .swept .rows (X .place) (omega (arith, X .within, here)))
+
+      pub out-most : out ≤ 281474993487872
+      out-most = omega (arith, X .is, Q .most (X .place) (omega (arith, X .within, here)))
+
+      pub going-leaves : length u ≡ length hs → (i v : ℕ) → i ≡ out % 1024 → v ≡ 16777217 - out / 16777216 →
+          Going ks u (set gs i 0) slot free over (p + 1) count (w + v)
+      going-leaves g i v a b =
+          let ei : i ≡ row-on ks (X .place) = a ∙ ap (λ (y : ℕ). y % 1024) (X .is) in
+          let ev : v ≡ weight-on ks (X .place) = b ∙ ap (λ (y : ℕ). 16777217 - y / 16777216) (X .is) in
+          rw (ei, ev, add-one) (record {
+            swept = swept-leaves ks gs slot free (free + over) p count w Q (G .swept) here (X .place) (X .within) (X .kept) full (X .most);
+            heaped = record {
+              ordered = L .heap;
+              keys = λ μ. omega (
+                arith,
+                L .keys μ,
+                G .heaped .keys μ,
+                ap μ e,
+                ap μ (X .is),
+                kept-less ks gs slot free (free + over) p count w Q (G .swept) here (X .place) (X .within) (X .kept) (λ q. μ (key-on ks q)),
+              );
+            };
+            room = omega (arith, g, G .room);
+            few = omega (arith, l);
+          })
+
+-- THE FIRST KEYS into an empty heap
+pub fills : (ks gs hs : List ℕ) (slot free over c : ℕ) → Crowd ks gs slot free over → First-crowded ks slot c → Empty-heap hs (free + over) → Fills ks hs c
+fills ks gs hs slot free over c C F E =
+    let i = crowded-in ks gs slot free over C c F in
+    record {
+      empty = record { none = E .none; room = omega (arith, E .room, i) };
+      within = F .within;
+      small = omega (arith, i, C .queue .small);
+      some = λ p h. C .queue .some p (omega (arith, h, i));
+    }
+
+pub filled-none : (ks hs : List ℕ) (n : ℕ) → Empty-heap hs n → Filled ks hs 0
+unfolding heaped each
+filled-none ks hs n E =
+    let e = E .none in
+    record {
+      ordered = record {
+        room = omega (arith, E .room);
+        order = λ q a b. absurd (omega (arith, a, b));
+        some = λ q a b. absurd (omega (arith, a, b));
+        free = λ q a. ap (λ (xs : List ℕ). getD xs q 0) e ∙ none (length hs) q;
+      };
+      keys = λ μ. refl;
     }
   where
-    long : length (replicate {A = ℕ} (length gs) 0) ≡ length gs
-    long = length-replicate (length gs) 0
+    none : (n q : ℕ) → getD {A = ℕ} (replicate n 0) q 0 ≡ 0
+    none zero q = refl
+    none (suc n) zero = refl
+    none (suc n) (suc q) = none n q
 
-    none : replicate {A = ℕ} (length gs) 0 ≡ replicate (length (replicate {A = ℕ} (length gs) 0)) 0
-    none = ap (λ (n : ℕ). replicate n 0) (sym long)
+pub filled-more : (ks hs u : List ℕ) (n k : ℕ) → Filled ks hs n → k ≡ key-on ks n → Grown n k hs u → Filled ks u (n + 1)
+unfolding each
+filled-more ks hs u n k F e R =
+    rw add-one (record {
+      ordered = R .heap;
+      keys = λ μ. omega (arith, R .keys μ, F .keys μ, ap μ e);
+    })
 
-pub going-few : (t heap gs : List ℕ) (s a count : ℕ) → Going t heap gs s a count → length gs ≤ 1024
-going-few t heap gs s a count G = omega (arith, G .shows .size, G .swept .flagged .few)
+-- in the midst of it
+pub record Filling (ks hs us : List ℕ) (first n : ℕ) : Type 0 where
+  pub fills : Fills ks hs first
+  pub by : n ≤ first
+  pub long : length us ≡ length hs
+  pub filled : Filled ks us n
 
--- ONE ROW, with its key
-module _ (t heap gs : List ℕ) (s i count k : ℕ) (G : Going t heap gs s i count) (h : i < length gs) (here : ahead-in t i ≡ s)
-    (is-key : k ≡ key-in t i) where
-  inside : i < length (G .flags)
-  inside = omega (arith, h, G .shows .size)
+pub filling-none : (ks hs : List ℕ) (first : ℕ) → Fills ks hs first → Filling ks hs hs first 0
+filling-none ks hs first F = record { fills = F; by = omega arith; long = refl; filled = filled-none ks hs first (F .empty) }
 
-  off : kept? (G .flags) i ≡ false
-  off = not-kept t (G .flags) s i count (G .swept) inside here
+module _ (ks hs us : List ℕ) (first n : ℕ) (F : Filling ks hs us first n) (h : n < first) where
+  pub filling-in : (n < length ks) × (n ≤ 1024)
+  filling-in = (omega (arith, h, F .fills .within), omega (arith, h, F .fills .small))
 
-  pub room : count < 1024
-  room = omega (arith, count-under t (G .flags) s i count (G .swept) inside here, G .swept .flagged .few)
+  pub filling-rise : (k : ℕ) → k ≡ key-on ks n → (n + 2 ≤ length us) × (n ≤ 1024) × (1 ≤ k) × Heap n us
+  filling-rise k e =
+      (omega (arith, h, F .long, F .fills .empty .room), filling-in .1, omega (arith, e, F .fills .some n h), F .filled .ordered)
 
-  pub going-joined : (u : List ℕ) → count ≤ s → Grown count k heap u → Going t u gs s (suc i) (count + 1)
-  going-joined u free g =
+  pub filling-more : (k : ℕ) (vs : List ℕ) → k ≡ key-on ks n → Grown n k us vs → Filling ks hs vs first (n + 1)
+  filling-more k vs e R =
       record {
-        flags = set (G .flags) i 1;
-        shows = show-joined (ahead-in t) s i (G .flags) gs (G .shows) inside here;
-        swept = joined t (G .flags) s i count (G .swept) inside here free;
-        heaped = heap-joined t heap (G .flags) u s i count k (G .swept) (G .heaped) inside here is-key g;
+        fills = F .fills;
+        by = omega (arith, h);
+        long = R .long ∙ F .long;
+        filled = filled-more ks us vs n k (F .filled) e R;
       }
 
-  -- no slot is free for one more: the lightest of those kept has the key on top
-  module _ (full : s < count) where
-    lightest : Lightest t (length (G .flags)) (kept? (G .flags)) (getD heap 1 0)
-    lightest = top-lightest t heap (G .flags) count (G .swept .flagged) (G .heaped) (omega (arith, full))
+pub filling-end : (ks hs us : List ℕ) (first n : ℕ) → Filling ks hs us first n → first ≤ n → Filled ks us first
+filling-end ks hs us first n F h = let e : first ≡ n = omega (arith, h, F .by) in rw e (F .filled)
 
-    pub top-within : getD heap 1 0 % 1024 < length gs
-    top-within = omega (arith, lightest .in-rows, G .shows .size)
-
-    pub going-exchanged : (u : List ℕ) (z : ℕ) → k < getD heap 1 0 → z ≡ getD heap 1 0 % 1024 → Replaced count k heap u →
-        Going t u (set gs z 0) s (suc i) count
-    going-exchanged u z over named r =
-        record {
-          flags = set (set (G .flags) z 0) i 1;
-          shows = show-exchanged (ahead-in t) s i (G .flags) gs (G .shows) inside here off z
-              (in-z t (G .flags) s i count (G .swept) inside here k (getD heap 1 0) is-key full lightest over z named)
-              (on-z t (G .flags) s i count (G .swept) inside here k (getD heap 1 0) is-key full lightest over z named)
-              (G .swept .mid .new);
-          swept = exchanged t (G .flags) s i count (G .swept) inside here k (getD heap 1 0) is-key full lightest over z named;
-          heaped = heap-exchanged t heap (G .flags) u s i count k (G .swept) (G .heaped) inside here is-key z full over named r;
-        }
-
-    pub going-out : getD heap 1 0 ≤ k → Going t heap (set gs i 0) s (suc i) count
-    going-out above =
-        record {
-          flags = G .flags;
-          shows = show-out (ahead-in t) s i (G .flags) gs (G .shows) inside here off;
-          swept = stayed t (G .flags) s i count (G .swept) inside here k (getD heap 1 0) is-key full lightest above;
-          heaped = G .heaped;
-        }
-
-pub count-in : (t heap gs : List ℕ) (s a count : ℕ) → Going t heap gs s a count → count ≤ 1024
-count-in t heap gs s a count G = omega (arith, count-by t (G .flags) s a count (G .swept), G .swept .flagged .few)
-
--- ON TO THE NEXT ROW, the next list, and the edge
-going-next : (t heap gs : List ℕ) (s a c count : ℕ) → Going t heap gs s a count → Next (ahead-in t) (length gs) s a c → Going t heap gs s c count
-going-next t heap gs s a c count G N =
-    let l = G .shows .size in
-    let M : Next (ahead-in t) (length (G .flags)) s a c = (rw l at N) in
+-- THE FIRST CROWDED PLACE is met
+pub crowd-met : (ks gs : List ℕ) (slot free over : ℕ) → Crowd ks gs slot free over → Crowds ks slot
+crowd-met ks gs slot free over C =
     record {
-      flags = G .flags;
-      shows = show-next (ahead-in t) s a c (G .flags) gs (G .shows) M;
-      swept = next-row t (G .flags) s a c count (G .swept) M;
-      heaped = G .heaped;
+      at = free;
+      within = omega (arith, C .queue .long, C .some);
+      small = omega (arith, C .queue .small);
+      from = λ p a. C .queue .from p (omega (arith, a, C .some));
+      over = C .queue .early free (omega (arith, C .some));
     }
 
-pub next-ahead : (t heap gs : List ℕ) (s count : ℕ) → Going t heap gs (suc s) 0 count → Going t heap gs (s + 1) 0 count
-next-ahead t heap gs s count G = rw add-one G
+pub record Looking (ks : List ℕ) (slot p : ℕ) : Type 0 where
+  pub crowd : Crowds ks slot
+  pub by : p ≤ crowd .at
+  pub under : (q : ℕ) → q < p → q ≤ ahead-on ks slot q
 
-pub swept-to : (t heap gs : List ℕ) (s e count : ℕ) → e ≡ s → Going t heap gs s 0 count → Swept-by t gs e
-swept-to t heap gs s e count h G =
-    let W : Swept-by t gs s = record { flags = G .flags; count = count; shows = G .shows; swept = G .swept } in rw h W
+pub looking-none : (ks : List ℕ) (slot : ℕ) → Crowds ks slot → Looking ks slot 0
+looking-none ks slot C = record { crowd = C; by = omega arith; under = λ q a. absurd (omega (arith, a)) }
 
--- IN THE MIDST OF A LIST: row is the next one of it
-pub record Listing (t heap : List ℕ) (n : ℕ) (gs : List ℕ) (s row count : ℕ) : Type 0 where
-  pub size : length gs ≡ n
-  pub here : row < n → ahead-in t row ≡ s
-  pub going : Going t heap gs s row count
+module _ (ks : List ℕ) (slot p : ℕ) (L : Looking ks slot p) where
+  pub looking-in : (p < length ks) × (p ≤ 1024)
+  looking-in = (omega (arith, L .by, L .crowd .within), omega (arith, L .by, L .crowd .small))
 
-pub list-start : (t heap gs : List ℕ) (s start count : ℕ) → Going t heap gs s 0 count → Next (ahead-in t) (length gs) s 0 start →
-    Listing t heap (length gs) gs s start count
-list-start t heap gs s start count G N = record { size = refl; here = N .here; going = going-next t heap gs s 0 start count G N }
+  pub looking-from : (k : ℕ) → k ≡ key-on ks p → slot ≤ k / 4096 % 4096
+  looking-from k e = omega (arith, ap (λ (v : ℕ). v / 4096 % 4096) e, L .crowd .from p (L .by))
 
-pub list-more : (t heap u : List ℕ) (n : ℕ) (fs gs next : List ℕ) (s row c count kept : ℕ) → Listing t heap n fs s row kept → row < n →
-    length gs ≡ length fs → Going t u gs s (suc row) count → Nexts (ahead-in t) n 0 next → c ≡ getD next row 0 → Listing t u n gs s c count
-list-more t heap u n fs gs next s row c count kept L h l G X e =
-    let z = L .here h in
-    let m : length gs ≡ n = l ∙ L .size in
-    let N : Next (ahead-in t) n s (suc row) c = (rw (z, ← e) at (X row (omega arith) h)) in
-    record { size = m; here = N .here; going = going-next t u gs s (suc row) c count G (rw m N) }
+  module _ (k a : ℕ) (e : k ≡ key-on ks p) (d : a ≡ k / 4096 % 4096 - slot) where
+    ahead : a ≡ ahead-on ks slot p
+    ahead = d ∙ ap (λ (v : ℕ). v / 4096 % 4096 - slot) e
 
-pub list-end : (t heap : List ℕ) (n : ℕ) (gs : List ℕ) (s row count : ℕ) → Listing t heap n gs s row count → n ≤ row → Going t heap gs (suc s) 0 count
-list-end t heap n gs s row count L h =
-    let G = L .going in
-    let l : length (G .flags) ≤ row = omega (arith, h, L .size, G .shows .size) in
+    pub looking-more : p ≤ a → Looking ks slot (p + 1)
+    looking-more h =
+        record {
+          crowd = L .crowd;
+          by = elim (eqb? p (L .crowd .at)) [
+            | inl b ↦ absurd (omega (arith, h, ahead, L .crowd .over, ap (ahead-on ks slot) (b .1), b .1))
+            | inr b ↦ let x = b .1 in omega (arith, L .by)
+          ];
+          under = λ q c. elim (eqb? q p) [
+            | inl b ↦ omega (arith, b .1, h, ahead, ap (ahead-on ks slot) (b .1))
+            | inr b ↦ let x = b .1 in L .under q (omega (arith, c))
+          ];
+        }
+
+    pub looking-end : a < p → First-crowded ks slot p
+    looking-end h = record { within = looking-in .0; over = omega (arith, h, ahead); under = L .under }
+
+-- THE SWEEP STARTS there
+pub going-start : (ks gs hs us : List ℕ) (slot free over c : ℕ) → Crowd ks gs slot free over → First-crowded ks slot c → Empty-heap hs (free + over) → Filled ks us c →
+    length us ≡ length hs → Going ks us gs slot free over c c 0
+going-start ks gs hs us slot free over c C F E X l =
+    let S = swept-front ks gs slot free over C c F (omega (arith, crowded-in ks gs slot free over C c F)) c (omega arith) in
     record {
-      flags = G .flags;
-      shows = show-onward (ahead-in t) s row (G .flags) gs (G .shows) l;
-      swept = next-list t (G .flags) s row count (G .swept) l;
-      heaped = G .heaped;
+      swept = S;
+      heaped = record {
+        ordered = X .ordered;
+        keys = λ μ. X .keys μ ∙ sym (tally-all (λ q. μ (key-on ks q)) (kept-on ks gs) c all-on);
+      };
+      room = omega (arith, l, E .room);
+      few = omega arith;
     }
+  where
+    all-on : (q : ℕ) → q < c → kept-on ks gs q ≡ true
+    all-on q h = swept-none ks gs slot free over C .waits q (omega arith) (omega (arith, h, crowded-in ks gs slot free over C c F))
+
+-- ONE TOO MANY: the greatest of the keys up to the first crowded place leaves
+pub greatest-first : (ks : List ℕ) (k : ℕ) → k ≡ key-on ks 0 → Greatest ks (0 + 1) k
+greatest-first ks k e =
+    record {
+      place = 0;
+      within = omega arith;
+      is = e;
+      most = λ q h. let z : q ≡ 0 = omega (arith, h) in omega (arith, e, ap (key-on ks) z);
+    }
+
+pub greatest-more : (ks : List ℕ) (n top k v : ℕ) → Greatest ks (n + 1) top → k ≡ key-on ks (n + 1) → v ≡ max top k → Greatest ks (n + 1 + 1) v
+greatest-more ks n top k v G e d = elim (leb? k top) [
+  | inl a ↦ record {
+    place = G .place;
+    within = omega (arith, G .within);
+    is = omega (arith, a .1, d, G .is);
+    most = λ q h. elim (eqb? q (n + 1)) [
+      | inl b ↦ omega (arith, a .1, d, e, ap (key-on ks) (b .1))
+      | inr b ↦ let x = b .1 in omega (arith, d, G .most q (omega (arith, h)))
+    ];
+  }
+  | inr a ↦ record {
+    place = n + 1;
+    within = omega arith;
+    is = omega (arith, a .1, d, e);
+    most = λ q h. elim (eqb? q (n + 1)) [
+      | inl b ↦ omega (arith, d, e, ap (key-on ks) (b .1))
+      | inr b ↦ let x = b .1 in omega (arith, d, G .most q (omega (arith, h)))
+    ];
+  }
+]
+
+pub greatest-end : (ks : List ℕ) (i last top : ℕ) → Greatest ks (i + 1) top → i ≡ last → Greatest ks (last + 1) top
+greatest-end ks i last top G e = rw (← e) G
+
+module _ (ks gs : List ℕ) (slot free over c top : ℕ) (C : Crowd ks gs slot free over) (F : First-crowded ks slot c) (G : Greatest ks (c + 1) top) where
+  S : Swept ks gs slot (free + over) c c 0
+  S = swept-front ks gs slot free over C c F (omega (arith, crowded-in ks gs slot free over C c F)) c (omega arith)
+
+  in-c : c < free + over
+  in-c = crowded-in ks gs slot free over C c F
+
+  in-z : G .place < free + over
+  in-z = omega (arith, in-c, G .within)
+
+  pub one-row : top % 1024 < length gs
+  one-row = omega (arith, ap (λ (v : ℕ). v % 1024) (G .is), C .rows (G .place) in-z)
+
+  pub one-most : top ≤ 281474993487872
+  one-most = omega (arith, G .is, C .queue .most (G .place) in-z)
+
+  pub one-left : (i v : ℕ) → over ≡ 1 → i ≡ top % 1024 → v ≡ 16777217 - top / 16777216 → Parted ks (set gs i 0) slot free over v
+  one-left i v one a b =
+      let ei : i ≡ row-on ks (G .place) = a ∙ ap (λ (y : ℕ). y % 1024) (G .is) in
+      let ev : v ≡ 0 + weight-on ks (G .place) = b ∙ ap (λ (y : ℕ). 16777217 - y / 16777216) (G .is) ∙ omega arith in
+      rw (ei, ev) (record {
+        place = suc c;
+        count = c;
+        swept = swept-leaves ks gs slot free (free + over) c c 0 (C .queue) S in-c (G .place) (omega (arith, G .within))
+            (swept-none ks gs slot free over C .waits (G .place) (omega arith) in-z) (F .over)
+            (λ j h d n. elim (ltb? (key-on ks j) (key-on ks (G .place))) [
+              | inl y ↦ y .1
+              | inr y ↦ absurd (n (keys-differ ks slot free (free + over) (C .queue) j (G .place) (omega (arith, h, in-c)) in-z
+                  (omega (arith, y .1, G .is, G .most j (omega (arith, h))))))
+            ]);
+        left = omega (arith, one);
+      })

@@ -1,117 +1,172 @@
 -- The sweep's steps on flags as the code takes them.
-use mathlib.Core.Path.{_≡_, refl, sym, ap, _∙_}
+use mathlib.Core.Path.{_≡_, refl, sym, ap, _∙_, subst}
 use mathlib.Core.Logic.{_⊎_, inl, inr}
-use mathlib.Core.Bool.{true, false, true≢false}
+use mathlib.Core.Bool.{Bool, true, false, not, true≢false}
 use mathlib.Core.List.{List}
-use Prim.Native.Nat.{ℕ, suc, _+_, _%_, _≤_, _<_}
+use Prim.Native.Nat.{ℕ, zero, suc, _+_, _-_, _/_, _%_, _≤_, _<_}
 use native.Mathlib.Omega.{arith}
 use lib.Dec.{eqb}
-use lib.ListN.{length, set, replicate, length-set, getD-replicate}
-use Rattle.theory.specs.Tests.{ltb?}
-use Rattle.rules.specs.Conditions.{due-in, weight-in}
-use Rattle.plan.specs.Keys.{key-in, ahead-in}
-use Rattle.plan.specs.Lists.{Next}
-use Rattle.plan.specs.Sweep.{kept?, tally, Flagged, Swept, Lightest}
-use Rattle.plan.proofs.KeyLaws.{row-in-key}
-use Rattle.plan.proofs.TallyLaws.{tally-on, tally-most}
-use Rattle.plan.proofs.FlagLaws.{off, join, stay, sums, exchange, skip, onward, none-yet}
+use lib.ListN.{length, getD, set, replicate, length-set, getD-replicate}
+use lib.Seq.{getD-set-same, getD-set-other}
+use Rattle.theory.specs.Tests.{ltb?, eqb?}
+use Rattle.plan.specs.Sweep.{tally, before, Mid, Queue, Swept, First-crowded, Crowd}
+use Rattle.plan.specs.Sweep.{key-on, row-on, ahead-on, weight-on, kept?, kept-on, left-on}
+use Rattle.plan.proofs.TallyLaws.{tally-yes, tally-no, tally-zero, tally-same, tally-off, tally-all, tally-le, tally-both, tally-few, before-yes}
+use Rattle.plan.proofs.StepLaws.{mid-none, joins, stays, exchanges}
 
--- other flags of the same rows
-pub flagged-as : (t fs gs : List ℕ) → Flagged t fs → length gs ≡ length fs → Flagged t gs
-flagged-as t fs gs F l = record { used = l ∙ F .used; few = omega (arith, F .few) }
+-- a flag taken away
+pub off? : (gs : List ℕ) (i j : ℕ) → i < length gs →
+    ((j ≡ i) × (kept? (set gs i 0) j ≡ false)) ⊎ ((j ≡ i → ⊥) × (kept? (set gs i 0) j ≡ kept? gs j))
+off? gs i j h = elim (eqb? j i) [
+  | inl k ↦
+      let e : j ≡ i = k .1 in
+      inl (e, ap (λ (v : ℕ). eqb v 1) (ap (λ (v : ℕ). getD (set gs i 0) v 0) e ∙ getD-set-same gs i 0 0 h))
+  | inr k ↦ inr (k .1, ap (λ (v : ℕ). eqb v 1) (getD-set-other gs i j 0 0 (k .1)))
+]
 
--- a key names its row, and different rows have different ones
-pub row-is : (t fs : List ℕ) → Flagged t fs → (j : ℕ) → j < length fs → key-in t j % 1024 ≡ j
-row-is t fs F j h = row-in-key (weight-in t j) (due-in t j) j (omega (arith, F .few))
+-- different places have different keys
+pub keys-differ : (ks : List ℕ) (slot n m : ℕ) → Queue ks slot n m → (p q : ℕ) → p < m → q < m → key-on ks p ≡ key-on ks q → p ≡ q
+keys-differ ks slot n m Q p q h k e = Q .apart p q h k (ap (λ (v : ℕ). v % 1024) e)
 
-pub differ : (t fs : List ℕ) → Flagged t fs → (i j : ℕ) → i < length fs → j < length fs → key-in t i ≡ key-in t j → i ≡ j
-differ t fs F i j h k e = sym (row-is t fs F i h) ∙ ap (λ (x : ℕ). x % 1024) e ∙ row-is t fs F j k
+-- no more rows are kept than slots are near
+pub count-few : (ks gs : List ℕ) (slot n m p count w : ℕ) → Queue ks slot n m → Swept ks gs slot m p count w → (count ≤ n) × (count ≤ p)
+count-few ks gs slot n m p count w Q S = (
+  omega (
+    arith,
+    S .mid .all,
+    S .mid .fits n,
+    tally-le (λ _. 1) (before (ahead-on ks slot) n) (kept-on ks gs) p (λ j h e.
+        omega (arith, before-yes (ahead-on ks slot) n j (Q .early j (omega (arith, h, S .by))))),
+  ),
+  omega (arith, S .mid .all, tally-few (λ _. 1) (kept-on ks gs) p (λ j. omega arith)),
+)
 
-pub count-by : (t fs : List ℕ) (s a count : ℕ) → Swept t fs s a count → count ≤ length fs
-count-by t fs s a count W = omega (arith, W .mid .all, tally-most (λ _. 1) fs (length fs) (λ j. omega arith))
+-- ONE PLACE
+module _ (ks gs : List ℕ) (slot n m p count w : ℕ) (Q : Queue ks slot n m) (S : Swept ks gs slot m p count w) (h : p < m) where
+  on : kept-on ks gs p ≡ true
+  on = S .waits p (omega arith) h
 
--- ONE ROW, with its key
-module _ (t fs : List ℕ) (s i count : ℕ) (W : Swept t fs s i count) (h : i < length fs) (here : ahead-in t i ≡ s) where
-  pub not-kept : kept? fs i ≡ false
-  not-kept = off (key-in t) (ahead-in t) (length fs) fs s i count (W .mid) h here
+  up-to : (q : ℕ) → q ≤ p → ahead-on ks slot q ≤ ahead-on ks slot p
+  up-to q k = Q .rises q p k h
 
-  -- a row that is not kept yet leaves room for it
-  pub count-under : count < length fs
-  count-under =
-      omega (
-        arith,
-        W .mid .all,
-        tally-on (λ _. 1) fs (length fs) i h h not-kept,
-        tally-most (λ _. 1) (set fs i 1) (length fs) (λ j. omega arith),
-      )
-
-  pub joined : count ≤ s → Swept t (set fs i 1) s (suc i) (count + 1)
-  joined free =
+  pub swept-joins : count ≤ ahead-on ks slot p → Swept ks gs slot m (suc p) (suc count) w
+  swept-joins free =
       record {
-        flagged = flagged-as t fs (set fs i 1) (W .flagged) (length-set fs i 1);
-        mid = rw (length-set fs i 1) (join (key-in t) (ahead-in t) (length fs) fs s i count (W .mid) h here free);
+        by = h;
+        rows = S .rows;
+        waits = λ q a b. S .waits q (omega (arith, a)) b;
+        mid = joins (key-on ks) (ahead-on ks slot) p count up-to (kept-on ks gs) (S .mid) on free;
+        lost = S .lost ∙ sym (tally-no (weight-on ks) (left-on ks gs) p (ap not on));
+        sums = λ f. omega (arith, S .sums f, tally-no (λ q. f (row-on ks q)) (left-on ks gs) p (ap not on));
       }
 
-  -- the lightest of the others has the key top
-  module _ (k top : ℕ) (is-key : k ≡ key-in t i) (full : s < count) (L : Lightest t (length fs) (kept? fs) top) where
-    pub stayed : top ≤ k → Swept t fs s (suc i) count
-    stayed above =
-        record { flagged = W .flagged; mid = stay (key-in t) (ahead-in t) (length fs) fs s i count (W .mid) h here full under }
-      where
-        under : (j : ℕ) → j < length fs → kept? fs j ≡ true → key-in t j < key-in t i
-        under j a e = elim (ltb? (key-in t j) (key-in t i)) [
-          | inl b ↦ b .1
-          | inr b ↦
-              let q : key-in t j ≡ key-in t i = omega (arith, b .1, L .most j a e, above, is-key) in
-              absurd (true≢false (sym e ∙ ap (kept? fs) (differ t fs (W .flagged) j i a h q) ∙ not-kept))
-        ]
+  -- the row at place z leaves, lighter than all others kept
+  module _ (z : ℕ) (hz : z ≤ p) (was : kept-on ks gs z ≡ true) where
+    abbrev hs : List ℕ
+    hs = set gs (row-on ks z) 0
 
-    -- the row that it names
-    module _ (over : k < top) (z : ℕ) (named : z ≡ top % 1024) where
-      pub in-z : z < length fs
-      in-z = omega (arith, named, L .in-rows)
+    in-z : row-on ks z < length gs
+    in-z = S .rows z (omega (arith, hz, h))
 
-      pub on-z : kept? fs z ≡ true
-      on-z = ap (kept? fs) named ∙ L .has
+    gone : kept-on ks hs z ≡ false
+    gone = elim (off? gs (row-on ks z) (row-on ks z) in-z) [ inl a ↦ a .1 | inr a ↦ absurd (a .0 refl) ]
 
-      pub key-z : key-in t z ≡ top
-      key-z = ap (key-in t) named ∙ L .key
+    other : (q : ℕ) → q < m → (q ≡ z → ⊥) → kept-on ks hs q ≡ kept-on ks gs q
+    other q a d = elim (off? gs (row-on ks z) (row-on ks q) in-z) [
+      | inl b ↦ absurd (d (Q .apart q z a (omega (arith, hz, h)) (b .0)))
+      | inr b ↦ b .1
+    ]
 
-      most : (j : ℕ) → j < length fs → kept? fs j ≡ true → (j ≡ z) ⊎ (key-in t j < key-in t z)
-      most j a f = elim (ltb? (key-in t j) (key-in t z)) [
-        | inl b ↦ inr (b .1)
-        | inr b ↦ inl (differ t fs (W .flagged) j z a in-z (omega (arith, b .1, key-z, L .most j a f)))
-      ]
+    -- what a sum over the rows kept loses, and one over the others gains
+    pub kept-less : (f : ℕ → ℕ) → tally f (kept-on ks hs) (suc p) + f z ≡ tally f (kept-on ks gs) p + f p
+    kept-less f =
+        omega (
+          arith,
+          tally-off f (kept-on ks gs) (kept-on ks hs) (suc p) z (omega (arith, hz)) was gone (λ j a d. other j (omega (arith, a, h)) d),
+          tally-yes f (kept-on ks gs) p on,
+        )
 
-      heavier : key-in t i < key-in t z
-      heavier = omega (arith, key-z, over, is-key)
+    left-more : (f : ℕ → ℕ) → tally f (left-on ks hs) (suc p) ≡ tally f (left-on ks gs) p + f z
+    left-more f =
+        omega (
+          arith,
+          kept-less f,
+          tally-both f (kept-on ks gs) (suc p),
+          tally-both f (kept-on ks hs) (suc p),
+          tally-yes f (kept-on ks gs) p on,
+          tally-no f (left-on ks gs) p (ap not on),
+        )
 
-      pub same-rows : length (set (set fs z 0) i 1) ≡ length fs
-      same-rows = length-set (set fs z 0) i 1 ∙ length-set fs z 0
+    rows-less : (f : ℕ → ℕ) → tally f (kept? hs) (length gs) + f (row-on ks z) ≡ tally f (kept? gs) (length gs)
+    rows-less f =
+        tally-off f (kept? gs) (kept? hs) (length gs) (row-on ks z) in-z was gone (λ j a d. elim (off? gs (row-on ks z) j in-z) [
+          | inl b ↦ absurd (d (b .0))
+          | inr b ↦ b .1
+        ])
 
-      pub exchanged : Swept t (set (set fs z 0) i 1) s (suc i) count
-      exchanged =
-          record {
-            flagged = flagged-as t fs (set (set fs z 0) i 1) (W .flagged) same-rows;
-            mid = rw same-rows (exchange (key-in t) (ahead-in t) (length fs) fs s i count (W .mid) h here full z in-z on-z most heavier);
-          }
+    mid-then : ahead-on ks slot p < count → ((j : ℕ) → j ≤ p → kept-on ks gs j ≡ true → (j ≡ z → ⊥) → key-on ks j < key-on ks z) →
+        Mid (key-on ks) (ahead-on ks slot) (kept-on ks hs) (suc p) count
+    mid-then full most = elim (eqb? z p) [
+      | inl a ↦
+          let e : z ≡ p = a .1 in
+          stays (key-on ks) (ahead-on ks slot) p count up-to (kept-on ks gs) (kept-on ks hs) (S .mid)
+          (ap (kept-on ks hs) (sym e) ∙ gone)
+          (λ j b. other j (omega (arith, b, h)) (λ q. omega (arith, q, e, b)))
+          full
+          (λ j b c. omega (arith, most j (omega (arith, b)) c (λ q. omega (arith, q, e, b)), ap (key-on ks) e))
+      | inr a ↦
+          let d = a .1 in
+          exchanges (key-on ks) (ahead-on ks slot) p count up-to (kept-on ks gs) (kept-on ks hs) (S .mid) z (omega (arith, hz)) was gone
+          (other p h (λ q. d (sym q)) ∙ on)
+          (λ j b c. other j (omega (arith, b, h)) c)
+          full
+          (λ j b c e. most j (omega (arith, b)) c e)
+          (most p (omega arith) on (λ q. d (sym q)))
+    ]
 
-      -- what a sum over the rows kept loses and gains
-      pub sum-moved : (f : ℕ → ℕ) → tally f (set (set fs z 0) i 1) (length fs) + f z ≡ tally f fs (length fs) + f i
-      sum-moved f = sums (key-in t) (ahead-in t) (length fs) fs s i count (W .mid) h here full z in-z on-z most heavier f
+    pub swept-leaves : ahead-on ks slot p < count → ((j : ℕ) → j ≤ p → kept-on ks gs j ≡ true → (j ≡ z → ⊥) → key-on ks j < key-on ks z) →
+        Swept ks (set gs (row-on ks z) 0) slot m (suc p) count (w + weight-on ks z)
+    swept-leaves full most =
+        let l = length-set gs (row-on ks z) 0 in
+        record {
+          by = h;
+          rows = λ q a. omega (arith, l, S .rows q a);
+          waits = λ q a b. other q b (λ e. omega (arith, e, a, hz)) ∙ S .waits q (omega (arith, a)) b;
+          mid = mid-then full most;
+          lost = omega (arith, S .lost, left-more (weight-on ks));
+          sums = λ f. rw l (omega (arith, S .sums f, rows-less f, left-more (λ q. f (row-on ks q))));
+        }
 
--- ON TO THE NEXT ROW, and the next list
-pub next-row : (t fs : List ℕ) (s a c count : ℕ) → Swept t fs s a count → Next (ahead-in t) (length fs) s a c → Swept t fs s c count
-next-row t fs s a c count W N =
-    record { flagged = W .flagged; mid = skip (key-in t) (ahead-in t) (length fs) fs s a c count (W .mid) N }
+-- AT FIRST every row waits, and up to the first crowded place each joins
+pub ones-up : (n j : ℕ) → j < n → kept? (replicate n 1) j ≡ true
+ones-up n j h = ap (λ (v : ℕ). eqb v 1) (getD-replicate n j 1 0 h)
 
-pub next-list : (t fs : List ℕ) (s a count : ℕ) → Swept t fs s a count → length fs ≤ a → Swept t fs (suc s) 0 count
-next-list t fs s a count W h =
-    record { flagged = W .flagged; mid = onward (key-in t) (ahead-in t) (length fs) fs s a count (W .mid) h }
+module _ (ks gs : List ℕ) (slot free over : ℕ) (C : Crowd ks gs slot free over) where
+  abbrev m : ℕ
+  m = free + over
 
-pub none-off : (fs : List ℕ) → fs ≡ replicate (length fs) 0 → (j : ℕ) → j < length fs → kept? fs j ≡ false
-none-off fs e j h = ap (λ (xs : List ℕ). kept? xs j) e ∙ ap (λ (z : ℕ). eqb z 1) (getD-replicate (length fs) j 0 0 h)
+  up : (i : ℕ) → i < length gs → kept? gs i ≡ true
+  up i k = ap (λ (xs : List ℕ). kept? xs i) (C .flags) ∙ ones-up (length gs) i k
 
-pub none-swept : (t fs : List ℕ) → Flagged t fs → fs ≡ replicate (length fs) 0 → Swept t fs 0 0 0
-none-swept t fs F e =
-    record { flagged = F; mid = none-yet (key-in t) (ahead-in t) (length fs) fs refl (none-off fs e) }
+  pub swept-none : Swept ks gs slot (free + over) 0 0 0
+  swept-none =
+      record {
+        by = omega arith;
+        rows = C .rows;
+        waits = λ q a b. up (row-on ks q) (C .rows q b);
+        mid = mid-none (key-on ks) (ahead-on ks slot) (kept-on ks gs);
+        lost = sym (tally-zero (weight-on ks) (left-on ks gs));
+        sums = λ f. omega (arith, tally-all f (kept? gs) (length gs) up, tally-zero (λ q. f (row-on ks q)) (left-on ks gs));
+      }
+
+  pub swept-front : (c : ℕ) → First-crowded ks slot c → c ≤ free + over → (p : ℕ) → p ≤ c → Swept ks gs slot (free + over) p p 0
+  swept-front c F b zero k = swept-none
+  swept-front c F b (suc p) k =
+      swept-joins ks gs slot free (free + over) p p 0 (C .queue) (swept-front c F b p (omega (arith, k))) (omega (arith, k, b)) (F .under p k)
+
+  -- the first crowded place is one of the queue
+  pub crowded-in : (c : ℕ) → First-crowded ks slot c → c < free + over
+  crowded-in c F = elim (ltb? c (free + over)) [
+    | inl a ↦ a .1
+    | inr a ↦ absurd (omega (arith, F .under free (omega (arith, a .1, C .some)), C .queue .early free (omega (arith, C .some))))
+  ]

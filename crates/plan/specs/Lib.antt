@@ -1,5 +1,3 @@
-pub mod Keys
-pub mod Lists
-pub mod Heap
+pub mod Plans
 pub mod Sweep
-pub mod Crowd
+pub mod Sorting

@@ -1,94 +1,140 @@
--- Which rows are kept in the midst of the sweep, and at its end: the certificate.
+-- Rows by rising due slot, each by its place: which are kept in the midst of the sweep.
 use mathlib.Core.Path.{_≡_}
 use mathlib.Core.Logic.{_⊎_}
-use mathlib.Core.Bool.{Bool, true, false, cond}
+use mathlib.Core.Bool.{Bool, true, false, cond, not}
 use mathlib.Core.List.{List}
-use Prim.Native.Nat.{ℕ, zero, suc, _+_, _%_, _≤_, _<_}
+use Prim.Native.Nat.{ℕ, zero, suc, _+_, _-_, _/_, _%_, _≤_, _<_}
 use lib.Dec.{ltb, eqb}
-use lib.ListN.{length, getD}
-use Rattle.rules.specs.Limits.{most-rows}
-use Rattle.rules.specs.Conditions.{used-in}
-use Rattle.plan.specs.Keys.{key-in, ahead-in}
-use Rattle.plan.specs.Heap.{Heap, heaped}
+use lib.ListN.{length, getD, replicate}
+use Rattle.heap.specs.Heap.{Heap, heaped}
+use Rattle.keys.specs.DueOrder.{each}
 
--- whether a row has a flag, and the sum of a measure of the first n rows that have one
-abbrev pub kept? : (flags : List ℕ) → (row : ℕ) → Bool
-kept? fs j = eqb (getD fs j 0) 1
-
-unfoldable pub tally : (measure : ℕ → ℕ) → (flags : List ℕ) → (n : ℕ) → ℕ
-tally f fs zero = 0
-tally f fs (suc n) = tally f fs n + cond (kept? fs n) (f n) 0
+-- the sum of a measure of some of the first n
+unfoldable pub tally : (measure : ℕ → ℕ) → (some : ℕ → Bool) → (n : ℕ) → ℕ
+tally f κ zero = 0
+tally f κ (suc n) = tally f κ n + cond (κ n) (f n) 0
 
 -- 1 for a row due before e slots ahead; for such a row with a key below w
-unfoldable pub before : (ahead : ℕ → ℕ) → (e row : ℕ) → ℕ
-before S e j = cond (ltb (S j) e) 1 0
+unfoldable pub before : (ahead : ℕ → ℕ) → (e place : ℕ) → ℕ
+before D e j = cond (ltb (D j) e) 1 0
 
-unfoldable pub smaller : (key ahead : ℕ → ℕ) → (w e row : ℕ) → ℕ
-smaller K S w e j = cond (ltb (K j) w) (before S e j) 0
+unfoldable pub smaller : (key ahead : ℕ → ℕ) → (w e place : ℕ) → ℕ
+smaller K D w e j = cond (ltb (K j) w) (before D e j) 0
 
 -- A ROW LEFT OUT: past its due slot the slots up to some e are filled by rows with smaller keys
-pub record Barred (key ahead : ℕ → ℕ) (n : ℕ) (fs : List ℕ) (j : ℕ) : Type 0 where
+pub record Barred (key ahead : ℕ → ℕ) (kept : ℕ → Bool) (p j : ℕ) : Type 0 where
   pub at : ℕ
   pub past : ahead j < at
-  pub full : at ≤ tally (smaller key ahead (key j) at) fs n
+  pub full : at ≤ tally (smaller key ahead (key j) at) kept p
 
--- in the midst of the rows due s slots ahead: those below row a are done
-abbrev pub Done : (ahead : ℕ → ℕ) → (s a j : ℕ) → Type 0
-Done S s a j = (S j < s) ⊎ ((S j ≡ s) × (j < a))
+-- IN THE MIDST: the rows kept of the first p fit into the slots, and each other one is barred
+pub record Mid (key ahead : ℕ → ℕ) (kept : ℕ → Bool) (p count : ℕ) : Type 0 where
+  pub all : tally (λ _. 1) kept p ≡ count
+  pub fits : (e : ℕ) → tally (before ahead e) kept p ≤ e
+  pub out : (j : ℕ) → j < p → kept j ≡ false → Barred key ahead kept p j
 
-abbrev pub Waits : (ahead : ℕ → ℕ) → (s a j : ℕ) → Type 0
-Waits S s a j = (s < S j) ⊎ ((S j ≡ s) × (a ≤ j))
+-- what the key at a place tells
+abbrev pub key-on : List ℕ → (place : ℕ) → ℕ
+key-on ks p = getD ks p 0
 
-pub record Mid (key ahead : ℕ → ℕ) (n : ℕ) (fs : List ℕ) (s a count : ℕ) : Type 0 where
-  pub size : length fs ≡ n
-  pub new : (j : ℕ) → j < n → Waits ahead s a j → kept? fs j ≡ false
-  pub all : tally (λ _. 1) fs n ≡ count
-  pub few : count ≤ suc s
-  pub fits : (e : ℕ) → e ≤ s → tally (before ahead e) fs n ≤ e
-  pub out : (j : ℕ) → j < n → Done ahead s a j → kept? fs j ≡ false → Barred key ahead n fs j
+abbrev pub row-on : List ℕ → (place : ℕ) → ℕ
+row-on ks p = getD ks p 0 % 1024
 
--- one flag for each used row of a table
-pub record Flagged (t fs : List ℕ) : Type 0 where
-  pub used : length fs ≡ used-in t
-  pub few : length fs ≤ most-rows
+abbrev pub ahead-on : List ℕ → (slot place : ℕ) → ℕ
+ahead-on ks s p = getD ks p 0 / 4096 % 4096 - s
 
--- in the midst of a table's rows
-pub record Swept (t fs : List ℕ) (s a count : ℕ) : Type 0 where
-  pub flagged : Flagged t fs
-  pub mid : Mid (key-in t) (ahead-in t) (length fs) fs s a count
+abbrev pub weight-on : List ℕ → (place : ℕ) → ℕ
+weight-on ks p = 16777217 - getD ks p 0 / 16777216
+
+-- whether a row has a flag, and the row at a place
+abbrev pub kept? : (flags : List ℕ) → (row : ℕ) → Bool
+kept? gs i = eqb (getD gs i 0) 1
+
+abbrev pub kept-on : (keys flags : List ℕ) → (place : ℕ) → Bool
+kept-on ks gs p = kept? gs (row-on ks p)
+
+abbrev pub left-on : (keys flags : List ℕ) → (place : ℕ) → Bool
+left-on ks gs p = not (kept-on ks gs p)
+
+-- KEYS IN DUE ORDER: m of them, of different rows due within n slots from the current one on
+pub record Queue (ks : List ℕ) (slot n m : ℕ) : Type 0 where
+  pub long : m ≤ length ks
+  pub small : m ≤ 1024
+  pub some : (p : ℕ) → p < m → 1 ≤ key-on ks p
+  pub most : (p : ℕ) → p < m → key-on ks p ≤ 281474993487872
+  pub from : (p : ℕ) → p < m → slot ≤ key-on ks p / 4096 % 4096
+  pub early : (p : ℕ) → p < m → ahead-on ks slot p < n
+  pub rises : (p q : ℕ) → p ≤ q → q < m → ahead-on ks slot p ≤ ahead-on ks slot q
+  pub apart : (p q : ℕ) → p < m → q < m → row-on ks p ≡ row-on ks q → p ≡ q
+
+-- THE SWEEP AT A PLACE: flags of rows that wait are up; the weight is that of the rows left out
+pub record Swept (ks gs : List ℕ) (slot m p count weight : ℕ) : Type 0 where
+  pub by : p ≤ m
+  pub rows : (q : ℕ) → q < m → row-on ks q < length gs
+  pub waits : (q : ℕ) → p ≤ q → q < m → kept-on ks gs q ≡ true
+  pub mid : Mid (key-on ks) (ahead-on ks slot) (kept-on ks gs) p count
+  pub lost : weight ≡ tally (weight-on ks) (left-on ks gs) p
+  pub sums : (f : ℕ → ℕ) → tally f (kept? gs) (length gs) + tally (λ q. f (row-on ks q)) (left-on ks gs) p ≡ each f (length gs)
 
 -- the keys of the rows kept, in a heap
-pub record Heaped (t heap fs : List ℕ) (count : ℕ) : Type 0 where
-  pub ordered : Heap count heap
-  pub keys : (μ : ℕ → ℕ) → heaped μ count heap ≡ tally (λ j. μ (key-in t j)) fs (length fs)
+pub record Heaped (ks hs gs : List ℕ) (p count : ℕ) : Type 0 where
+  pub ordered : Heap count hs
+  pub keys : (μ : ℕ → ℕ) → heaped μ count hs ≡ tally (λ q. μ (key-on ks q)) (kept-on ks gs) p
 
--- FLAGS ON THE WAY, gs: 1 for a row that waits, else as in fs, which tells the rows kept so far
-pub record Shows (ahead : ℕ → ℕ) (s a : ℕ) (fs gs : List ℕ) : Type 0 where
-  pub size : length gs ≡ length fs
-  pub done : (j : ℕ) → j < length fs → Done ahead s a j → kept? gs j ≡ kept? fs j
-  pub waits : (j : ℕ) → j < length fs → Waits ahead s a j → kept? gs j ≡ true
+-- WHO LEAVES for a key when the heap may not grow: the lightest of all, the key itself or the top
+pub record Leaves (count key : ℕ) (h u : List ℕ) (out : ℕ) : Type 0 where
+  pub heap : Heap count u
+  pub keys : (μ : ℕ → ℕ) → heaped μ count u + μ out ≡ heaped μ count h + μ key
+  pub over-top : getD h 1 0 ≤ out
+  pub over-key : key ≤ out
+  pub is : (out ≡ getD h 1 0) ⊎ (out ≡ key)
 
-pub record Going (t heap gs : List ℕ) (s a count : ℕ) : Type 0 where
-  pub flags : List ℕ
-  pub shows : Shows (ahead-in t) s a flags gs
-  pub swept : Swept t flags s a count
-  pub heaped : Heaped t heap flags count
+-- WHERE ROWS CROWD: a place that has fewer slots than places before it; and the first such
+pub record Crowds (ks : List ℕ) (slot : ℕ) : Type 0 where
+  pub at : ℕ
+  pub within : at < length ks
+  pub small : at ≤ 1024
+  pub from : (p : ℕ) → p ≤ at → slot ≤ key-on ks p / 4096 % 4096
+  pub over : ahead-on ks slot at < at
 
--- every row due before s slots ahead is done
-pub record Swept-by (t gs : List ℕ) (s : ℕ) : Type 0 where
-  pub flags : List ℕ
+pub record First-crowded (ks : List ℕ) (slot c : ℕ) : Type 0 where
+  pub within : c < length ks
+  pub over : ahead-on ks slot c < c
+  pub under : (q : ℕ) → q < c → q ≤ ahead-on ks slot q
+
+-- the first keys in a heap
+pub record Filled (ks hs : List ℕ) (n : ℕ) : Type 0 where
+  pub ordered : Heap n hs
+  pub keys : (μ : ℕ → ℕ) → heaped μ n hs ≡ each (λ q. μ (key-on ks q)) n
+
+-- the greatest of the first n keys
+pub record Greatest (ks : List ℕ) (n top : ℕ) : Type 0 where
+  pub place : ℕ
+  pub within : place < n
+  pub is : top ≡ key-on ks place
+  pub most : (q : ℕ) → q < n → key-on ks q ≤ top
+
+-- an empty heap, and what may be in it
+pub record Empty-heap (hs : List ℕ) (most : ℕ) : Type 0 where
+  pub none : hs ≡ replicate (length hs) 0
+  pub room : most + 2 ≤ length hs
+
+pub record Fills (ks hs : List ℕ) (n : ℕ) : Type 0 where
+  pub empty : Empty-heap hs n
+  pub within : n < length ks
+  pub small : n ≤ 1024
+  pub some : (p : ℕ) → p < n → 1 ≤ key-on ks p
+
+-- BEFORE THE SWEEP every flag is up; over rows are too many for the slots
+pub record Crowd (ks gs : List ℕ) (slot free over : ℕ) : Type 0 where
+  pub queue : Queue ks slot free (free + over)
+  pub some : 1 ≤ over
+  pub rows : (q : ℕ) → q < free + over → row-on ks q < length gs
+  pub flags : gs ≡ replicate (length gs) 1
+
+-- AFTER IT that many have left
+pub record Parted (ks gs : List ℕ) (slot free over weight : ℕ) : Type 0 where
+  pub place : ℕ
   pub count : ℕ
-  pub shows : Shows (ahead-in t) s 0 flags gs
-  pub swept : Swept t flags s 0 count
-
--- the greatest key of some of n rows, which names the lightest of them
-pub record Lightest (t : List ℕ) (n : ℕ) (some? : ℕ → Bool) (top : ℕ) : Type 0 where
-  pub in-rows : top % 1024 < n
-  pub has : some? (top % 1024) ≡ true
-  pub key : key-in t (top % 1024) ≡ top
-  pub most : (j : ℕ) → j < n → some? j ≡ true → key-in t j ≤ top
-
--- THE CERTIFICATE: the rows kept fit into the slots, and each other row is barred
-pub record Kept (t fs : List ℕ) : Type 0 where
-  pub fits : (e : ℕ) → e ≤ length fs → tally (before (ahead-in t) e) fs (length fs) ≤ e
-  pub out : (j : ℕ) → j < length fs → kept? fs j ≡ false → Barred (key-in t) (ahead-in t) (length fs) fs j
+  pub swept : Swept ks gs slot (free + over) place count weight
+  pub left : place ≡ count + over

@@ -1,7 +1,38 @@
-// Which rows of a sound table are in the plan: one flag byte a row, by a heap where more than one is left out.
-pub mod choose; // choose.rt: the one public call
-mod keys; // keys.rt: a row's key, and how far ahead it is due
-mod one; // one.rt: one row too many, the lightest of those that crowd leaves
-mod lists; // lists.rt: rows by how far ahead they are due
-pub mod heap; // heap.rt: the keys of the rows kept, the lightest row's on top
-mod sweep; // sweep.rt: rows by rising due slot, the lightest leaves where there are too many
+// The plan of a sound table that leaves rows out: the near rows in due order, and a flag for each row of the plan.
+ghost use Rattle.rules.specs.Table.{round-in};
+ghost use Rattle.plan.specs.Plans.{Lent, Plans};
+
+mod sort; // sort.rt: the near rows by due slot
+mod leave; // leave.rt: who is left out
+
+use buckets::Reach;
+use leave::leave_out;
+use sort::sort;
+use sort::starts;
+use sorts::Round;
+
+// How many near rows there are, the key of the heaviest other one, and the weight of all rows left out.
+pub struct Planned {
+    pub many: usize,
+    pub far: u64,
+    pub lost: u64,
+}
+
+// Counts are the scan's and are used up; keys get the near rows' in due order; flags, 1 before, become 0 for rows left out.
+pub fn plan_of(
+    table: &[u8],
+    counts: &mut [u32],
+    keys: &mut [u64],
+    flags: &mut [u8],
+    heap: &mut [u64],
+    round: Round,
+    reach: Reach,
+) -> Planned
+    requires { ⌜ Lent (now table) (now counts) (now keys) (now flags) (now heap) round reach ⌝ }
+    ensures { λ r. ⌜ Plans (round-in (now (table .entry))) reach (now (keys .exit)) (now (flags .exit)) r ⌝ }
+{
+    let many = starts(counts, reach.free);
+    let far = sort(table, counts, keys, round, reach.free);
+    let lost = leave_out(keys, flags, heap, round.slot.0, reach);
+    Planned { many, far, lost }
+}

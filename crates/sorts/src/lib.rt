@@ -29,6 +29,15 @@ impl Round {
 
     pub const TICKETS: Ticket = Ticket(16777216);
 
+    // What works on a table is lent arrays, small ones for a table of at most FEW rows, which has at most FEW_SIZE bytes.
+    pub const FEW: usize = 32;
+
+    pub const FEW_SIZE: usize = 784;
+
+    pub const FEW_PLACES: usize = 34;
+
+    pub const PLACES: usize = 1026;
+
     // The sizes of head and row.
     pub const HEAD_SIZE: usize = 16;
 

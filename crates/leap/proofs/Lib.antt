@@ -1,3 +1,0 @@
-pub mod StandLaws
-pub mod SendLaws
-pub mod SwapLaws

@@ -1,3 +1,0 @@
-pub mod Plans
-pub mod Sweep
-pub mod Sorting

@@ -1,0 +1,43 @@
+-- `plan_of`: sorted, then swept.
+use mathlib.Core.Path.{refl}
+use Rattle.plan.proofs.PlanLaws.{startable, unsorted, crowd, plans}
+use borrow.Author.Needs.{needs}
+use Rattle.plan.proofs.plan_of.Statement.{statement}
+use Rattle.plan.proofs.plan_of.Tie as tie
+
+starts-requires : tie.Need-starts-requires
+starts-requires c κs = startable _ _ _ _ _ _ _ (c .before .before .before .before .before .before .pre)
+
+sort-requires : tie.Need-sort-requires
+sort-requires c κs = let l = c .before .before .before .before .before .before .before .before .before .before .before .pre in (l .ready, unsorted _ _ _ _ _ _ _ l _ _ (c .before .before .before .before .starts .ensures) (search needs))
+
+leave-out-requires : tie.Need-leave-out-requires
+leave-out-requires c κs = crowd _ _ _ _ _ _ _ (c .before .before .before .before .before .before .before .before .before .before .before .before .before .before .before .before .before .before .before .pre) _ _ _ (c .before .before .before .before .before .before .before .sort .ensures) _ refl
+
+same-length : tie.Need-same-length
+same-length c = search needs
+
+same-length-2 : tie.Need-same-length-2
+same-length-2 c = search needs
+
+same-length-3 : tie.Need-same-length-3
+same-length-3 c = search needs
+
+same-length-4 : tie.Need-same-length-4
+same-length-4 c = search needs
+
+returns : tie.Need-returns
+returns c = plans _ _ _ _ _ _ _ (c .before .before .before .before .before .before .before .before .before .before .before .before .before .before .before .before .before .before .before .before .before .before .before .before .pre) _ _ _ (c .before .before .before .before .before .before .before .before .before .before .before .before .sort .ensures) _ _ _ _ _ _ refl (search needs) (c .before .before .before .before .leave-out .ensures) (c .before .before .before .before .before .before .before .before .before .before .before .before .before .before .before .before .before .starts .ensures) refl refl refl
+
+pub plan-of-spec : {M : Type 1} → statement M
+plan-of-spec =
+    tie.close
+    (tie.spec
+    starts-requires
+    sort-requires
+    leave-out-requires
+    same-length
+    same-length-2
+    same-length-3
+    same-length-4
+    returns)

@@ -1,5 +1,0 @@
-pub mod MarkLaws
-pub mod LinkLaws
-pub mod MoveLaws
-pub mod ChainLaws
-pub mod ShiftLaws

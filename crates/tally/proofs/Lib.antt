@@ -1,4 +1,0 @@
-pub mod RowLaws
-pub mod NearLaws
-pub mod TopLaws
-pub mod TallyLaws

@@ -1,5 +1,6 @@
 pub mod Readings
 pub mod ListFilled
 pub mod Listings
+pub mod CountsLent
 pub mod EntriesFit
 pub mod PlanShape

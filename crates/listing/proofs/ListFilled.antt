@@ -5,11 +5,11 @@ use Prim.Native.Nat.{ℕ, zero, suc, _+_, _≤_, _<_}
 use native.Mathlib.Omega.{arith}
 use lib.ListN.{length, getD, set, take, drop, length-set, length-map}
 use lib.Seq.{take-suc, take-length, drop-cons, length-take-le}
-use Rattle.rules.specs.Rows.{Row, row, blank}
-use Rattle.rules.specs.Table.{field}
-use Rattle.rules.specs.Conditions.{row-at}
+use Rattle.rules.specs.Rows.{Row, blank}
 use Rattle.rules.specs.Looking.{View}
 use Rattle.theory.specs.Soundness.{row-in}
+use Rattle.round.specs.Entry.{Entry-in}
+use Rattle.round.specs.declared.entry.Numbers.{Numbers}
 use Rattle.listing.specs.declared.Entry.{Entry}
 use Rattle.listing.specs.declared.View.{View as Asked}
 use Rattle.listing.specs.declared.View.the-variants as asked
@@ -50,15 +50,14 @@ module _ (v : View) (t xs : List ℕ) (rows : List Row) (es : List Entry) (room 
       filled-part (length rows) (omega arith)
       ∙ ap (λ (zs : List Row). map (entry v) zs ++ drop (length rows) es) (take-length rows)
 
--- the entry that the code reads
-pub entry-read : (v : Asked) (t : List ℕ) (i a k d w : ℕ) → a ≡ row-at i → k ≡ field (a + 0) 4 t → d ≡ field (a + 4) 2 t → w ≡ field (a + 6) 4 t →
-    _≡_ {A = Entry} (record { ticket = record { 0 = k }; due = record { 0 = d }; weight = record { 0 = w } }) (entry-in (of-view v) t i)
-unfolding row
-entry-read asked.Plan t i a k d w e x y z =
+-- the entry of the numbers that are read
+pub entry-is : (v : Asked) (t : List ℕ) (i : ℕ) (n : Numbers) → Entry-in t i n →
+    _≡_ {A = Entry} (record { ticket = n .ticket; due = n .due; weight = n .weight }) (entry-in (of-view v) t i)
+entry-is asked.Plan t i n e =
     λ j. record {
-      ticket = record { 0 = (x ∙ ap (λ (n : ℕ). field (n + 0) 4 t) e) j };
-      due = record { 0 = (y ∙ ap (λ (n : ℕ). field (n + 4) 2 t) e) j };
-      weight = record { 0 = (z ∙ ap (λ (n : ℕ). field (n + 6) 4 t) e) j };
+      ticket = record { 0 = e .ticket j };
+      due = record { 0 = e .due j };
+      weight = record { 0 = e .weight j };
     }
 
 -- no entry, and one more

@@ -11,8 +11,8 @@ use Rattle.rules.specs.Calls.{first, first-of}
 use Rattle.rules.specs.Looking.{View, the-plan, shows, list-refusal, list-answer, list-left}
 use Rattle.sorts.specs.declared.Round.{Round}
 use Rattle.round.specs.Head.{Head-of}
-use Rattle.tally.specs.Rows.{Ready}
-use Rattle.tally.proofs.RowLaws.{Known, known, at-is, reads-within}
+use Rattle.round.specs.Rows.{Ready}
+use Rattle.round.proofs.ReadLaws.{Known, known, at-is, reads-within}
 use Rattle.order.specs.declared.Order.{Order}
 use Rattle.order.specs.Ordered.{Ordered}
 use Rattle.listing.specs.declared.Listing.{Listing}
@@ -77,11 +77,11 @@ refused-says v t room n l e h g =
 pub table-says : (v : View) (t : List ℕ) (room n : ℕ) (l : Listing) → (n ≡ table-refusal t) × (n ≡ 0 → ⊥) → Nothing-listed n l → Listing-says v t room l
 table-says v t room n l j g = refused-says v t room n l (list-table v t room n (j .0) (j .1)) (j .1) g
 
-pub over-says : (v : View) (t : List ℕ) (h : Round) (room : ℕ) (l : Listing) → (table-refusal t ≡ 0) × Head-of t h → h .last .0 < h .slot .0 →
-    Nothing-listed 5 l → Listing-says v t room l
+pub over-says : (v : View) (t : List ℕ) (h : Round) (room : ℕ) (l : Listing) → table-refusal t ≡ 0 → Head-of t h → h .last .0 < h .slot .0 → Nothing-listed 5 l →
+    Listing-says v t room l
 unfolding round-in round
-over-says v t h room l k e g =
-    refused-says v t room 5 l (list-over v t room (k .0) (omega (arith, k .1 .slot, k .1 .last))) (λ z. omega (arith, z)) g
+over-says v t h room l s k e g =
+    refused-says v t room 5 l (list-over v t room s (omega (arith, k .slot, k .last))) (λ z. omega (arith, z)) g
 
 module _ (v : View) (t : List ℕ) (h : Round) (room : ℕ) (o : Order) (l : Listing) (k : Ready t h)
     (d : Rows-shown (round-in t) (shows v (round-in t) .items) o) where

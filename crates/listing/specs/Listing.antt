@@ -8,7 +8,7 @@ use Rattle.rules.specs.Rows.{Row, Round, blank}
 use Rattle.rules.specs.Conditions.{row-at}
 use Rattle.rules.specs.Looking.{View, shows, list-answer, list-left}
 use Rattle.theory.specs.Soundness.{row-in}
-use Rattle.tally.specs.Rows.{at}
+use Rattle.round.specs.Rows.{at}
 use Rattle.order.specs.declared.Order.{Order}
 use Rattle.listing.specs.declared.Entry.{Entry}
 use Rattle.listing.specs.declared.Listing.{Listing}

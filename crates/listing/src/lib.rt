@@ -1,18 +1,18 @@
 // Listings of a view's rows into a lent list of entries, or refusal 2, 3, 5 or 12.
 ghost use mathlib.Core.Path.{_≡_};
-ghost use Rattle.rules.specs.Table.{round-in, table-refusal};
+ghost use Rattle.rules.specs.Table.{round-in};
 ghost use Rattle.rules.specs.Looking.{shows};
-ghost use Rattle.round.specs.Head.{Head-of};
-ghost use Rattle.tally.specs.Rows.{Ready};
+ghost use Rattle.round.specs.Judge.{Scan-asks, Scan-says};
+ghost use Rattle.round.specs.declared.sound.Judged.the-variants.{Sound};
+ghost use Rattle.round.specs.Rows.{Ready};
+ghost use Rattle.round.specs.Buckets.{Counted};
 ghost use Rattle.listing.specs.Entries.{of-view, of-listed, Lists};
 ghost use Rattle.listing.specs.Listing.{Row-there, entry-in, Listing-says, Nothing-listed, Rows-shown};
-use numbers::read2;
-use numbers::read4;
 use order::Order;
 use order::order_of;
-use round::rows::row_at;
+use round::entry::numbers_at;
 use round::sound::Judged;
-use round::sound::judge;
+use round::sound::scan;
 use sorts::Round;
 use sorts::Slot;
 use sorts::Ticket;
@@ -61,13 +61,15 @@ fn entry_at(view: View, table: &[u8], row: u16) -> Entry
     requires { ⌜ Row-there (now table) row ⌝ }
     ensures { λ r. ⌜ r ≡ entry-in (of-view view) (now (table .entry)) row ⌝ }
 {
-    let at = row_at(row as usize);
-    let ticket = Ticket(read4(table, at + Round::TICKET_AT));
+    let numbers = numbers_at(table, row as usize);
+    let ticket = numbers.ticket;
+    let due = numbers.due;
+    let weight = numbers.weight;
     match view {
         View::Plan => Entry {
             ticket,
-            due: Slot(read2(table, at + Round::DUE_AT)),
-            weight: Weight(read4(table, at + Round::WEIGHT_AT)),
+            due,
+            weight,
         },
     }
 }
@@ -76,21 +78,34 @@ fn entry_at(view: View, table: &[u8], row: u16) -> Entry
 fn listing_of(view: View, table: &[u8], room: usize) -> Listing
     ensures { λ r. ⌜ Listing-says (of-view view) (now (table .entry)) room r ⌝ }
 {
-    match judge(table) {
+    if table.len() <= Round::FEW_SIZE {
+        let mut counts = [0u32; Round::FEW_PLACES];
+        return listing_by(view, table, &mut counts, room);
+    }
+    let mut counts = [0u32; Round::PLACES];
+    listing_by(view, table, &mut counts, room)
+}
+
+// The same with lent counts.
+fn listing_by(view: View, table: &[u8], counts: &mut [u32], room: usize) -> Listing
+    requires { ⌜ Scan-asks (now table) (now counts) ⌝ }
+    ensures { λ r. ⌜ Listing-says (of-view view) (now (table .entry)) room r ⌝ }
+{
+    match scan(table, counts) {
         Judged::Refused(n) => refused(n),
-        Judged::Sound(round) => listing_in(view, table, round, room),
+        Judged::Sound(round) => listing_in(view, table, counts, round, room),
     }
 }
 
-// The same on a sound table.
-fn listing_in(view: View, table: &[u8], round: Round, room: usize) -> Listing
-    requires { ⌜ (table-refusal (now table) ≡ 0) × Head-of (now table) round ⌝ }
+// The same on a sound table, its rows counted where a slot is left.
+fn listing_in(view: View, table: &[u8], counts: &mut [u32], round: Round, room: usize) -> Listing
+    requires { ⌜ Scan-says (now table) (now counts) (Sound round) ⌝ }
     ensures { λ r. ⌜ Listing-says (of-view view) (now (table .entry)) room r ⌝ }
 {
     if round.last.0 < round.slot.0 {
         return refused(5);
     }
-    let order = rows_of(view, table, round);
+    let order = rows_of(view, table, counts, round);
     let count = order.count;
     if room < count {
         return refused(12);
@@ -104,12 +119,12 @@ fn listing_in(view: View, table: &[u8], round: Round, room: usize) -> Listing
 }
 
 // The rows that a view shows, in their order.
-fn rows_of(view: View, table: &[u8], round: Round) -> Order
-    requires { ⌜ Ready (now table) round ⌝ }
+fn rows_of(view: View, table: &[u8], counts: &mut [u32], round: Round) -> Order
+    requires { ⌜ Ready (now table) round × Counted (round-in (now table)) (now counts) ⌝ }
     ensures { λ r. ⌜ Rows-shown (round-in (now (table .entry))) (shows (of-view view) (round-in (now (table .entry))) .items) r ⌝ }
 {
     match view {
-        View::Plan => order_of(table, round),
+        View::Plan => order_of(table, counts, round),
     }
 }
 

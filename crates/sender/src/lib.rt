@@ -1,15 +1,16 @@
 // Sending a slot of a sound table: the plan, its segments, and what is written, put together.
-ghost use mathlib.Core.Path.{_≡_};
+ghost use mathlib.Core.Logic.{_≢_};
 ghost use Prim.Native.Nat.{_≤_};
 ghost use Rattle.rules.specs.Table.{round-in};
 ghost use Rattle.round.specs.Rows.{Ready};
 ghost use Rattle.round.specs.Buckets.{Counted};
-ghost use Rattle.buckets.specs.Reach.{Reaches};
+ghost use Rattle.buckets.specs.Reach.{Reach-says, head-top};
 ghost use Rattle.closing.specs.Close.{Due-now};
-ghost use Rattle.plan.specs.Plans.{Lent};
 ghost use Rattle.step.specs.Send.{Sent-says};
+ghost use Rattle.sender.specs.Crowded.{Crowded, Led};
 use buckets::Reach;
 use buckets::reach_of;
+use plan::Planned;
 use plan::plan_of;
 use segments::segments_of;
 use sorts::Round;
@@ -19,20 +20,22 @@ use step::send::send_silence;
 use step::send::send_whole;
 use whole::choose_whole;
 
-// Some rows are left out. Counts and heap have served once the plan is made: they take the segments' ends and tops.
-fn send_crowded(
+// By the plan's segments. Counts and heap have served once the plan is made: they take the segments' ends and tops.
+fn send_led(
     table: &mut [u8],
     counts: &mut [u32],
-    keys: &mut [u64],
-    flags: &mut [u8],
+    keys: &[u64],
+    flags: &[u8],
     heap: &mut [u64],
     lows: &mut [u32],
     round: Round,
     reach: Reach,
-    due_now: usize,
+    planned: Planned,
+    expiring: usize,
 ) -> Went
+    requires { ⌜ Led (now table) (now counts) (now keys) (now flags) (now heap) (now lows) round reach planned expiring ⌝ }
+    ensures { λ r. ⌜ Sent-says (now (table .entry)) (now (table .exit)) r ⌝ }
 {
-    let planned = plan_of(table, counts, keys, flags, heap, round, reach);
     let lead = segments_of(
         keys,
         flags,
@@ -43,11 +46,44 @@ fn send_crowded(
         heap,
         lows,
     );
-    send_planned(table, counts, heap, lows, round, planned.far, lead, due_now)
+    send_planned(table, counts, heap, lows, round, planned.far, lead, expiring)
+}
+
+// Some rows are left out.
+fn send_crowded(
+    table: &mut [u8],
+    counts: &mut [u32],
+    keys: &mut [u64],
+    flags: &mut [u8],
+    heap: &mut [u64],
+    lows: &mut [u32],
+    round: Round,
+    reach: Reach,
+    expiring: usize,
+) -> Went
+    requires { ⌜ Crowded (now table) (now counts) (now keys) (now flags) (now heap) (now lows) round reach expiring ⌝ }
+    ensures { λ r. ⌜ Sent-says (now (table .entry)) (now (table .exit)) r ⌝ }
+{
+    let planned = plan_of(table, counts, keys, flags, heap, round, reach);
+    send_led(
+        table,
+        counts,
+        keys,
+        flags,
+        heap,
+        lows,
+        round,
+        reach,
+        planned,
+        expiring,
+    )
 }
 
 // The same in small arrays.
-fn send_few(table: &mut [u8], counts: &mut [u32], round: Round, reach: Reach, due_now: usize) -> Went
+fn send_few(table: &mut [u8], counts: &mut [u32], round: Round, reach: Reach, expiring: usize) -> Went
+    requires { ⌜ Ready (now table) round × Counted (round-in (now table)) (now counts) × Reach-says (now counts) (head-top round) reach
+        × (reach .over ≢ 0) × Due-now (now table) expiring × (round .used ≤ 32) ⌝ }
+    ensures { λ r. ⌜ Sent-says (now (table .entry)) (now (table .exit)) r ⌝ }
 {
     let used = round.used;
     let mut keys = [0u64; Round::FEW_PLACES];
@@ -63,12 +99,15 @@ fn send_few(table: &mut [u8], counts: &mut [u32], round: Round, reach: Reach, du
         &mut lows,
         round,
         reach,
-        due_now,
+        expiring,
     )
 }
 
 // The same in large ones.
-fn send_many(table: &mut [u8], counts: &mut [u32], round: Round, reach: Reach, due_now: usize) -> Went
+fn send_many(table: &mut [u8], counts: &mut [u32], round: Round, reach: Reach, expiring: usize) -> Went
+    requires { ⌜ Ready (now table) round × Counted (round-in (now table)) (now counts) × Reach-says (now counts) (head-top round) reach
+        × (reach .over ≢ 0) × Due-now (now table) expiring × (round .used ≤ 1024) ⌝ }
+    ensures { λ r. ⌜ Sent-says (now (table .entry)) (now (table .exit)) r ⌝ }
 {
     let used = round.used;
     let mut keys = [0u64; Round::PLACES];
@@ -84,7 +123,7 @@ fn send_many(table: &mut [u8], counts: &mut [u32], round: Round, reach: Reach, d
         &mut lows,
         round,
         reach,
-        due_now,
+        expiring,
     )
 }
 
@@ -97,13 +136,13 @@ pub fn send_sound(table: &mut [u8], counts: &mut [u32], round: Round) -> Went
         return send_silence(table, round);
     }
     let reach = reach_of(counts, round);
-    let due_now = (counts[0] / 2048) as usize;
+    let expiring = (counts[0] / 2048) as usize;
     if reach.over == 0 {
         let whole = choose_whole(table, counts, round, reach);
-        return send_whole(table, round, whole, due_now);
+        return send_whole(table, round, whole, expiring);
     }
     if round.used <= Round::FEW {
-        return send_few(table, counts, round, reach, due_now);
+        return send_few(table, counts, round, reach, expiring);
     }
-    send_many(table, counts, round, reach, due_now)
+    send_many(table, counts, round, reach, expiring)
 }

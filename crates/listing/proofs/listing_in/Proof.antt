@@ -1,43 +1,51 @@
+-- `listing::listing_in`: 5, then 12, then the rows.
 use Rattle.listing.proofs.Listings.{over-says, short-says, accepted-says}
 use borrow.Author.Needs.{needs}
 use Rattle.listing.proofs.listing_in.Statement.{statement}
 use Rattle.listing.proofs.listing_in.Tie as tie
-use Rattle.listing.proofs.listing_in.Reads as reads
-use Rattle.listing.proofs.listing_in.Lts as lts
-use Rattle.listing.proofs.refused.Reads as refused-reads
-use Rattle.listing.proofs.rows_of.Reads as rows-of-reads
 
--- src/listing.rt:85:9
 refused-requires : tie.Need-refused-requires
 refused-requires c κs = search needs
 
--- src/listing.rt:85:9
 returns : tie.Need-returns
-returns c = over-says _ _ _ _ _ (c .before .before .before .before .pre) (search needs) (c .refused .ensures)
+returns c =
+    let s = c .before .before .before .before .before in
+    over-says _ _ _ _ _ (s .pre .0) (s .pre .1) (search needs) (c .refused .ensures)
 
--- src/listing.rt:87:9
 rows-of-requires : tie.Need-rows-of-requires
-rows-of-requires c κs = search needs
+rows-of-requires c κs =
+    let s = c .before .before .before .before .before in
+    (record { sound = s .pre .0; head = s .pre .1; time = search needs }, s .pre .2 (search needs))
 
--- src/listing.rt:90:9
 refused-requires-2 : tie.Need-refused-requires-2
 refused-requires-2 c κs = search needs
 
--- src/listing.rt:90:9
+same-length : tie.Need-same-length
+same-length c = search needs
+
 returns-2 : tie.Need-returns-2
 returns-2 c =
-    let s = c .before .before .before .before .before .before in
-    short-says _ _ _ _ _ _ (record { sound = s .pre .0; head = s .pre .1; time = search needs }) (c .before .before .rows-of .ensures) (search needs)
-    (c .refused2 .ensures)
+    let s = c .before .before .before .before .before .before .before .before .before .before in
+    short-says _ _ _ _ _ _ (record { sound = s .pre .0; head = s .pre .1; time = search needs }) (c .before .before .before .before .rows-of .ensures) (search needs) (c .refused2 .ensures)
 
--- src/listing.rt:80:1
+same-length-2 : tie.Need-same-length-2
+same-length-2 c = search needs
+
 returns-3 : tie.Need-returns-3
 returns-3 c =
-    let s = c .before .before .before .before .before .before in
-    accepted-says _ _ _ _ _ _ (record { sound = s .pre .0; head = s .pre .1; time = search needs }) (c .before .before .rows-of .ensures)
-    (search needs) (search needs) (search needs) (search needs)
+    let s = c .before .before .before .before .before .before .before .before .before .before in
+    accepted-says _ _ _ _ _ _ (record { sound = s .pre .0; head = s .pre .1; time = search needs }) (c .before .before .before .before .rows-of .ensures) (search needs) (search needs)
+    (search needs) (search needs)
 
 pub listing-in-spec : {M : Type 1} → statement M
 listing-in-spec =
     tie.close
-    (tie.spec refused-requires returns rows-of-requires refused-requires-2 returns-2 returns-3)
+    (tie.spec
+    refused-requires
+    returns
+    rows-of-requires
+    refused-requires-2
+    same-length
+    returns-2
+    same-length-2
+    returns-3)

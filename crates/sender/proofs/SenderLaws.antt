@@ -1,0 +1,175 @@
+-- From the counts to the plan, from the plan to its segments, and from these to the step.
+use mathlib.Core.Path.{_≡_, refl, sym, ap, _∙_}
+use mathlib.Core.Logic.{_⊎_, inl, inr}
+use mathlib.Core.List.{List, [], _∷_}
+use Prim.Native.Nat.{ℕ, suc, _+_, _/_, _%_, _≤_, _<_}
+use native.Mathlib.Omega.{arith}
+use lib.ListN.{length, getD, replicate, length-replicate}
+use Rattle.rules.specs.Rows.{Row, Round}
+use Rattle.rules.specs.Table.{round-in}
+use Rattle.theory.specs.Tests.{leb?, ltb?}
+use Rattle.theory.specs.Sum.{sum, sum-le, length-sum}
+use Rattle.theory.specs.All.{all-map}
+use Rattle.theory.specs.Bounds.{Row-fine}
+use Rattle.theory.specs.Feas.{num, below-1}
+use Rattle.theory.specs.Count.{under, under-1, counts-next, counts-none, counts-below, counts-all}
+use Rattle.sorts.specs.declared.Round.{Round as Head}
+use Rattle.round.specs.Rows.{Ready, top-of}
+use Rattle.round.specs.Buckets.{Counted}
+use Rattle.round.proofs.ReadLaws.{known}
+use Rattle.keys.specs.Key.{blank-key}
+use Rattle.buckets.specs.Reach.{Reaches, Reach-says, head-top}
+use Rattle.buckets.specs.declared.Reach.{Reach}
+use Rattle.buckets.proofs.ReachLaws.{reaches, count-rows}
+use Rattle.plan.specs.Plans.{Lent, Plans, Heaviest-from}
+use Rattle.plan.specs.declared.Planned.{Planned}
+use Rattle.segments.specs.Given as given
+use Rattle.segments.specs.Segmented.{Segments-say}
+use Rattle.segments.specs.declared.Lead.{Lead}
+use Rattle.segments.proofs.GivenLaws as given-laws
+use Rattle.closing.specs.Close.{Due-now}
+use Rattle.whole.specs.Whole as whole
+use Rattle.whole.specs.declared.Whole.{Whole}
+use Rattle.step.specs.Send.{Far-first, Planned-step, Whole-step}
+use Rattle.sender.specs.Crowded.{Crowded, Led}
+
+num-most : (e : ℕ) (xs : List Row) → num 0 e xs ≤ length xs
+num-most e [] = omega arith
+num-most e (x ∷ xs) = omega (arith, below-1 0 e x, num-most e xs)
+
+-- ROWS DUE NOW: no more than the first bucket counts
+pub due-now : (t : List ℕ) (h : Head) (cs : List ℕ) → Ready t h → Counted (round-in t) cs → (n : ℕ) → n ≡ getD cs 0 0 / 2048 → Due-now t n
+due-now t h cs k c n e =
+    let r = round-in t in
+    let v = known t h k in
+    let a = counts-next (r .slot) (top-of r) 0 (r .rows) in
+    let b = counts-none (r .slot) (top-of r) (r .rows) in
+    let d = count-rows r cs c 0 (omega arith) in
+    elim (leb? 1 (top-of r)) [
+      | inl g ↦
+          let q : suc (r .slot) ≡ r .slot + 1 = omega arith in
+          omega (
+            arith,
+            e,
+            d,
+            a,
+            b,
+            counts-below (r .slot) (top-of r) 1 (r .rows) (g .1)
+                (all-map {Q = λ x. r .slot ≤ x .due} (λ x (w : Row-fine r x). w .due-from) (r .rows) (v .fine .fine)),
+            ap (λ (u : ℕ). num 0 u (r .rows)) q,
+          )
+      | inr g ↦
+          let z : top-of r ≡ 0 = omega (arith, g .1) in
+          omega (
+            arith,
+            e,
+            d,
+            a,
+            b,
+            counts-all (r .slot) (top-of r) (r .rows),
+            ap (λ (u : ℕ). sum (under (r .slot) (top-of r) (suc u)) (r .rows)) z,
+            num-most (suc (r .slot)) (r .rows),
+          )
+    ]
+
+-- THE FAR ROW, as the step asks for it
+far-first : (r : Round) (z k : ℕ) → Heaviest-from r z k → Far-first r z k
+far-first r z k f =
+    record {
+      least = f .least;
+      found = elim (ltb? k blank-key) [
+        | inl g ↦ let w = f .named (g .1) in inr (record { row = k % 1024; below = w .0; far = w .1; key = sym (w .2) })
+        | inr g ↦ inl (omega (arith, g .1, f .by))
+      ];
+    }
+
+-- where rows are left out some slot is filled
+some-slot : (t : List ℕ) (x : Reach) → Reaches (round-in t) x → 1 ≤ x .over → 1 ≤ x .free
+some-slot t x k o =
+    let r = round-in t in
+    let b = counts-none (r .slot) (top-of r) (r .rows) in
+    let l = k .sweep .level in
+    elim (leb? 1 (x .free)) [
+      | inl g ↦ g .1
+      | inr g ↦
+          let z : x .free ≡ 0 = omega (arith, g .1) in
+          absurd (omega (arith, o, b, l, z, ap (λ (u : ℕ). sum (under (r .slot) (top-of r) u) (r .rows)) z))
+    ]
+
+-- THE PLAN MADE: its segments are given
+pub led : (t cs ks fs hs ls : List ℕ) (h : Head) (x : Reach) (e : ℕ) → Crowded t cs ks fs hs ls h x e → (ks2 fs2 : List ℕ) (p : Planned) →
+    Plans (round-in t) x ks2 fs2 p → (cs2 hs2 : List ℕ) → length cs2 ≡ length cs → length hs2 ≡ length hs → Led t cs2 ks2 fs2 hs2 ls h x p e
+led t cs ks fs hs ls h x e c ks2 fs2 p q cs2 hs2 a b =
+    let g = given-laws.given t h ks2 fs2 (p .many) (x .free) (c .lent .ready) (q .chosen) (q .sorted) (c .lent .reaches .near)
+    (some-slot t x (c .lent .reaches) (c .lent .some)) (q .many) in
+    let v = known t h (c .lent .ready) in
+    let m = given-laws.slots-most (round-in t) ks2 fs2 (p .many) (h .slot .0) (x .free) g in
+    record {
+      ready = c .lent .ready;
+      given = g;
+      far = q .far;
+      ends = omega (arith, a, c .lent .counted .enough, c .lent .reaches .sweep .high);
+      tops = omega (arith, b, m, v .used, c .lent .room);
+      lows = omega (arith, m, v .used, c .lows);
+      due = c .due;
+    }
+
+-- THE STEP goes by them
+pub segments-lent : {t cs ks fs hs ls : List ℕ} {h : Head} {x : Reach} {p : Planned} {e : ℕ} → Led t cs ks fs hs ls h x p e →
+    given.Lent ks fs (p .many) (h .slot .0) (x .free) cs hs ls
+segments-lent {t} g = record { of = round-in t; given = g .given; ends = g .ends; tops = g .tops; lows = g .lows }
+
+pub planned-step : {t cs ks fs hs ls : List ℕ} {h : Head} {x : Reach} {p : Planned} {e : ℕ} → Led t cs ks fs hs ls h x p e →
+    (es ts ms : List ℕ) (l : Lead) → Segments-say ks fs (p .many) (h .slot .0) (x .free) es ts ms l → Planned-step t h es ts ms (p .far) l
+planned-step {t} {x = x} {p = p} g es ts ms l s =
+    record {
+      ready = g .ready;
+      free = x .free;
+      near = g .given .near;
+      segments = s (round-in t) (g .given);
+      first-far = far-first (round-in t) (round-in t .slot + x .free) (p .far) (g .far);
+    }
+
+-- WHERE NO ROW IS LEFT OUT
+pub whole-given : (t cs : List ℕ) (h : Head) (x : Reach) → Ready t h → (h .used ≡ 0 → ⊥) → Counted (round-in t) cs →
+    Reach-says cs (head-top h) x → x .over ≡ 0 → whole.Given t cs h x
+whole-given t cs h x k n c s o =
+    record { ready = k; some = omega (arith, n); counted = c; reaches = reaches t h cs x k c s; none = o }
+
+pub whole-step : (t cs : List ℕ) (h : Head) (x : Reach) → whole.Given t cs h x → (w : Whole) → whole.Picked (round-in t) (x .free) w → Whole-step t h w
+whole-step t cs h x g w p = record { ready = g .ready; reach = x; reaches = g .reaches; none = g .none; picked = p }
+
+-- WHERE SOME ARE: arrays of one length serve each
+pub crowded : (t cs : List ℕ) (h : Head) (x : Reach) → Ready t h → Counted (round-in t) cs → Reach-says cs (head-top h) x → (x .over ≡ 0 → ⊥) →
+    (n : ℕ) → h .used + 2 ≤ n → (e : ℕ) → Due-now t e →
+    Crowded t cs (replicate n 0) (replicate (h .used) 1) (replicate n 0) (replicate n 0) h x e
+crowded t cs h x k c s o n m e d =
+    let a = length-replicate {A = ℕ} n 0 in
+    record {
+      lent = record {
+        ready = k;
+        counted = c;
+        reaches = reaches t h cs x k c s;
+        some = omega (arith, o);
+        keys = omega (arith, a, m);
+        flags = refl;
+        heap = ap (λ (v : ℕ). replicate v 0) (sym a);
+        room = omega (arith, a, m);
+      };
+      lows = omega (arith, a, m);
+      due = d;
+    }
+
+-- the first bucket counts no more rows than there are
+pub few-now : (t : List ℕ) (h : Head) (cs : List ℕ) → Ready t h → Counted (round-in t) cs → getD cs 0 0 / 2048 ≤ 1024
+few-now t h cs k c =
+    let r = round-in t in
+    omega (
+      arith,
+      count-rows r cs c 0 (omega arith),
+      counts-next (r .slot) (top-of r) 0 (r .rows),
+      counts-none (r .slot) (top-of r) (r .rows),
+      sum-le (under (r .slot) (top-of r) 1) (λ x. 1) (under-1 (r .slot) (top-of r) 1) (r .rows),
+      length-sum (r .rows),
+      known t h k .small,
+    )

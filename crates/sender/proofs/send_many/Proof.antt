@@ -1,0 +1,44 @@
+use borrow.Author.Needs.{needs}
+use Rattle.sender.proofs.send_many.Statement.{statement}
+use Rattle.sender.proofs.send_many.Tie as tie
+
+slice-aggregate-send-crowded : tie.Need-slice-aggregate-send-crowded
+slice-aggregate-send-crowded c = search needs
+
+array-borrow-prefix-flags : tie.Need-array-borrow-prefix-flags
+array-borrow-prefix-flags c = search needs
+
+slice-aggregate-send-crowded-2 : tie.Need-slice-aggregate-send-crowded-2
+slice-aggregate-send-crowded-2 c = ?
+
+slice-aggregate-send-crowded-3 : tie.Need-slice-aggregate-send-crowded-3
+slice-aggregate-send-crowded-3 c = search needs
+
+slice-aggregate-send-crowded-4 : tie.Need-slice-aggregate-send-crowded-4
+slice-aggregate-send-crowded-4 c = search needs
+
+send-crowded-requires : tie.Need-send-crowded-requires
+send-crowded-requires c κs = ?
+
+same-length : tie.Need-same-length
+same-length c = search needs
+
+same-length-2 : tie.Need-same-length-2
+same-length-2 c = search needs
+
+returns : tie.Need-returns
+returns c = search needs
+
+pub send-many-spec : {M : Type 1} → statement M
+send-many-spec =
+    tie.close
+    (tie.spec
+    slice-aggregate-send-crowded
+    array-borrow-prefix-flags
+    slice-aggregate-send-crowded-2
+    slice-aggregate-send-crowded-3
+    slice-aggregate-send-crowded-4
+    send-crowded-requires
+    same-length
+    same-length-2
+    returns)

@@ -7,3 +7,4 @@ pub mod SortLaws
 pub mod QueueLaws
 pub mod ChosenLaws
 pub mod PlanLaws
+pub mod LentLaws

@@ -90,7 +90,8 @@ fn leave_some(
     reach: Reach,
     first: usize,
 ) -> u64
-    requires { ⌜ Crowd (now keys) (now flags) slot (reach .free) (reach .over) × Empty-heap (now heap) (reach .free + reach .over) × First-crowded (now keys) slot first ⌝ }
+    requires { ⌜ Crowd (now keys) (now flags) slot (reach .free) (reach .over) × Empty-heap (now heap) (reach .free + reach .over)
+        × First-crowded (now keys) slot first ⌝ }
     ensures { λ r. ⌜ Parted (now (keys .entry)) (now (flags .exit)) slot (reach .free) (reach .over) r ⌝ }
 {
     fill(heap, keys, first);

@@ -1,7 +1,7 @@
 use borrow.Author.Needs.{needs}
 use Rattle.round.proofs.ReadLaws.{known}
 use mathlib.Core.Path.{refl}
-use Rattle.sender.proofs.SenderLaws.{due-now, whole-given, whole-step}
+use Rattle.sender.proofs.SenderLaws.{due-now, few-now, whole-given, whole-step}
 use native.Mathlib.Omega.{arith}
 use Rattle.buckets.proofs.ReachLaws.{multiples}
 use Rattle.sender.proofs.send_sound.Statement.{statement}
@@ -25,7 +25,9 @@ slice-read-expiring : tie.Need-slice-read-expiring
 slice-read-expiring c = search needs
 
 cast-expiring : tie.Need-cast-expiring
-cast-expiring c = ?
+cast-expiring c =
+    let s = c .before .before .before .before .before .before .before in
+    omega (arith, few-now _ _ _ (s .pre .0) (s .pre .1))
 
 choose-whole-requires : tie.Need-choose-whole-requires
 choose-whole-requires c κs =

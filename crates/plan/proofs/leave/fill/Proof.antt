@@ -15,7 +15,9 @@ loop-holds : tie.Need-loop-holds Inv-loop μ-loop
 loop-holds c = filling-none _ _ _ (c .before .before .pre)
 
 mul-rise : tie.Need-mul-rise Inv-loop μ-loop
-mul-rise c = let f = filling-in _ _ _ _ _ (c .before .before .loop .inv) (search needs) in search needs
+mul-rise c =
+    let f = filling-in _ _ _ _ _ (c .before .before .loop .inv) (search needs) in
+    search needs
 
 shared-slice-read-rise : tie.Need-shared-slice-read-rise Inv-loop μ-loop
 shared-slice-read-rise c = filling-in _ _ _ _ _ (c .before .before .before .loop .inv) (search needs) .0
@@ -30,7 +32,10 @@ loop-less : tie.Need-loop-less Inv-loop μ-loop
 loop-less c = search needs
 
 loop-again : tie.Need-loop-again Inv-loop μ-loop
-loop-again c = filling-more _ _ _ _ _ (c .before .before .before .before .before .before .loop .inv) (search needs) _ _ (search needs) (c .before .before .rise .ensures)
+loop-again c =
+    let loop = c .before .before .before .before .before .before .loop in
+    let rise = c .before .before .rise in
+    filling-more _ _ _ _ _ (loop .inv) (search needs) _ _ (search needs) (rise .ensures)
 
 same-length : tie.Need-same-length Inv-loop μ-loop
 same-length c = c .before .loop .inv .long

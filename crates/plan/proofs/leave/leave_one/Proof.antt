@@ -12,10 +12,14 @@ row-of-requires : tie.Need-row-of-requires
 row-of-requires c κs = search needs
 
 slice-write-flags : tie.Need-slice-write-flags
-slice-write-flags c = let p = c .before .before .before .before .pre in one-row-at _ _ _ _ _ _ _ _ (p .0) (p .2) (c .before .lightest .ensures) (c .row-of .ensures)
+slice-write-flags c =
+    let p = c .before .before .before .before .pre in
+    one-row-at _ _ _ _ _ _ _ _ (p .0) (p .2) (c .before .lightest .ensures) (c .row-of .ensures)
 
 weight-of-requires : tie.Need-weight-of-requires
-weight-of-requires c κs = let p = c .before .before .before .before .pre in one-most _ _ _ _ _ _ _ (p .0) (p .2) (c .before .lightest .ensures)
+weight-of-requires c κs =
+    let p = c .before .before .before .before .pre in
+    one-most _ _ _ _ _ _ _ (p .0) (p .2) (c .before .lightest .ensures)
 
 cast-result : tie.Need-cast-result
 cast-result c = search needs
@@ -24,7 +28,9 @@ same-length : tie.Need-same-length
 same-length c = search needs
 
 returns : tie.Need-returns
-returns c = let p = c .before .before .before .before .before .pre in one-left _ _ _ _ _ _ _ (p .0) (p .2) (c .before .before .lightest .ensures) _ _ (p .1) (c .before .row-of .ensures) (search needs)
+returns c =
+    let p = c .before .before .before .before .before .pre in
+    one-left _ _ _ _ _ _ _ (p .0) (p .2) (c .before .before .lightest .ensures) _ _ (p .1) (c .before .row-of .ensures) (search needs)
 
 pub leave-one-spec : {M : Type 1} → statement M
 leave-one-spec =

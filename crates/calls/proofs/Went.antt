@@ -4,8 +4,8 @@ use mathlib.Core.Bool.{Bool, true, false, cond}
 use borrow.Author.Tests.{eq-eqb, ne-eqb}
 use Rattle.rules.specs.Rows.{row}
 use Rattle.rules.specs.Calls.{Out, silence, frame, kept-blank, ordinary, leap, out-of}
-use Rattle.leap.specs.declared.send.Went.{Went}
-use Rattle.leap.specs.Send.{went-out, went-step}
+use Rattle.step.specs.declared.send.Went.{Went}
+use Rattle.step.specs.Send.{went-out, went-step}
 
 module _ (w : Went) where
   pub out-silence : w .ticket .0 ≡ 0 → silence ≡ went-out w

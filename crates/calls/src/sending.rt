@@ -1,19 +1,19 @@
 // Sending a slot: refusals 2, 3 and 5.
 ghost use mathlib.Core.Path.{_≡_};
-ghost use Rattle.rules.specs.Table.{table-refusal};
 ghost use Rattle.rules.specs.Calls.{sending, acting, Says};
-ghost use Rattle.round.specs.Head.{Head-of};
-ghost use Rattle.leap.specs.Send.{went-out, went-step};
+ghost use Rattle.round.specs.Judge.{Scan-asks, Scan-says};
+ghost use Rattle.round.specs.declared.sound.Judged.the-variants.{Sound};
+ghost use Rattle.step.specs.Send.{went-out, went-step};
 ghost use Rattle.replies.specs.Replies.{of-out, of-step, of-sent};
 use checks::refusals::sending_refusal;
-use leap::send::Went;
 use replies::Out;
 use replies::Sent;
 use replies::Step;
 use round::sound::Judged;
-use round::sound::judge;
+use round::sound::scan;
 use sender::send_sound;
 use sorts::Round;
+use step::send::Went;
 
 pub fn send_slot(table: &mut [u8]) -> Sent
     ensures { λ r. ⌜ Says (acting sending) (of-sent r) (now (table .entry)) (now (table .exit)) ⌝ }
@@ -28,7 +28,7 @@ pub fn send_slot(table: &mut [u8]) -> Sent
 
 // The same with places for the scan's counts.
 fn send_scanned(table: &mut [u8], counts: &mut [u32]) -> Sent
-    requires { ⌜ Lent-counts (now table) (now counts) ⌝ }
+    requires { ⌜ Scan-asks (now table) (now counts) ⌝ }
     ensures { λ r. ⌜ Says (acting sending) (of-sent r) (now (table .entry)) (now (table .exit)) ⌝ }
 {
     match scan(table, counts) {
@@ -39,7 +39,7 @@ fn send_scanned(table: &mut [u8], counts: &mut [u32]) -> Sent
 
 // The same on a sound table.
 fn send_in(table: &mut [u8], counts: &mut [u32], round: Round) -> Sent
-    requires { ⌜ Scanned (now table) (now counts) round ⌝ }
+    requires { ⌜ Scan-says (now table) (now counts) (Sound round) ⌝ }
     ensures { λ r. ⌜ Says (acting sending) (of-sent r) (now (table .entry)) (now (table .exit)) ⌝ }
 {
     let refusal = sending_refusal(round);

@@ -12,9 +12,6 @@ use Rattle.rules.specs.Table.{field}
 use Rattle.theory.specs.Tests.{leb?, ltb?, eqb?}
 use Rattle.closing.specs.Close.{None-due, Next-due, Search, Next-leaving}
 
-pub due-read : (t : List ℕ) (i at d : ℕ) → at ≡ row-at i → d ≡ field (at + 4) 2 t → d ≡ due-in t i
-due-read t i at d e f = f ∙ ap (λ (a : ℕ). field (a + 4) 2 t) e
-
 -- NONE looked at, and one more that is not due
 pub none-start : {s f e : ℕ} {t : List ℕ} → f ≤ e → None-due s f e t f
 none-start h = record { onward = omega arith; by = h; none = λ j a b. absurd (omega (arith, a, b)) }

@@ -9,20 +9,12 @@ ghost use Rattle.rules.specs.Table.{table-refusal};
 ghost use Rattle.round.specs.Head.{Head-of};
 ghost use Rattle.closing.specs.Close.{Due-now, gone-ticket, Next-due, Search, Next-leaving, Some-left, Left-behind, Closed-rows, closed-up};
 use crate::runs::move_run;
-use numbers::read2;
 use numbers::write2;
+use round::entry::due_in;
 use round::rows::row_at;
 use round::zeros::clear;
 use sorts::Round;
 use sorts::Slot;
-
-// The due slot of a row.
-fn due_of(table: &[u8], row: usize) -> u32
-    requires { ⌜ (row < 1024) × (row-at (suc row) ≤ length (now table)) ⌝ }
-    ensures { λ r. ⌜ r ≡ due-in (now (table .entry)) row ⌝ }
-{
-    read2(table, row_at(row) + Round::DUE_AT)
-}
 
 // The first row due in a slot, from one up to another; the latter if none is.
 fn next_due(table: &[u8], from: usize, to: usize, slot: Slot) -> usize
@@ -31,7 +23,7 @@ fn next_due(table: &[u8], from: usize, to: usize, slot: Slot) -> usize
 {
     let mut i = from;
     while i < to {
-        if due_of(table, i) == slot.0 {
+        if due_in(table, i) == slot.0 {
             return i;
         }
         i += 1;
@@ -73,7 +65,7 @@ fn left_behind(table: &[u8], row: usize, slot: Slot, left: usize) -> usize
     requires { ⌜ Some-left (slot .0) row left (now table) ⌝ }
     ensures { λ r. ⌜ Left-behind (slot .0) row left (now (table .entry)) r ⌝ }
 {
-    if due_of(table, row) == slot.0 {
+    if due_in(table, row) == slot.0 {
         return left - 1;
     }
     left

@@ -1,6 +1,5 @@
 pub mod Readings
 pub mod ListFilled
 pub mod Listings
-pub mod CountsLent
 pub mod EntriesFit
 pub mod PlanShape

@@ -10,7 +10,7 @@ ghost use Rattle.buckets.specs.Reach.{Reaches};
 use buckets::Reach;
 use buckets::reach_of;
 use heap::EMPTY;
-use newplan::plan_of;
+use plan::plan_of;
 use sorts::Round;
 
 // Some rows are left out.

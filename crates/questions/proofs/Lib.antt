@@ -1,2 +1,4 @@
-pub mod Asked
-pub mod Standing
+pub mod SeenLaws
+pub mod PlanLaws
+pub mod FindLaws
+pub mod StandLaws

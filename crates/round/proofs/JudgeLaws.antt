@@ -94,16 +94,3 @@ judge-accepts {t} {h} k e p q = (refusal-is t h k ∙ rw (e, sym p ∙ q), k .he
 pub scan-accepts : {t cs : List ℕ} {h : Head} {x y : Bool} → Head-sound t h → Rows-say t h cs x → x ≡ true →
     y ≡ zeros (drop (row-at (h .used)) t) → y ≡ true → Scan-says t cs (Sound h)
 scan-accepts k s e p q = let j = judge-accepts k (sym (s .judged) ∙ e) p q in (j .0, j .1, s .counted e)
-
--- PLACES TO LEND: more than any table has rows, or for a short table more than it has
-pub lent-all : (t cs : List ℕ) (n : ℕ) → cs ≡ replicate n 0 → most-rows < n → Scan-asks t cs
-unfolding rows-of
-lent-all t cs n e h g =
-    let l : length cs ≡ n = ap length e ∙ length-replicate n 0 in
-    record { enough = omega (arith, l, h, good-long (length t) g .2); none = e ∙ ap (λ (k : ℕ). replicate k 0) (sym l) }
-
-pub lent-few : (t cs : List ℕ) (n k : ℕ) → cs ≡ replicate n 0 → length t ≤ row-at k → k < n → Scan-asks t cs
-unfolding rows-of
-lent-few t cs n k e h o g =
-    let l : length cs ≡ n = ap length e ∙ length-replicate n 0 in
-    record { enough = omega (arith, l, h, o, good-long (length t) g .0); none = e ∙ ap (λ (k : ℕ). replicate k 0) (sym l) }

@@ -9,3 +9,4 @@ pub mod ByHead
 pub mod ReadLaws
 pub mod CountLaws
 pub mod ScanLaws
+pub mod PlacesLaws

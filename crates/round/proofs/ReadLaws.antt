@@ -7,7 +7,7 @@ use lib.ListN.{length, getD, drop}
 use Rattle.rules.specs.Limits.{head-size}
 use Rattle.rules.specs.Rows.{Row, row, round, blank}
 use Rattle.rules.specs.Table.{field, rows-in, round-in}
-use Rattle.rules.specs.Conditions.{row-at, used-in}
+use Rattle.rules.specs.Conditions.{row-at, used-in, due-in}
 use Rattle.theory.specs.All.{all-in}
 use Rattle.theory.specs.Bounds.{Row-fine}
 use Rattle.theory.specs.Full.{Fine}
@@ -18,6 +18,7 @@ use Rattle.theory.specs.Sane.{sound}
 use Rattle.theory.specs.Clauses.{rows-count, length-long, accepted-length}
 use Rattle.theory.specs.Soundness.{row-in, row-there, row-next}
 use Rattle.sorts.specs.declared.Round.{Round as Head}
+use Rattle.round.specs.Entry.{Entry-in}
 use Rattle.round.specs.Rows.{Ready, Ticket-at, Due-at, Weight-at, Kind-at, at}
 
 -- WHAT A READY TABLE IS: its round is sound and small, and the head's numbers are the round's
@@ -111,3 +112,17 @@ kind-read t h i a k r l e g =
     let p : getD t (row-at i + 10) 0 ≡ field (row-at i + 10) 1 t =
     omega (arith, field-suc t (row-at i + 10) 0 (omega (arith, reads-within t h r i l .1)), field-zero t (row-at i + 10 + 1)) in
     g ∙ ap (λ (v : ℕ). getD t (v + 10) 0) e ∙ p ∙ sym (ap (λ (x : Row). x .tail .kind) (at-is t h r i l))
+
+-- a row's numbers by its bytes alone
+pub entry-read : (t : List ℕ) (i a k d w : ℕ) → a ≡ row-at i → k ≡ field (a + 0) 4 t → d ≡ field (a + 4) 2 t → w ≡ field (a + 6) 4 t →
+    Entry-in t i (record { ticket = record { 0 = k }; due = record { 0 = d }; weight = record { 0 = w } })
+unfolding row
+entry-read t i a k d w e x y z =
+    record {
+      ticket = x ∙ ap (λ (n : ℕ). field (n + 0) 4 t) e;
+      due = y ∙ ap (λ (n : ℕ). field (n + 4) 2 t) e;
+      weight = z ∙ ap (λ (n : ℕ). field (n + 6) 4 t) e;
+    }
+
+pub due-in-read : (t : List ℕ) (i at d : ℕ) → at ≡ row-at i → d ≡ field (at + 4) 2 t → d ≡ due-in t i
+due-in-read t i at d e f = f ∙ ap (λ (a : ℕ). field (a + 4) 2 t) e

@@ -5,3 +5,4 @@ pub mod Rows
 pub mod Buckets
 pub mod Seen
 pub mod Judge
+pub mod Entry

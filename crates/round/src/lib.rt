@@ -6,3 +6,4 @@ pub mod seen; // seen.rt: the judge of one row
 pub mod rows; // rows.rt: all used rows judged and counted, and a row written
 pub mod sound; // sound.rt: the judge of a whole table
 pub mod read; // read.rt: a sound table's rows read
+pub mod entry; // entry.rt: a row's numbers by its bytes alone

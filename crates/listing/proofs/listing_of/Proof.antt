@@ -1,6 +1,6 @@
 -- `listing::listing_of`: counts of its own, few for a small table.
 use mathlib.Core.Path.{refl}
-use Rattle.listing.proofs.CountsLent.{few-lent, many-lent}
+use Rattle.round.proofs.PlacesLaws.{few-places, many-places}
 use borrow.Author.Needs.{needs}
 use Rattle.listing.proofs.listing_of.Statement.{statement}
 use Rattle.listing.proofs.listing_of.Tie as tie
@@ -9,7 +9,7 @@ slice-aggregate-listing-by : tie.Need-slice-aggregate-listing-by
 slice-aggregate-listing-by c = search needs
 
 listing-by-requires : tie.Need-listing-by-requires
-listing-by-requires c κs = few-lent _ _ (search needs) refl
+listing-by-requires c κs = few-places _ (search needs)
 
 returns : tie.Need-returns
 returns c = search needs
@@ -18,7 +18,7 @@ slice-aggregate-listing-by-2 : tie.Need-slice-aggregate-listing-by-2
 slice-aggregate-listing-by-2 c = search needs
 
 listing-by-requires-2 : tie.Need-listing-by-requires-2
-listing-by-requires-2 c κs = many-lent _ _ refl
+listing-by-requires-2 c κs = many-places _
 
 returns-2 : tie.Need-returns-2
 returns-2 c = search needs

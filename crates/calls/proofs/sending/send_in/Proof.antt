@@ -24,8 +24,9 @@ free c = omega (arith, c .before .sending-refusal .ensures)
 
 send-sound-requires : tie.Need-send-sound-requires
 send-sound-requires c κs =
-    let s = c .before .before .before .before in
-    record { sound = s .pre .0; head = s .pre .1; time = send-accepted _ _ (free (c .before)) }
+    let s = c .before .before .before .before .before in
+    let time = send-accepted _ _ (free (c .before .before)) in
+    (record { sound = s .pre .0; head = s .pre .1; time = time }, s .pre .2 time)
 
 step-of-requires : tie.Need-step-of-requires
 step-of-requires c κs = search needs

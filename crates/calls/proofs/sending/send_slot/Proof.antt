@@ -1,36 +1,24 @@
 -- `calls::sending::send_slot` meets its contract.
-use Rattle.theory.specs.Outcomes.{says-refused, act-judges, by-table}
-use Rattle.rules.specs.Calls.{sending, acting}
-use Rattle.round.specs.Judge.{Judge-says}
-use mathlib.Core.Path.{subst}
+use Rattle.round.proofs.PlacesLaws.{few-places, many-places}
+use native.Mathlib.Omega.{arith}
 use borrow.Author.Needs.{needs}
 use Rattle.calls.proofs.sending.send_slot.Statement.{statement}
 use Rattle.calls.proofs.sending.send_slot.Tie as tie
 
-judge-requires : tie.Need-judge-requires
-judge-requires c κs = search needs
+slice-aggregate-send-scanned : tie.Need-slice-aggregate-send-scanned
+slice-aggregate-send-scanned c = search needs
 
-enum-known-n : tie.Need-enum-known-n
-enum-known-n c = search needs
-
-enum-known-round : tie.Need-enum-known-round
-enum-known-round c = search needs
-
-send-in-requires : tie.Need-send-in-requires
-send-in-requires c κs = subst (Judge-says (c .before .before .before .before .before .before .before .args .table .now))
-    (c .before .before .round .given .1) (c .before .before .before .before .judge .ensures)
-
-same-length : tie.Need-same-length
-same-length c = search needs
+send-scanned-requires : tie.Need-send-scanned-requires
+send-scanned-requires c κs = let s = c .before .before .before in few-places (s .args .table .now) (omega arith)
 
 returns : tie.Need-returns
-returns c =
-    let s = c .before .before .before .before .before .before in
-    let h = subst (Judge-says (s .args .table .now)) (c .before .n .given .1) (c .before .before .before .judge .ensures) in
-    says-refused (acting sending) (s .args .table .now) _ (by-table (acting sending) (s .args .table .now) _ (act-judges sending) (h .0) (h .1)) (h .1)
+returns c = search needs
 
-same-length-2 : tie.Need-same-length-2
-same-length-2 c = search needs
+slice-aggregate-send-scanned-2 : tie.Need-slice-aggregate-send-scanned-2
+slice-aggregate-send-scanned-2 c = search needs
+
+send-scanned-requires-2 : tie.Need-send-scanned-requires-2
+send-scanned-requires-2 c κs = let s = c .before .before .before in many-places (s .args .table .now)
 
 returns-2 : tie.Need-returns-2
 returns-2 c = search needs
@@ -39,11 +27,9 @@ pub send-slot-spec : {M : Type 1} → statement M
 send-slot-spec =
     tie.close
     (tie.spec
-    judge-requires
-    enum-known-n
-    enum-known-round
-    send-in-requires
-    same-length
+    slice-aggregate-send-scanned
+    send-scanned-requires
     returns
-    same-length-2
+    slice-aggregate-send-scanned-2
+    send-scanned-requires-2
     returns-2)

@@ -6,8 +6,8 @@ use borrow.Author.Needs.{needs}
 use Rattle.closing.proofs.close.left_behind.Statement.{statement}
 use Rattle.closing.proofs.close.left_behind.Tie as tie
 
-due-of-requires : tie.Need-due-of-requires
-due-of-requires c κs = search needs
+due-in-requires : tie.Need-due-in-requires
+due-in-requires c κs = search needs
 
 sub-result : tie.Need-sub-result
 sub-result c =
@@ -23,4 +23,4 @@ returns-2 : tie.Need-returns-2
 returns-2 c = inr (search needs, refl)
 
 pub left-behind-spec : {M : Type 1} → statement M
-left-behind-spec = tie.close (tie.spec due-of-requires sub-result returns returns-2)
+left-behind-spec = tie.close (tie.spec due-in-requires sub-result returns returns-2)

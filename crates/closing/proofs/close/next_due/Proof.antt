@@ -15,8 +15,8 @@ abbrev μ-loop : tie.MeasureT-loop
 loop-holds : tie.Need-loop-holds Inv-loop μ-loop
 loop-holds c = none-start (search needs)
 
-due-of-requires : tie.Need-due-of-requires Inv-loop μ-loop
-due-of-requires c κs = search needs
+due-in-requires : tie.Need-due-in-requires Inv-loop μ-loop
+due-in-requires c κs = search needs
 
 returns : tie.Need-returns Inv-loop μ-loop
 returns c = next-found (c .before .before .before .before .loop .inv) (search needs)
@@ -40,7 +40,7 @@ next-due-spec =
     Inv-loop
     μ-loop
     loop-holds
-    due-of-requires
+    due-in-requires
     returns
     add-i
     loop-less

@@ -1,31 +1,24 @@
 -- `questions::marking::mark_of` meets its contract.
-use Rattle.theory.specs.Outcomes.{says-refused, question-judges, by-table}
-use Rattle.rules.specs.Calls.{marking, asking}
-use Rattle.round.specs.Judge.{Judge-says}
-use mathlib.Core.Path.{subst}
+use Rattle.round.proofs.PlacesLaws.{few-places, many-places}
+use native.Mathlib.Omega.{arith}
 use borrow.Author.Needs.{needs}
 use Rattle.questions.proofs.marking.mark_of.Statement.{statement}
 use Rattle.questions.proofs.marking.mark_of.Tie as tie
 
-judge-requires : tie.Need-judge-requires
-judge-requires c κs = search needs
+slice-aggregate-mark-scanned : tie.Need-slice-aggregate-mark-scanned
+slice-aggregate-mark-scanned c = search needs
 
-enum-known-n : tie.Need-enum-known-n
-enum-known-n c = search needs
-
-enum-known-round : tie.Need-enum-known-round
-enum-known-round c = search needs
-
-mark-in-requires : tie.Need-mark-in-requires
-mark-in-requires c κs = subst (Judge-says (c .before .before .before .before .before .args .table .now)) (c .before .round .given .1)
-    (c .before .before .before .judge .ensures)
+mark-scanned-requires : tie.Need-mark-scanned-requires
+mark-scanned-requires c κs = let s = c .before .before .before in few-places (s .args .table .now) (omega arith)
 
 returns : tie.Need-returns
-returns c =
-    let s = c .before .before .before .before .before in
-    let h = subst (Judge-says (s .args .table .now)) (c .before .n .given .1) (c .before .before .before .judge .ensures) in
-    says-refused (asking (marking (s .args .slot .0))) (s .args .table .now) _
-    (by-table (asking (marking (s .args .slot .0))) (s .args .table .now) _ (question-judges (marking (s .args .slot .0))) (h .0) (h .1)) (h .1)
+returns c = search needs
+
+slice-aggregate-mark-scanned-2 : tie.Need-slice-aggregate-mark-scanned-2
+slice-aggregate-mark-scanned-2 c = search needs
+
+mark-scanned-requires-2 : tie.Need-mark-scanned-requires-2
+mark-scanned-requires-2 c κs = let s = c .before .before .before in many-places (s .args .table .now)
 
 returns-2 : tie.Need-returns-2
 returns-2 c = search needs
@@ -33,4 +26,10 @@ returns-2 c = search needs
 pub mark-of-spec : {M : Type 1} → statement M
 mark-of-spec =
     tie.close
-    (tie.spec judge-requires enum-known-n enum-known-round mark-in-requires returns returns-2)
+    (tie.spec
+    slice-aggregate-mark-scanned
+    mark-scanned-requires
+    returns
+    slice-aggregate-mark-scanned-2
+    mark-scanned-requires-2
+    returns-2)

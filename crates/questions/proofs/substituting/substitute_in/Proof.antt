@@ -1,13 +1,13 @@
 -- `questions::substituting::substitute_in` meets its contract.
-use Rattle.questions.proofs.Standing.{substitute-over, substitute-nowhere, substitute-found}
-use Rattle.questions.proofs.Asked.{ready}
-use Rattle.checks.proofs.Accepted.{send-accepted}
-use Rattle.round.proofs.ByHead.{sending-number, slot-left-by}
-use Rattle.questions.specs.Finding.{Finds}
-use Rattle.tally.proofs.RowLaws.{known}
-use Rattle.rules.specs.Table.{round-in}
 use mathlib.Core.Path.{_≡_, refl, subst, _∙_}
 use native.Mathlib.Omega.{arith}
+use Rattle.rules.specs.Table.{round-in}
+use Rattle.checks.proofs.Accepted.{send-accepted}
+use Rattle.round.proofs.ByHead.{sending-number, slot-left-by}
+use Rattle.round.proofs.ReadLaws.{known}
+use Rattle.questions.specs.Finding.{Finds}
+use Rattle.questions.proofs.SeenLaws.{ready}
+use Rattle.questions.proofs.StandLaws.{substitute-over, substitute-nowhere, substitute-found}
 use borrow.Author.Needs.{needs}
 use Rattle.questions.proofs.substituting.substitute_in.Statement.{statement}
 use Rattle.questions.proofs.substituting.substitute_in.Tie as tie
@@ -17,7 +17,7 @@ sending-refusal-requires c κs = search needs
 
 returns : tie.Need-returns
 returns c =
-    let s = c .before .before .before in (
+    let s = c .before .before .before .before in (
       substitute-over (s .args .ticket .0) (s .args .table .now) (s .pre .0) _
           (omega (arith, slot-left-by (s .args .table .now) (s .args .round) (s .pre .0) (s .pre .1), c .before .sending-refusal .ensures))
           (λ z. omega (arith, z)),
@@ -25,12 +25,12 @@ returns c =
     )
 
 -- no refusal where the number is not above 0
-free : (c : tie.Else1) → sending-number (c .before .before .before .args .round) ≡ 0
+free : (c : tie.Else1) → let s = c .before .before .before .before in sending-number (s .args .round) ≡ 0
 free c = omega (arith, c .before .sending-refusal .ensures)
 
 find-row-requires : tie.Need-find-row-requires
-find-row-requires c κs =
-    let s = c .before .before .before in ready (s .args .table .now) (s .args .round) (s .pre .0) (s .pre .1) (send-accepted _ _ (free c))
+find-row-requires c κs = let s = c .before .before .before .before in ready (s .args .table .now) (s .args .round) (s .pre .0) (s .pre .1)
+    (send-accepted _ _ (free (c)))
 
 enum-told : tie.Need-enum-told
 enum-told c = search needs
@@ -40,30 +40,35 @@ enum-known-row c = search needs
 
 substitute-row-requires : tie.Need-substitute-row-requires
 substitute-row-requires c κs =
-    let s = c .before .before .before .before .before .before .before in
-    let h = subst (Finds (round-in (s .args .table .now)) (s .args .ticket .0)) (c .before .row .given .1) (c .before .before .before .find-row .ensures) in
-    let r = ready (s .args .table .now) (s .args .round) (s .pre .0) (s .pre .1) (send-accepted _ _ (free (c .before .before .before .before))) in
-    (r, omega (arith, h .0, known (s .args .table .now) (s .args .round) r .used))
+    let s = c .before .before .before .before .before .before .before .before .before in
+    let t = s .args .table .now in
+    let h = s .args .round in
+    let g = subst (Finds (round-in t) (s .args .ticket .0)) (c .before .before .row .given .1) (c .before .before .before .before .find-row .ensures) in
+    let a = send-accepted _ _ (free (c .before .before .before .before .before)) in
+    let r = ready t h (s .pre .0) (s .pre .1) a in
+    (r, s .pre .2 a, omega (arith, g .0, known t h r .used))
 
 returns-2 : tie.Need-returns-2
 returns-2 c =
-    let s = c .before .before .before .before .before .before in
-    let h = subst (Finds (round-in (s .args .table .now)) (s .args .ticket .0)) (c .enum-told .given .1) (c .before .before .find-row .ensures) in (
-      substitute-nowhere (s .args .ticket .0) (s .args .table .now) (s .pre .0)
-          (slot-left-by (s .args .table .now) (s .args .round) (s .pre .0) (s .pre .1) ∙ free (c .before .before .before)) h,
-      refl,
-    )
+    let s = c .before .before .before .before .before .before .before in
+    let t = s .args .table .now in
+    let g = subst (Finds (round-in t) (s .args .ticket .0)) (c .enum-told .given .1) (c .before .before .find-row .ensures) in
+    (substitute-nowhere (s .args .ticket .0) t (s .pre .0) (slot-left-by t (s .args .round) (s .pre .0) (s .pre .1) ∙ free (c .before .before .before)) g, refl)
+
+same-length : tie.Need-same-length
+same-length c = search needs
 
 returns-3 : tie.Need-returns-3
 returns-3 c =
-    let s = c .before .before .before .before .before .before .before .before in
-    let h = subst (Finds (round-in (s .args .table .now)) (s .args .ticket .0)) (c .before .before .row .given .1)
-    (c .before .before .before .before .find-row .ensures) in
-    let r = ready (s .args .table .now) (s .args .round) (s .pre .0) (s .pre .1) (send-accepted _ _ (free (c .before .before .before .before .before))) in (
-      c .substitute-row .ensures
-          ∙ substitute-found (s .args .ticket .0) (s .args .table .now) (s .pre .0)
-          (slot-left-by (s .args .table .now) (s .args .round) (s .pre .0) (s .pre .1) ∙ free (c .before .before .before .before .before))
-          (known (s .args .table .now) (s .args .round) r .fine) _ h,
+    let s = c .before .before .before .before .before .before .before .before .before .before .before .before in
+    let t = s .args .table .now in
+    let h = s .args .round in
+    let g = subst (Finds (round-in t) (s .args .ticket .0)) (c .before .before .before .before .before .row .given .1)
+    (c .before .before .before .before .before .before .before .find-row .ensures) in
+    let r = ready t h (s .pre .0) (s .pre .1) (send-accepted _ _ (free (c .before .before .before .before .before .before .before .before))) in (
+      c .before .before .substitute-row .ensures
+          ∙ substitute-found (s .args .ticket .0) t (s .pre .0)
+          (slot-left-by t h (s .pre .0) (s .pre .1) ∙ free (c .before .before .before .before .before .before .before .before)) (known t h r .fine) _ g,
       refl,
     )
 
@@ -78,4 +83,5 @@ substitute-in-spec =
     enum-known-row
     substitute-row-requires
     returns-2
+    same-length
     returns-3)

@@ -1,29 +1,24 @@
 -- `questions::substituting::substitute_of` meets its contract.
-use Rattle.questions.proofs.Standing.{substitute-table}
-use Rattle.round.specs.Judge.{Judge-says}
-use mathlib.Core.Path.{refl, subst}
+use Rattle.round.proofs.PlacesLaws.{few-places, many-places}
+use native.Mathlib.Omega.{arith}
 use borrow.Author.Needs.{needs}
 use Rattle.questions.proofs.substituting.substitute_of.Statement.{statement}
 use Rattle.questions.proofs.substituting.substitute_of.Tie as tie
 
-judge-requires : tie.Need-judge-requires
-judge-requires c κs = search needs
+slice-aggregate-substitute-scanned : tie.Need-slice-aggregate-substitute-scanned
+slice-aggregate-substitute-scanned c = search needs
 
-enum-known-n : tie.Need-enum-known-n
-enum-known-n c = search needs
-
-enum-known-round : tie.Need-enum-known-round
-enum-known-round c = search needs
-
-substitute-in-requires : tie.Need-substitute-in-requires
-substitute-in-requires c κs = subst (Judge-says (c .before .before .before .before .before .args .table .now)) (c .before .round .given .1)
-    (c .before .before .before .judge .ensures)
+substitute-scanned-requires : tie.Need-substitute-scanned-requires
+substitute-scanned-requires c κs = let s = c .before .before .before in few-places (s .args .table .now) (omega arith)
 
 returns : tie.Need-returns
-returns c =
-    let s = c .before .before .before .before .before in
-    let h = subst (Judge-says (s .args .table .now)) (c .before .n .given .1) (c .before .before .before .judge .ensures) in
-    (substitute-table (s .args .ticket .0) (s .args .table .now) _ (h .0) (h .1), refl)
+returns c = search needs
+
+slice-aggregate-substitute-scanned-2 : tie.Need-slice-aggregate-substitute-scanned-2
+slice-aggregate-substitute-scanned-2 c = search needs
+
+substitute-scanned-requires-2 : tie.Need-substitute-scanned-requires-2
+substitute-scanned-requires-2 c κs = let s = c .before .before .before in many-places (s .args .table .now)
 
 returns-2 : tie.Need-returns-2
 returns-2 c = search needs
@@ -32,9 +27,9 @@ pub substitute-of-spec : {M : Type 1} → statement M
 substitute-of-spec =
     tie.close
     (tie.spec
-    judge-requires
-    enum-known-n
-    enum-known-round
-    substitute-in-requires
+    slice-aggregate-substitute-scanned
+    substitute-scanned-requires
     returns
+    slice-aggregate-substitute-scanned-2
+    substitute-scanned-requires-2
     returns-2)

@@ -1,30 +1,24 @@
 -- `questions::totalling::plan_total` meets its contract.
-use Rattle.theory.specs.Outcomes.{says-refused, question-judges, by-table}
-use Rattle.rules.specs.Calls.{totalling, asking}
-use Rattle.round.specs.Judge.{Judge-says}
-use mathlib.Core.Path.{subst}
+use Rattle.round.proofs.PlacesLaws.{few-places, many-places}
+use native.Mathlib.Omega.{arith}
 use borrow.Author.Needs.{needs}
 use Rattle.questions.proofs.totalling.plan_total.Statement.{statement}
 use Rattle.questions.proofs.totalling.plan_total.Tie as tie
 
-judge-requires : tie.Need-judge-requires
-judge-requires c κs = search needs
+slice-aggregate-total-scanned : tie.Need-slice-aggregate-total-scanned
+slice-aggregate-total-scanned c = search needs
 
-enum-known-n : tie.Need-enum-known-n
-enum-known-n c = search needs
-
-enum-known-round : tie.Need-enum-known-round
-enum-known-round c = search needs
-
-total-in-requires : tie.Need-total-in-requires
-total-in-requires c κs = subst (Judge-says (c .before .before .before .before .before .args .table .now)) (c .before .round .given .1)
-    (c .before .before .before .judge .ensures)
+total-scanned-requires : tie.Need-total-scanned-requires
+total-scanned-requires c κs = let s = c .before .before .before in few-places (s .args .table .now) (omega arith)
 
 returns : tie.Need-returns
-returns c =
-    let s = c .before .before .before .before .before in
-    let h = subst (Judge-says (s .args .table .now)) (c .before .n .given .1) (c .before .before .before .judge .ensures) in
-    says-refused (asking totalling) (s .args .table .now) _ (by-table (asking totalling) (s .args .table .now) _ (question-judges totalling) (h .0) (h .1)) (h .1)
+returns c = search needs
+
+slice-aggregate-total-scanned-2 : tie.Need-slice-aggregate-total-scanned-2
+slice-aggregate-total-scanned-2 c = search needs
+
+total-scanned-requires-2 : tie.Need-total-scanned-requires-2
+total-scanned-requires-2 c κs = let s = c .before .before .before in many-places (s .args .table .now)
 
 returns-2 : tie.Need-returns-2
 returns-2 c = search needs
@@ -32,4 +26,10 @@ returns-2 c = search needs
 pub plan-total-spec : {M : Type 1} → statement M
 plan-total-spec =
     tie.close
-    (tie.spec judge-requires enum-known-n enum-known-round total-in-requires returns returns-2)
+    (tie.spec
+    slice-aggregate-total-scanned
+    total-scanned-requires
+    returns
+    slice-aggregate-total-scanned-2
+    total-scanned-requires-2
+    returns-2)

@@ -1,0 +1,46 @@
+-- `questions::marking::mark_planned` meets its contract.
+use Rattle.questions.proofs.PlanLaws.{plan-asked, plan-mark}
+use borrow.Author.Needs.{needs}
+use Rattle.questions.proofs.marking.mark_planned.Statement.{statement}
+use Rattle.questions.proofs.marking.mark_planned.Tie as tie
+
+plan-of-requires : tie.Need-plan-of-requires
+plan-of-requires c κs = search needs
+
+mark-of-requires : tie.Need-mark-of-requires
+mark-of-requires c κs =
+    let s = c .before .before .before .before .before .before .before .before .before .before .before .before .before .before .before .before .before .before .before .before in
+    let plan = c .before .before .before .before .before .before .before .before .before .before .plan-of in
+    plan-asked (s .args .table .now) (s .args .round) (s .args .reach) (s .pre .0 .ready) (s .pre .0 .reaches) _ _ (plan .result) (plan .ensures)
+    (s .args .slot .0) (s .pre .1) (s .pre .2)
+
+same-length : tie.Need-same-length
+same-length c = search needs
+
+same-length-2 : tie.Need-same-length-2
+same-length-2 c = search needs
+
+same-length-3 : tie.Need-same-length-3
+same-length-3 c = search needs
+
+same-length-4 : tie.Need-same-length-4
+same-length-4 c = search needs
+
+returns : tie.Need-returns
+returns c =
+    let s = c .before .before .before .before .before .before .before .before .before .before .before .before .before .before .before .before .before .before .before .before .before in
+    let plan = c .before .before .before .before .before .before .before .before .before .before .before .plan-of in
+    plan-mark (s .args .table .now) (s .args .round) (s .args .reach) (s .pre .0 .ready) (s .pre .0 .reaches) _ _ (plan .result) (plan .ensures)
+    (s .args .slot .0) (s .pre .1) (s .pre .2) _ (c .mark-of .ensures)
+
+pub mark-planned-spec : {M : Type 1} → statement M
+mark-planned-spec =
+    tie.close
+    (tie.spec
+    plan-of-requires
+    mark-of-requires
+    same-length
+    same-length-2
+    same-length-3
+    same-length-4
+    returns)

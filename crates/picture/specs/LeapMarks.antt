@@ -1,11 +1,11 @@
 -- Marks from segment to segment: the first one's is its own lightest weight, each later one's the lesser of its own and of the mark before. Assumes nothing.
 use mathlib.Core.Path.{_≡_, sym, ap, _∙_}
 use mathlib.Core.Logic.{inl, inr}
-use Prim.Native.Nat.{ℕ, suc, _≤_, _<_, min}
+use Prim.Native.Nat.{ℕ, suc, _≤_, min}
 use native.Mathlib.Omega.{arith}
-use Rattle.rules.specs.Rows.{Row, Round, In}
+use Rattle.rules.specs.Rows.{Row, Round}
 use Rattle.rules.specs.Limits.{most-weight}
-use Rattle.rules.specs.Plan.{plan, tight-after, mark-in, mark, least-weight}
+use Rattle.rules.specs.Plan.{plan, mark-in, mark, least-weight}
 use Rattle.theory.specs.Tests.{leb?}
 use Rattle.theory.specs.All.{all-in}
 use Rattle.theory.specs.Order.{not-over-weight}

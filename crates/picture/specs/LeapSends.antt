@@ -5,7 +5,7 @@ use mathlib.Core.List.{List}
 use Prim.Native.Nat.{ℕ, suc, _≤_, _<_}
 use native.Mathlib.Omega.{arith}
 use borrow.Author.Tests.{le-leb, lt-leb}
-use Rattle.rules.specs.Rows.{Row, Round, row, blank, In}
+use Rattle.rules.specs.Rows.{Row, Round, blank, In}
 use Rattle.rules.specs.Plan.{plan, tight-after, mark, first-end, substitute, best}
 use Rattle.rules.specs.PlanM.{Outside}
 use Rattle.rules.specs.Steps.{set-to, kept-at, changed}

@@ -1,8 +1,8 @@
 -- THE PASS BACK along a leap's chain: the link that waits, and those behind it that have moved.
-use mathlib.Core.Path.{_≡_, refl, sym, ap, ap₂, _∙_, subst}
+use mathlib.Core.Path.{_≡_, sym, ap, ap₂, _∙_, subst}
 use mathlib.Core.Logic.{inl, inr, _≢_}
 use mathlib.Core.List.{List, [], _∷_, _++_}
-use Prim.Native.Nat.{ℕ, suc, _+_, _*_, _-_, _/_, _%_, _≤_, _<_, max, min}
+use Prim.Native.Nat.{ℕ, suc, _+_, _*_, _-_, _/_, _%_, _≤_, _<_, max}
 use native.Mathlib.Omega.{arith}
 use lib.ListN.{length, getD}
 use lib.Seq.{sets}
@@ -22,10 +22,9 @@ use Rattle.theory.specs.Leaping.{rising-moves, moved-ticket}
 use Rattle.theory.specs.Whole.{length-moves}
 use Rattle.picture.specs.Places.{ends-at}
 use Rattle.round.specs.Rows.{at}
-use Rattle.keys.specs.Key.{blank-key, key-at}
+use Rattle.keys.specs.Key.{key-at}
 use Rattle.keys.specs.KeyLaws.{row-fine, weight-is, row-is, some-key, lesser-key, greater-key}
-use Rattle.step.specs.Chain.{Piece, Pieces, start-of, Marked, Named, linked, passed, having, Shifts}
-use Rattle.step.proofs.MarkLaws.{start-later}
+use Rattle.step.specs.Chain.{Piece, Named, linked, having, Shifts}
 use Rattle.step.proofs.MoveLaws.{moves-changed, moves-other, length-having, table-shift}
 
 -- A LINK THAT WAITS: row i, the heaviest of the plan's rows due after e and by g; the links behind it have moved

@@ -2,38 +2,34 @@
 use mathlib.Core.Path.{_≡_, refl, sym, ap, ap₂, _∙_, subst}
 use mathlib.Core.Logic.{inl, inr, _≢_}
 use mathlib.Core.Bool.{true, false}
-use mathlib.Core.List.{List, []}
-use Prim.Native.Nat.{ℕ, suc, _+_, _-_, _*_, _/_, _%_, _≤_, _<_}
+use mathlib.Core.List.{List}
+use Prim.Native.Nat.{ℕ, suc, _+_, _/_, _%_, _≤_, _<_}
 use native.Mathlib.Omega.{arith}
 use lib.ListN.{length, getD}
 use lib.Seq.{sets}
-use Rattle.rules.specs.Limits.{head-size, row-size}
 use Rattle.rules.specs.Rows.{Row, Round, row, blank, All, In}
 use Rattle.rules.specs.Plan.{plan, planned, in-plan, mark}
-use Rattle.rules.specs.Steps.{set-to, kept-at, changed}
+use Rattle.rules.specs.Steps.{changed}
 use Rattle.rules.specs.Conditions.{row-at}
 use Rattle.rules.specs.Table.{low, table, table-refusal, round-in}
 use Rattle.theory.specs.Tests.{ltb?}
 use Rattle.theory.specs.All.{all-in, all-map, blank-weight}
-use Rattle.theory.specs.Back.{length-table}
 use Rattle.theory.specs.Bounds.{Row-fine, Tail-fine}
 use Rattle.theory.specs.Chain.{moves, chain-after}
 use Rattle.theory.specs.Change.{rising-same}
-use Rattle.theory.specs.Feas.{num}
 use Rattle.theory.specs.Full.{Fine}
 use Rattle.theory.specs.Keys.{getD-in}
 use Rattle.theory.specs.Leaping.{rising-moves}
 use Rattle.theory.specs.Marks.{mark-limit}
 use Rattle.theory.specs.Members.{Rows-of-plan, planned-rows, of-rows-in, in-plan-is, not-found}
-use Rattle.theory.specs.Sane.{Sane, sound}
+use Rattle.theory.specs.Sane.{sound}
 use Rattle.theory.specs.Whole.{Sends, length-moves}
 use Rattle.picture.specs.Picture.{Spans}
 use Rattle.picture.specs.LeapSends.{blank-sends, row-sends}
 use Rattle.sorts.specs.declared.Round.{Round as Head}
 use Rattle.round.specs.Head.{Head-of}
-use Rattle.round.specs.Rows.{Ready, at}
-use Rattle.round.proofs.ReadLaws.{Known, known, reads-within}
-use Rattle.keys.specs.Key.{key-at}
+use Rattle.round.specs.Rows.{at}
+use Rattle.round.proofs.ReadLaws.{Known, known}
 use Rattle.keys.specs.KeyLaws.{row-fine, due-is, row-is}
 use Rattle.closing.specs.Close.{Due-now, gone-ticket, closed-up}
 use Rattle.segments.specs.declared.Lead.{Lead}
@@ -43,7 +39,6 @@ use Rattle.step.specs.declared.send.Went.{Went}
 use Rattle.step.proofs.MarkLaws.{start-later, number-fits, marked, mark-some}
 use Rattle.step.proofs.MoveLaws.{table-weight, moves-other, length-having}
 use Rattle.step.proofs.StandLaws.{Rows-fit, Stood, stood, stood-closed, sent-says, fit-self, fit-changed, fit-moves}
-use Rattle.step.proofs.SendLaws.{Closes}
 use Rattle.step.proofs.LeaveLaws.{changed-tickets, moves-tickets, gone-stood, same-changed, late-moves, due-stood}
 
 mark-most : (r : Round) (e : ℕ) → mark r e ≤ 16777216
@@ -188,18 +183,22 @@ module _ {t : List ℕ} {h : Head} {es ts ls : List ℕ} {l : Lead} (w : Leaps-r
           )
     ]
 
-    pub swap-low : to ≤ 4095
+    -- both segments' numbers are places of the arrays
+    pub swap-low : (to ≤ l .segment) × (l .segment ≤ 4095)
     swap-low =
         let k : 0 < l .count = omega (arith, v .later) in
-        omega (
-          arith,
-          number-fits (round-in t) (l .count) es ts ls (v .pieces) to to-in,
-          v .pieces .piece 0 k .spans .ahead,
-          leap-known v .cap,
+        let i : l .segment < l .count = omega (arith, v .later) in (
+          z .by,
+          omega (
+            arith,
+            number-fits (round-in t) (l .count) es ts ls (v .pieces) (l .segment) i,
+            v .pieces .piece 0 k .spans .ahead,
+            leap-known v .cap,
+          ),
         )
 
-    pub swap-place : {us : List ℕ} → Lowered (l .count) to ls us → to < length us
-    swap-place m = omega (arith, to-in, m .size, v .pieces .lows)
+    pub swap-place : {us : List ℕ} → Lowered (l .count) to ls us → (to ≤ l .segment) × (l .segment < length us)
+    swap-place m = (z .by, omega (arith, v .later, m .size, v .pieces .lows))
 
     -- WHAT THE PASS GOES BY
     pub swap-chained : {us : List ℕ} → Lowered (l .count) to ls us → Chained t es ts us to (l .segment)
@@ -289,19 +288,20 @@ module _ {t : List ℕ} {h : Head} {es ts ls : List ℕ} {l : Lead} (w : Leaps-r
           })
           (all-in Tail-fine y (round-in t .rows) (q .size .tails) y-in)
 
-      module _ {x : List ℕ} (k : x ≡ sets u (row-at j + 6) (low 4 (getD us to 0))) where
+      module _ {x : List ℕ} {mw : ℕ} (k : x ≡ sets u (row-at j + 6) (low 4 mw)) (km : mw ≡ getD us to 0) where
         swap-stood : Stood t h ys x
         swap-stood =
             let i = w .row in
             stood t h ys x (v .ready) fits
             (k
+            ∙ ap (λ (o : ℕ). sets u (row-at j + 6) (low 4 o)) km
             ∙ ap₂ (λ (n : ℕ) (bs : List ℕ). sets bs (row-at n + 6) (low 4 mk)) (other-row jo) (s .bytes)
             ∙ sym (table-weight (round-in t) xs 1 i (rising-moves (round-in t) 1 (round-in t .next) eo (s .links) (round-in t .rows) (f .rising))
             (omega (arith, w .below, xs-long)) mk)
             ∙ ap (λ (o : Row). table (having (round-in t) (changed (o .ticket) (row (o .ticket) (o .due) mk (o .tail)) xs))) y-there)
 
         -- no more rows are due now
-        swap-due : {n : ℕ} → Due-now t n → Due-now x n
+        pub swap-due : {n : ℕ} → Due-now t n → Due-now x n
         unfolding row
         swap-due {n} q =
             let o = own-spans v in
@@ -313,8 +313,8 @@ module _ {t : List ℕ} {h : Head} {es ts ls : List ℕ} {l : Lead} (w : Leaps-r
               late-moves (round-in t) f rs c (suc (round-in t .slot)) eo g (omega (arith, own-later v, o .by)) (s .links) (round-in t .rows) (s .chain),
             ))
 
-        pub swap-closes : {o : ℕ} → o ≡ l .key % 1024 → {n : ℕ} → Due-now t n → Closes x h n o
-        swap-closes q d1 = let p = leap-used v q in (swap-stood .sound, swap-stood .head, omega (arith, p), swap-due d1)
+        pub swap-good : (table-refusal x ≡ 0) × Head-of x h
+        swap-good = (swap-stood .sound, swap-stood .head)
 
         pub swap-says : {o : ℕ} → o ≡ l .key % 1024 → {wt : Went} → Went-of (at (round-in t) o) true wt → {n : List ℕ} → n ≡ closed-up (gone-ticket x o) x →
             Sent-says t n wt

@@ -1,18 +1,17 @@
 -- What leaves a table in between: the ticket that goes, and the rows due now.
-use mathlib.Core.Path.{_≡_, refl, sym, ap, ap₂, _∙_, subst}
+use mathlib.Core.Path.{_≡_, refl, sym, ap, _∙_}
 use mathlib.Core.Logic.{inl, inr}
 use mathlib.Core.List.{List, [], _∷_}
-use Prim.Native.Nat.{ℕ, zero, suc, _+_, _≤_, _<_}
+use Prim.Native.Nat.{ℕ, zero, suc, _≤_, _<_}
 use native.Mathlib.Omega.{arith}
 use borrow.Author.Tests.{lt-ltb, le-ltb}
-use lib.ListN.{length, getD}
+use lib.ListN.{getD}
 use Rattle.rules.specs.Rows.{Row, Round, round, row, blank, In}
 use Rattle.rules.specs.Plan.{plan, tight-after}
 use Rattle.rules.specs.Steps.{changed}
-use Rattle.rules.specs.Conditions.{used-in, ticket-in}
+use Rattle.rules.specs.Conditions.{used-in}
 use Rattle.rules.specs.Table.{round-in}
 use Rattle.theory.specs.Tests.{eqb?}
-use Rattle.theory.specs.Sum.{sum}
 use Rattle.theory.specs.Feas.{below, num, below?, below-yes, below-late}
 use Rattle.theory.specs.Full.{Fine, Rising}
 use Rattle.theory.specs.Change.{changed-sum, rising-first}
@@ -21,10 +20,9 @@ use Rattle.theory.specs.Chain.{Linked, shifted-to-end, moves, link-end}
 use Rattle.theory.specs.Leaping.{moved-ticket}
 use Rattle.round.specs.Head.{Head-of}
 use Rattle.sorts.specs.declared.Round.{Round as Head}
-use Rattle.round.specs.Rows.{Ready, at}
+use Rattle.round.specs.Rows.{at}
 use Rattle.round.proofs.ReadLaws.{at-held}
 use Rattle.closing.specs.Close.{Due-now, gone-ticket}
-use Rattle.step.specs.Chain.{having}
 use Rattle.step.proofs.StandLaws.{Stood}
 
 -- TICKETS stay where rows change

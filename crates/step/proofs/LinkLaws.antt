@@ -1,5 +1,5 @@
 -- A link moved and a segment passed, as the code does it.
-use mathlib.Core.Path.{_≡_, refl}
+use mathlib.Core.Path.{_≡_}
 use mathlib.Core.List.{List, _++_}
 use Prim.Native.Nat.{ℕ, _+_, _-_, _/_, _%_, _≤_, _<_, max, min}
 use native.Mathlib.Omega.{arith}

@@ -1,5 +1,5 @@
 -- Marks: the least from the first segment on, and that these are the plan's.
-use mathlib.Core.Path.{_≡_, refl, sym, ap, _∙_, subst}
+use mathlib.Core.Path.{_≡_, refl, sym, ap, _∙_}
 use mathlib.Core.Logic.{inl, inr, _≢_}
 use mathlib.Core.List.{List}
 use Prim.Native.Nat.{ℕ, zero, suc, _+_, _-_, _≤_, _<_, min}
@@ -11,9 +11,8 @@ use Rattle.rules.specs.Rows.{Round}
 use Rattle.rules.specs.Plan.{mark}
 use Rattle.theory.specs.Tests.{eqb?}
 use Rattle.theory.specs.Full.{Fine}
-use Rattle.picture.specs.Picture.{Spans}
 use Rattle.picture.specs.LeapMarks.{mark-first, mark-next}
-use Rattle.step.specs.Chain.{Piece, Pieces, start-of, Lies-in, Lowered, Marked}
+use Rattle.step.specs.Chain.{Pieces, start-of, Lies-in, Lowered, Marked}
 
 -- A PASS with segment k next
 pub record Lowering (n to : ℕ) (ls us : List ℕ) (k : ℕ) : Type 0 where

@@ -9,7 +9,7 @@ use borrow.Author.Tests.{ne-eqb}
 use lib.ListN.{length, getD, replicate}
 use lib.Seq.{sets}
 use Rattle.rules.specs.Limits.{head-size, row-size, due-at, weight-at, slot-bytes, wide-bytes}
-use Rattle.rules.specs.Rows.{Row, Round, round, row, blank, All}
+use Rattle.rules.specs.Rows.{Row, Round, round, blank, All}
 use Rattle.rules.specs.Plan.{plan, tight-after}
 use Rattle.rules.specs.Steps.{set-to, kept-at, changed}
 use Rattle.rules.specs.Conditions.{row-at}

@@ -1,11 +1,10 @@
 -- From the plan's segments and the heaviest far row: who goes, and how.
-use mathlib.Core.Path.{_≡_, refl, sym, ap, _∙_, subst}
+use mathlib.Core.Path.{_≡_, sym, ap, _∙_, subst}
 use mathlib.Core.Logic.{inl, inr, _≢_}
 use mathlib.Core.Bool.{true, false}
 use mathlib.Core.List.{List, [], _∷_}
 use Prim.Native.Nat.{ℕ, suc, _+_, _-_, _*_, _/_, _%_, _≤_, _<_}
 use native.Mathlib.Omega.{arith}
-use borrow.Author.Tests.{eq-eqb, ne-eqb}
 use lib.ListN.{length, getD}
 use Rattle.rules.specs.Rows.{Row, Round, blank, In}
 use Rattle.rules.specs.Plan.{plan, planned, best}
@@ -14,29 +13,27 @@ use Rattle.rules.specs.Table.{round-in}
 use Rattle.theory.specs.Tests.{eqb?}
 use Rattle.theory.specs.All.{blank-weight}
 use Rattle.theory.specs.Order.{Not-over, heavier-no}
-use Rattle.theory.specs.Full.{Fine}
 use Rattle.theory.specs.Change.{rising-same}
 use Rattle.theory.specs.Index.{each-row}
 use Rattle.theory.specs.Keys.{getD-in}
 use Rattle.theory.specs.Members.{Rows-of-plan, planned-rows, of-rows-in, of-rows-fine, in-plan-is}
-use Rattle.theory.specs.Near.{Near, near-out}
+use Rattle.theory.specs.Near.{near-out}
 use Rattle.theory.specs.Same.{in-plan?}
-use Rattle.picture.specs.Picture.{Segment, Spans, Heaviest, Lightest, Within, Among}
+use Rattle.picture.specs.Picture.{Segment, Heaviest, Among}
 use Rattle.picture.specs.Far.{Far}
 use Rattle.picture.specs.Near.{member-near}
-use Rattle.picture.specs.Own.{Right-own, Drawn-own}
+use Rattle.picture.specs.Own.{Drawn-own}
 use Rattle.picture.specs.OwnPick.{own-long, numbered-among}
 use Rattle.picture.specs.LeapSends.{afar-sends, ordinary-sends}
 use Rattle.sorts.specs.declared.Round.{Round as Head}
-use Rattle.round.specs.Rows.{Ready, at}
+use Rattle.round.specs.Rows.{at}
 use Rattle.round.proofs.ReadLaws.{Known, known}
-use Rattle.keys.specs.Key.{blank-key, key-at}
 use Rattle.keys.specs.KeyLaws.{row-fine, weight-is, row-is, some-key, greater-key}
-use Rattle.segments.specs.Segmented.{Keyed, Stored}
+use Rattle.segments.specs.Segmented.{Stored}
 use Rattle.segments.specs.declared.Lead.{Lead}
-use Rattle.segments.proofs.SegmentedLaws.{Numbered-at, segment-at, count-some, lead-below, lead-right, lead-first, lead-later, lead-end, lead-out, lead-goes, far-goes}
+use Rattle.segments.proofs.SegmentedLaws.{segment-at, count-some, lead-below, lead-right, lead-first, lead-later, lead-end, lead-out, lead-goes, far-goes}
 use Rattle.step.specs.Chain.{start-of, Piece, Pieces}
-use Rattle.step.specs.Send.{Leaves-alone, Leaps, Leaps-blank, Leaps-row, Far-row, Far-first, Planned-step}
+use Rattle.step.specs.Send.{Leaves-alone, Leaps, Leaps-blank, Leaps-row, Planned-step}
 use Rattle.step.proofs.MarkLaws.{start-first, start-later}
 
 -- segments end before z, the last of them just there
@@ -165,9 +162,6 @@ module _ {t : List ℕ} {h : Head} {es ts ls : List ℕ} {far : ℕ} {l : Lead} 
           let u : at r m .weight ≤ 16777217 - far / 16777216 = omega (arith, w .first-far .least m b o, wt) in
           omega (arith, u, e, d))
           y (of-rows-in r (n .fine) rs c y (k .of .0)) (k .of .1))
-
-      the-row : ℕ
-      the-row = w .segments .leader .key .row
 
       row-goes : best r (plan r) ≡ at r (w .segments .leader .key .row)
       row-goes = goes ∙ w .segments .leader .key .is

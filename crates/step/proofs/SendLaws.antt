@@ -1,10 +1,10 @@
 -- Silence, a row that leaves alone, and a blank kept in a row.
-use mathlib.Core.Path.{_≡_, refl, sym, ap, ap₂, _∙_, subst}
+use mathlib.Core.Path.{_≡_, refl, sym, ap, _∙_}
 use mathlib.Core.Bool.{Bool, true, false}
 use mathlib.Core.List.{List, [], _∷_, _++_}
-use Prim.Native.Nat.{ℕ, zero, suc, _+_, _≤_, _<_}
+use Prim.Native.Nat.{ℕ, suc, _+_, _≤_, _<_}
 use native.Mathlib.Omega.{arith}
-use lib.ListN.{length, getD}
+use lib.ListN.{length}
 use lib.Seq.{sets}
 use Rattle.rules.specs.Rows.{Row, Round, row, blank}
 use Rattle.rules.specs.Plan.{planned}
@@ -16,7 +16,7 @@ use Rattle.theory.specs.Feas.{num}
 use Rattle.theory.specs.Close.{closed, after-slot}
 use Rattle.theory.specs.Members.{planned-rows}
 use Rattle.theory.specs.Sane.{sound}
-use Rattle.theory.specs.Whole.{Sends, sends-silence}
+use Rattle.theory.specs.Whole.{sends-silence}
 use Rattle.sorts.specs.declared.Round.{Round as Head}
 use Rattle.round.specs.Head.{Head-of}
 use Rattle.round.specs.Rows.{Ready, at}
@@ -63,9 +63,6 @@ module _ {t : List ℕ} {h : Head} (k : Ready t h) (e : h .used ≡ 0) where
 
 -- ALONE
 module _ {t : List ℕ} {h : Head} {leaps : Bool} {j : ℕ} (a : Leaves-alone t h leaps j) where
-  pub alone-closes : {n : ℕ} → Due-now t n → Closes t h n j
-  alone-closes d = (a .ready .sound, a .ready .head, omega (arith, a .below), d)
-
   pub alone-says : {v : List ℕ} {w : Went} → Went-of (at (round-in t) j) leaps w → v ≡ closed-up (gone-ticket t j) t → Sent-says t v w
   alone-says {v} {w} d q =
       let r = round-in t in
@@ -101,14 +98,14 @@ module _ {t : List ℕ} {h : Head} {j b m : ℕ} (a : Keeps-blank t h j b m) whe
         ∙ ap (λ (bs : List ℕ). sets bs (row-at j + 4) ((low 2 b ++ low 4 m) ++ (1 ∷ []))) (self-table t (a .ready .sound))
         ∙ sym (table-kept r (r .rows) 1 j (z .fine .rising) there b m))
 
-    pub kept-closes : {n : ℕ} → Due-now t n → Closes u h n (h .used)
+    pub kept-good : (table-refusal u ≡ 0) × Head-of u h
+    kept-good = (kept-stood .sound, kept-stood .head)
+
+    -- no more rows are due now
+    pub kept-due : {n : ℕ} → Due-now t n → Due-now u n
     unfolding row
-    kept-closes {n} q = (
-      kept-stood .sound,
-      kept-stood .head,
-      omega arith,
-      due-stood t h ys u kept-stood n q (late-changed (suc (r .slot)) (at r j .ticket) (kept-at b m (at r j)) (omega (arith, a .later)) (r .rows)),
-    )
+    kept-due {n} q =
+        due-stood t h ys u kept-stood n q (late-changed (suc (r .slot)) (at r j .ticket) (kept-at b m (at r j)) (omega (arith, a .later)) (r .rows))
 
     pub kept-says : {v : List ℕ} {w : Went} → Went-of (at r j) true w → v ≡ closed-up (gone-ticket u (h .used)) u → Sent-says t v w
     kept-says {v} {w} g s =

@@ -1,14 +1,13 @@
 -- The pass back, as the code makes it on a sound table.
-use mathlib.Core.Path.{_≡_, refl, sym, ap, _∙_, subst}
+use mathlib.Core.Path.{_≡_, sym, ap, _∙_, subst}
 use mathlib.Core.Logic.{inl, inr, _≢_}
 use mathlib.Core.List.{List, []}
-use Prim.Native.Nat.{ℕ, suc, _+_, _*_, _≤_, _<_, min}
+use Prim.Native.Nat.{ℕ, suc, _+_, _≤_, _<_, min}
 use native.Mathlib.Omega.{arith}
 use lib.ListN.{length, getD}
 use Rattle.rules.specs.Rows.{Round, round}
-use Rattle.rules.specs.Limits.{head-size, row-size}
 use Rattle.rules.specs.Plan.{mark}
-use Rattle.rules.specs.Table.{table, round-in}
+use Rattle.rules.specs.Table.{round-in}
 use Rattle.theory.specs.Tests.{leb?}
 use Rattle.theory.specs.Back.{length-table}
 use Rattle.theory.specs.Chain.{moves}

@@ -1,6 +1,6 @@
 // A leap's marks and shifts, by segments numbered from the back: 0 is the last, and a larger number is an earlier one.
 ghost use mathlib.Core.Path.{_≡_};
-ghost use Prim.Native.Nat.{suc, _≤_, _<_, min, max, _-_, _/_};
+ghost use Prim.Native.Nat.{_≤_, _<_, min, max, _-_, _/_};
 ghost use lib.ListN.{length, getD};
 ghost use Rattle.rules.specs.Table.{round-in};
 ghost use Rattle.step.specs.Chain.{Lies-in, Lowered, Named, linked, passed, Chained, Shifts};

@@ -117,13 +117,15 @@ fn send_swapped(
     requires { ⌜ Leaps-row (now table) round (now ends) (now tops) (now lows) lead × Due-now (now table) expiring ⌝ }
     ensures { λ r. ⌜ Sent-says (now (table .entry)) (now (table .exit)) r ⌝ }
 {
-    let row = row_of(lead.key);
-    let went = went_of(table, round, row, true);
-    let to = segment_by(ends, lead.segment, due_of(lead.other));
+    let sent = row_of(lead.key);
+    let went = went_of(table, round, sent, true);
+    let own = lead.segment;
+    let to = segment_by(ends, own, due_of(lead.other));
     lower_marks(lows, lead.count, to);
-    shift_chain(table, ends, tops, lows, to, lead.segment);
-    write_weight(table, row_of(lead.other), Weight(lows[to]));
-    close_up(table, round, expiring, row);
+    shift_chain(table, ends, tops, lows, to, own);
+    let mark = lows[to];
+    write_weight(table, row_of(lead.other), Weight(mark));
+    close_up(table, round, expiring, sent);
     went
 }
 

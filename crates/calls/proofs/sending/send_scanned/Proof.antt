@@ -18,24 +18,27 @@ enum-known-round c = search needs
 
 send-in-requires : tie.Need-send-in-requires
 send-in-requires c κs =
-    let s = c .before .before .before .before .before .before .before .before .before .before in
-    subst (Scan-says (s .args .table .now) (c .before .before .before .before .before .before .scan .last .1 .0)) (c .before .before .round .given .1)
-    (c .before .before .before .before .before .before .scan .ensures)
+    let s = c .before .before .before .before .before .before .before .before .before .before .before .before in
+    subst (Scan-says (s .args .table .now) (c .before .before .before .before .before .before .before .scan .last .1 .0)) (c .before .before .before .round .given .1) (c .before .before .before .before .before .before .before .scan .ensures)
 
 same-length : tie.Need-same-length
 same-length c = search needs
 
-returns : tie.Need-returns
-returns c =
-    let s = c .before .before .before .before .before .before .before .before .before in
-    let t = s .args .table .now in
-    let h = subst (Scan-says t (c .before .before .before .before .before .scan .last .1 .0)) (c .before .n .given .1)
-    (c .before .before .before .before .before .scan .ensures) in
-    says-refused (acting sending) t _
-    (by-table (acting sending) t _ (act-judges sending) (h .0) (h .1)) (h .1)
-
 same-length-2 : tie.Need-same-length-2
 same-length-2 c = search needs
+
+returns : tie.Need-returns
+returns c =
+    let s = c .before .before .before .before .before .before .before .before .before .before in
+    let t = s .args .table .now in
+    let h = subst (Scan-says t (c .before .before .before .before .before .scan .last .1 .0)) (c .before .n .given .1) (c .before .before .before .before .before .scan .ensures) in
+    says-refused (acting sending) t _ (by-table (acting sending) t _ (act-judges sending) (h .0) (h .1)) (h .1)
+
+same-length-3 : tie.Need-same-length-3
+same-length-3 c = search needs
+
+same-length-4 : tie.Need-same-length-4
+same-length-4 c = search needs
 
 returns-2 : tie.Need-returns-2
 returns-2 c = search needs
@@ -49,6 +52,8 @@ send-scanned-spec =
     enum-known-round
     send-in-requires
     same-length
-    returns
     same-length-2
+    returns
+    same-length-3
+    same-length-4
     returns-2)

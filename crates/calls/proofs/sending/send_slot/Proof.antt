@@ -9,7 +9,7 @@ slice-aggregate-send-scanned : tie.Need-slice-aggregate-send-scanned
 slice-aggregate-send-scanned c = search needs
 
 send-scanned-requires : tie.Need-send-scanned-requires
-send-scanned-requires c κs = let s = c .before .before .before in few-places (s .args .table .now) (omega arith)
+send-scanned-requires c κs = let s = c .before .before .before .before in few-places (s .args .table .now) (omega arith)
 
 returns : tie.Need-returns
 returns c = search needs
@@ -18,7 +18,7 @@ slice-aggregate-send-scanned-2 : tie.Need-slice-aggregate-send-scanned-2
 slice-aggregate-send-scanned-2 c = search needs
 
 send-scanned-requires-2 : tie.Need-send-scanned-requires-2
-send-scanned-requires-2 c κs = let s = c .before .before .before in many-places (s .args .table .now)
+send-scanned-requires-2 c κs = let s = c .before .before .before .before in many-places (s .args .table .now)
 
 returns-2 : tie.Need-returns-2
 returns-2 c = search needs

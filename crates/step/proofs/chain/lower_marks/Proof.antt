@@ -1,6 +1,5 @@
 -- `step::chain::lower_marks` meets its contract.
 use borrow.Author.Needs.{needs}
-use native.Mathlib.Omega.{arith}
 use Rattle.step.proofs.MarkLaws.{Lowering, lowering-start, lowering-step, lowering-end}
 use Rattle.step.proofs.chain.lower_marks.Statement.{statement}
 use Rattle.step.proofs.chain.lower_marks.Tie as tie

@@ -1,6 +1,5 @@
 -- `step::chain::segment_by` meets its contract.
 use borrow.Author.Needs.{needs}
-use native.Mathlib.Omega.{arith}
 use Rattle.step.proofs.MarkLaws.{Walking, walk-start, walk-some, walk-step, walk-end}
 use Rattle.step.proofs.chain.segment_by.Statement.{statement}
 use Rattle.step.proofs.chain.segment_by.Tie as tie

@@ -1,9 +1,8 @@
 -- `step::chain::shift_chain` meets its contract.
 use borrow.Author.Needs.{needs}
 use Prim.Native.Nat.{_-_}
-use native.Mathlib.Omega.{arith}
 use Rattle.rules.specs.Table.{round-in}
-use Rattle.step.proofs.ShiftLaws.{Linking, places, shift-none, shift-start, shift-named, shift-long, shift-fair, shift-again, shift-end}
+use Rattle.step.proofs.ShiftLaws.{Linking, shift-none, shift-start, shift-named, shift-long, shift-fair, shift-again, shift-end}
 use Rattle.step.proofs.chain.shift_chain.Statement.{statement}
 use Rattle.step.proofs.chain.shift_chain.Tie as tie
 
@@ -57,7 +56,8 @@ shift-link-requires c κs = search (shift-named, needs)
 
 same-length : tie.Need-same-length Inv-loop μ-loop
 same-length c =
-    let e = shift-long (c .before .before .before .before .before .before .before .before .before .before .before .before .before .before .pre) (c .before .before .before .before .before .before .before .loop .inv) in
+    let e = shift-long (c .before .before .before .before .before .before .before .before .before .before .before .before .before .before .pre)
+    (c .before .before .before .before .before .before .before .loop .inv) in
     search needs
 
 returns-2 : tie.Need-returns-2 Inv-loop μ-loop

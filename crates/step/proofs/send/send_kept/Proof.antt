@@ -1,6 +1,6 @@
 -- `step::send::send_kept` meets its contract.
 use borrow.Author.Needs.{needs}
-use Rattle.step.proofs.SendLaws.{kept-there, kept-closes, kept-says}
+use Rattle.step.proofs.SendLaws.{kept-there, kept-good, kept-due, kept-says}
 use Rattle.step.proofs.send.send_kept.Statement.{statement}
 use Rattle.step.proofs.send.send_kept.Tie as tie
 
@@ -11,7 +11,11 @@ write-kept-requires : tie.Need-write-kept-requires
 write-kept-requires c κs = search (kept-there, needs)
 
 close-up-requires : tie.Need-close-up-requires
-close-up-requires c κs = kept-closes (c .before .before .before .before .before .before .before .before .pre .0) (c .before .before .before .write-kept .ensures) (c .before .before .before .before .before .before .before .before .pre .1)
+close-up-requires c κs =
+    let written = c .before .before .before in
+    let entry = written .before .before .before .before .before in
+    let good = kept-good (entry .pre .0) (written .write-kept .ensures) in
+    (good .0, good .1, search needs, kept-due (entry .pre .0) (written .write-kept .ensures) (entry .pre .1))
 
 same-length : tie.Need-same-length
 same-length c = search needs

@@ -1,6 +1,6 @@
 -- `step::send::send_swapped` meets its contract.
 use borrow.Author.Needs.{needs}
-use Rattle.step.proofs.LeapLaws.{leap-used, swap-own, swap-near, swap-chained, swap-low, swap-place, swap-small, swap-there, swap-closes, swap-says}
+use Rattle.step.proofs.LeapLaws.{leap-used, swap-own, swap-near, swap-chained, swap-low, swap-place, swap-small, swap-there, swap-good, swap-due, swap-says}
 use Rattle.step.proofs.send.send_swapped.Statement.{statement}
 use Rattle.step.proofs.send.send_swapped.Tie as tie
 
@@ -22,23 +22,28 @@ lower-marks-requires c κs = search needs
 shift-chain-requires : tie.Need-shift-chain-requires
 shift-chain-requires c κs = search (swap-chained, needs)
 
-row-of-requires-2 : tie.Need-row-of-requires-2
-row-of-requires-2 c κs = search needs
-
-mul-t24 : tie.Need-mul-t24
-mul-t24 c =
-    let marked = c .before .before .before .before .before .before .before .before .before in
+mul-mark : tie.Need-mul-mark
+mul-mark c =
+    let marked = c .before .before .before .before .before .before .before in
     let walked = marked .before .before in
     let h = swap-low (walked .before .before .before .before .before .before .before .before .before .pre .0) (walked .before .due-of .ensures)
     (walked .segment-by .ensures) in
+    let to-by = h .0 in
+    let own-fits = h .1 in
     search needs
 
-slice-read-t13 : tie.Need-slice-read-t13
-slice-read-t13 c =
-    let marked = c .before .before .before .before .before .before .before .before .before .before in
+slice-read-mark : tie.Need-slice-read-mark
+slice-read-mark c =
+    let marked = c .before .before .before .before .before .before .before .before in
     let walked = marked .before .before in
-    let h = swap-place (walked .before .before .before .before .before .before .before .before .before .pre .0) (walked .before .due-of .ensures) (walked .segment-by .ensures) (marked .lower-marks .ensures) in
+    let h = swap-place (walked .before .before .before .before .before .before .before .before .before .pre .0) (walked .before .due-of .ensures)
+    (walked .segment-by .ensures) (marked .lower-marks .ensures) in
+    let to-by = h .0 in
+    let own-fits = h .1 in
     search needs
+
+row-of-requires-2 : tie.Need-row-of-requires-2
+row-of-requires-2 c κs = search needs
 
 write-weight-requires : tie.Need-write-weight-requires
 write-weight-requires c κs = search (swap-small, swap-there, needs)
@@ -46,14 +51,21 @@ write-weight-requires c κs = search (swap-small, swap-there, needs)
 close-up-requires : tie.Need-close-up-requires
 close-up-requires c κs =
     let written = c .before .before .before in
-    let named = written .before .before in
-    let shifted = named .before .before .before .before in
+    let named = written .before in
+    let shifted = named .before .before .before .before .before in
     let marked = shifted .before .before .before .before .before in
     let walked = marked .before .before in
     let entry = walked .before .before .before .before .before .before .before .before .before in
-    swap-closes (entry .pre .0) (walked .before .due-of .ensures) (walked .segment-by .ensures) (marked .lower-marks .ensures)
-    (shifted .shift-chain .ensures) (named .row-of2 .ensures) (written .write-weight .ensures) (walked .before .before .before .before .row-of .ensures)
-    (entry .pre .1)
+    let good =
+    swap-good (entry .pre .0) (walked .before .due-of .ensures) (walked .segment-by .ensures) (marked .lower-marks .ensures)
+    (shifted .shift-chain .ensures) (named .row-of2 .ensures) (written .write-weight .ensures) (search needs) in
+    let used = leap-used (entry .pre .0 .leaps) (walked .before .before .before .before .row-of .ensures) in (
+      good .0,
+      good .1,
+      search needs,
+      swap-due (entry .pre .0) (walked .before .due-of .ensures) (walked .segment-by .ensures) (marked .lower-marks .ensures)
+          (shifted .shift-chain .ensures) (named .row-of2 .ensures) (written .write-weight .ensures) (search needs) (entry .pre .1),
+    )
 
 same-length : tie.Need-same-length
 same-length c = search needs
@@ -64,15 +76,14 @@ same-length-2 c = search needs
 returns : tie.Need-returns
 returns c =
     let written = c .before .before .before .before .before .before in
-    let named = written .before .before in
-    let shifted = named .before .before .before .before in
+    let named = written .before in
+    let shifted = named .before .before .before .before .before in
     let marked = shifted .before .before .before .before .before in
     let walked = marked .before .before in
-    let went = walked .before .before in
     let entry = walked .before .before .before .before .before .before .before .before .before in
     swap-says (entry .pre .0) (walked .before .due-of .ensures) (walked .segment-by .ensures) (marked .lower-marks .ensures)
-    (shifted .shift-chain .ensures) (named .row-of2 .ensures) (written .write-weight .ensures) (went .before .before .row-of .ensures)
-    (went .went-of .ensures) (c .before .before .close-up .ensures)
+    (shifted .shift-chain .ensures) (named .row-of2 .ensures) (written .write-weight .ensures) (search needs)
+    (walked .before .before .before .before .row-of .ensures) (walked .before .before .went-of .ensures) (c .before .before .close-up .ensures)
 
 pub send-swapped-spec : {M : Type 1} → statement M
 send-swapped-spec =
@@ -84,9 +95,9 @@ send-swapped-spec =
     segment-by-requires
     lower-marks-requires
     shift-chain-requires
+    mul-mark
+    slice-read-mark
     row-of-requires-2
-    mul-t24
-    slice-read-t13
     write-weight-requires
     close-up-requires
     same-length

@@ -11,6 +11,9 @@ slice-aggregate-send-scanned c = search needs
 send-scanned-requires : tie.Need-send-scanned-requires
 send-scanned-requires c κs = let s = c .before .before .before .before in few-places (s .args .table .now) (omega arith)
 
+same-length : tie.Need-same-length
+same-length c = search needs
+
 returns : tie.Need-returns
 returns c = search needs
 
@@ -19,6 +22,9 @@ slice-aggregate-send-scanned-2 c = search needs
 
 send-scanned-requires-2 : tie.Need-send-scanned-requires-2
 send-scanned-requires-2 c κs = let s = c .before .before .before .before in many-places (s .args .table .now)
+
+same-length-2 : tie.Need-same-length-2
+same-length-2 c = search needs
 
 returns-2 : tie.Need-returns-2
 returns-2 c = search needs
@@ -29,7 +35,9 @@ send-slot-spec =
     (tie.spec
     slice-aggregate-send-scanned
     send-scanned-requires
+    same-length
     returns
     slice-aggregate-send-scanned-2
     send-scanned-requires-2
+    same-length-2
     returns-2)

@@ -166,8 +166,8 @@ module _ (t cs : List ℕ) (h : Head) (x : Reach) (w : Whole t cs h x) where
         let u : j ≡ c .row = p ∙ ap (λ (v : ℕ). v % 1024) (sym (c .is)) ∙ row-is rd f (o .small) (o .cap) (c .row) (c .below) in (
           omega (arith, u, c .below),
           first-row rd f (rd .rows) rows-all (o .time) (at rd i) (found-member rd f (rd .rows) rows-all (at rd i) (getD-in (rd .rows) (blank 0) i there))
-          (omega (arith, z, within .1)) (at rd (c .row)) (getD-in (rd .rows) (blank 0) (c .row) (c .below)) (omega (arith, z, c .by, q, o .slot))
-          (each-row (λ y. y .due ≤ first-end rd (plan rd) → heavier (at rd (c .row)) y ≡ false) (blank 0) (rd .rows)
-          (λ v s r. greater-key rd f (o .small) (o .cap) (c .row) v (c .below) s (omega (arith, c .is, m .most v s (omega (arith, r, z, q, o .slot))))))
-          ∙ ap (at rd) (sym u),
+              (omega (arith, z, within .1)) (at rd (c .row)) (getD-in (rd .rows) (blank 0) (c .row) (c .below)) (omega (arith, z, c .by, q, o .slot))
+              (each-row (λ y. y .due ≤ first-end rd (plan rd) → heavier (at rd (c .row)) y ≡ false) (blank 0) (rd .rows)
+              (λ v s r. greater-key rd f (o .small) (o .cap) (c .row) v (c .below) s (omega (arith, c .is, m .most v s (omega (arith, r, z, q, o .slot))))))
+              ∙ ap (at rd) (sym u),
         )

@@ -172,12 +172,12 @@ module _ (r : Round) (ks fs : List ℕ) (many slot n asked : ℕ) (a : Asked r k
         let u : j ≡ w .row = p ∙ ap (λ (v : ℕ). v % 1024) (sym (w .low)) ∙ row-is r (g .fine) (g .small) (g .cap) (w .row) (w .there) in (
           omega (arith, u, w .there),
           first-row r (g .fine) (with-flag r fs) c (g .time) (at r i)
-          (found-member r (g .fine) (with-flag r fs) c (at r i) (kept-in r ks fs many slot n g i h on)) (omega (arith, z, d, w .by))
-          (at r (w .row)) (kept-in r ks fs many slot n g (w .row) (w .there) (w .kept)) (omega (arith, z, w .due))
-          (each-chosen (λ y. y .due ≤ first-end r (plan r) → heavier (at r (w .row)) y ≡ false) (blank 0) (raised fs) (r .rows)
-          (λ v l b t. greater-key r (g .fine) (g .small) (g .cap) (w .row) v (w .there) l
-          (omega (arith, w .low, w .most v l (flag-kept r ks fs many slot n g v l b) (omega (arith, t, z))))))
-          ∙ ap (at r) (sym u),
+              (found-member r (g .fine) (with-flag r fs) c (at r i) (kept-in r ks fs many slot n g i h on)) (omega (arith, z, d, w .by))
+              (at r (w .row)) (kept-in r ks fs many slot n g (w .row) (w .there) (w .kept)) (omega (arith, z, w .due))
+              (each-chosen (λ y. y .due ≤ first-end r (plan r) → heavier (at r (w .row)) y ≡ false) (blank 0) (raised fs) (r .rows)
+              (λ v l b t. greater-key r (g .fine) (g .small) (g .cap) (w .row) v (w .there) l
+              (omega (arith, w .low, w .most v l (flag-kept r ks fs many slot n g v l b) (omega (arith, t, z))))))
+              ∙ ap (at r) (sym u),
         )
 
     -- of a later one
@@ -192,12 +192,12 @@ module _ (r : Round) (ks fs : List ℕ) (many slot n asked : ℕ) (a : Asked r k
           let u : j ≡ s .row = p ∙ ap (λ (v : ℕ). v % 1024) (sym (s .is)) ∙ row-is r (g .fine) (g .small) (g .cap) (s .row) (s .there) in (
             omega (arith, u, s .there),
             segment-row r (g .fine) (g .time) (with-flag r fs) (plan-rows r ks fs many slot n g) (r .slot + n) (g .near) (x .first) (w .end) (w .near)
-            (w .segment) after-first (at r i) (omega (arith, d, w .from)) (omega (arith, d, w .by)) (at r (s .row))
-            (getD-in (r .rows) (blank 0) (s .row) (s .there)) (flag-out r ks fs many slot n g (s .row) (s .there) (s .out)) (s .due)
-            (each-row (λ y. in-plan y (with-flag r fs) ≡ false → x .first ≤ y .due → heavier y (at r (s .row)) ≡ false) (blank 0) (r .rows)
-            (λ v l f t. greater-key r (g .fine) (g .small) (g .cap) v (s .row) l (s .there)
-            (omega (arith, s .is, b .least v l (out-flag r ks fs many slot n g v l f) t))))
-            ∙ ap (at r) (sym u),
+                (w .segment) after-first (at r i) (omega (arith, d, w .from)) (omega (arith, d, w .by)) (at r (s .row))
+                (getD-in (r .rows) (blank 0) (s .row) (s .there)) (flag-out r ks fs many slot n g (s .row) (s .there) (s .out)) (s .due)
+                (each-row (λ y. in-plan y (with-flag r fs) ≡ false → x .first ≤ y .due → heavier y (at r (s .row)) ≡ false) (blank 0) (r .rows)
+                (λ v l f t. greater-key r (g .fine) (g .small) (g .cap) v (s .row) l (s .there)
+                (omega (arith, s .is, b .least v l (out-flag r ks fs many slot n g v l f) t))))
+                ∙ ap (at r) (sym u),
           )
 
       pub blank-left : k ≡ blank-key → Substitutes r i (Blank (x .first))

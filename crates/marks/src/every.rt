@@ -98,7 +98,11 @@ pub fn substitute_every(table: &[u8], counts: &[u32], round: Round, reach: Reach
     ensures { λ r. ⌜ Substitutes (round-in (now (table .entry))) row r ⌝ }
 {
     let current = round.slot.0;
-    let stretch = stretch_of(counts, reach.free, (due_at(table, round, row) - current) as usize);
+    let stretch = stretch_of(
+        counts,
+        reach.free,
+        (due_at(table, round, row) - current) as usize,
+    );
     if stretch.first != 0 {
         return Sub::Blank(current + stretch.first as u32);
     }

@@ -97,7 +97,13 @@ fn begin_of(counts: &[u16], mid: usize, top: usize) -> usize
 }
 
 // Counts are lent, all 0: two for each row, and two more.
-pub fn substitute_far(table: &[u8], counts: &mut [u16], round: Round, reach: Reach, row: usize) -> Sub
+pub fn substitute_far(
+    table: &[u8],
+    counts: &mut [u16],
+    round: Round,
+    reach: Reach,
+    row: usize,
+) -> Sub
     requires { ⌜ Far-row (now table) (now counts) round reach row ⌝ }
     ensures { λ r. ⌜ Substitutes (round-in (now (table .entry))) row r ⌝ }
 {

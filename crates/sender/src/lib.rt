@@ -46,7 +46,16 @@ fn send_led(
         heap,
         lows,
     );
-    send_planned(table, counts, heap, lows, round, planned.far, lead, expiring)
+    send_planned(
+        table,
+        counts,
+        heap,
+        lows,
+        round,
+        planned.far,
+        lead,
+        expiring,
+    )
 }
 
 // Some rows are left out.
@@ -80,7 +89,13 @@ fn send_crowded(
 }
 
 // The same in small arrays.
-fn send_few(table: &mut [u8], counts: &mut [u32], round: Round, reach: Reach, expiring: usize) -> Went
+fn send_few(
+    table: &mut [u8],
+    counts: &mut [u32],
+    round: Round,
+    reach: Reach,
+    expiring: usize,
+) -> Went
     requires { ⌜ Ready (now table) round × Counted (round-in (now table)) (now counts) × Reach-says (now counts) (head-top round) reach
         × (reach .over ≢ 0) × Due-now (now table) expiring × (round .used ≤ 32) ⌝ }
     ensures { λ r. ⌜ Sent-says (now (table .entry)) (now (table .exit)) r ⌝ }
@@ -104,7 +119,13 @@ fn send_few(table: &mut [u8], counts: &mut [u32], round: Round, reach: Reach, ex
 }
 
 // The same in large ones.
-fn send_many(table: &mut [u8], counts: &mut [u32], round: Round, reach: Reach, expiring: usize) -> Went
+fn send_many(
+    table: &mut [u8],
+    counts: &mut [u32],
+    round: Round,
+    reach: Reach,
+    expiring: usize,
+) -> Went
     requires { ⌜ Ready (now table) round × Counted (round-in (now table)) (now counts) × Reach-says (now counts) (head-top round) reach
         × (reach .over ≢ 0) × Due-now (now table) expiring × (round .used ≤ 1024) ⌝ }
     ensures { λ r. ⌜ Sent-says (now (table .entry)) (now (table .exit)) r ⌝ }

@@ -49,11 +49,11 @@ cast-waiting-2 c = omega (arith, back-few _ _ _ _ _ (c .before .before .before .
 
 add-waiting : tie.Need-add-waiting Inv-loop μ-loop Inv-loop2 μ-loop2
 add-waiting c = omega (
-      arith,
-      back-few _ _ _ _ _ (c .before .before .before .before .before .before .pre) (c .before .before .before .loop .inv .1),
-      wait-few _ _ _ _ _ (c .before .before .before .before .before .before .pre) (c .before .before .before .loop .inv .1),
-      c .before .less-one .ensures,
-    )
+  arith,
+  back-few _ _ _ _ _ (c .before .before .before .before .before .before .pre) (c .before .before .before .loop .inv .1),
+  wait-few _ _ _ _ _ (c .before .before .before .before .before .before .pre) (c .before .before .before .loop .inv .1),
+  c .before .less-one .ensures,
+)
 
 loop-less : tie.Need-loop-less Inv-loop μ-loop Inv-loop2 μ-loop2
 loop-less c = search needs
@@ -85,10 +85,10 @@ cast-waiting-3 c = omega (arith, back-few _ _ _ _ _ (c .before .before .before .
 
 add-waiting-2 : tie.Need-add-waiting-2 Inv-loop μ-loop Inv-loop2 μ-loop2
 add-waiting-2 c = omega (
-      arith,
-      back-few _ _ _ _ _ (c .before .before .before .before .before .before .before .pre) (c .before .before .loop2 .inv .wait),
-      wait-few _ _ _ _ _ (c .before .before .before .before .before .before .before .pre) (c .before .before .loop2 .inv .wait),
-    )
+  arith,
+  back-few _ _ _ _ _ (c .before .before .before .before .before .before .before .pre) (c .before .before .loop2 .inv .wait),
+  wait-few _ _ _ _ _ (c .before .before .before .before .before .before .before .pre) (c .before .before .loop2 .inv .wait),
+)
 
 loop2-less : tie.Need-loop2-less Inv-loop μ-loop Inv-loop2 μ-loop2
 loop2-less c = omega (arith, seek-on _ _ _ _ _ (c .before .before .before .before .before .before .before .pre) (c .before .loop2-test .taken) (c .before .before .loop2 .inv))

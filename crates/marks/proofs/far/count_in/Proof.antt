@@ -36,11 +36,11 @@ slice-read-counts c = omega (arith, c .before .bucket-in .ensures .1, c .before 
 
 add-counts : tie.Need-add-counts Inv-loop μ-loop
 add-counts c = omega (
-      arith,
-      c .before .before .before .before .loop .inv .1 .few (c .before .bucket-in .result),
-      row (c .before .before .before),
-      known _ _ (c .before .before .before .before .before .before .before .pre .0) .small,
-    )
+  arith,
+  c .before .before .before .before .loop .inv .1 .few (c .before .bucket-in .result),
+  row (c .before .before .before),
+  known _ _ (c .before .before .before .before .before .before .before .pre .0) .small,
+)
 
 mul-counts-2 : tie.Need-mul-counts-2 Inv-loop μ-loop
 mul-counts-2 c = omega (arith, c .before .bucket-in .ensures .1, c .before .before .before .before .before .before .before .pre .1)

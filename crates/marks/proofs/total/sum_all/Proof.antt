@@ -30,12 +30,12 @@ cast-sum c = search needs
 
 add-sum : tie.Need-add-sum Inv-loop μ-loop
 add-sum c = omega (
-      arith,
-      c .before .before .loop .inv .1 .most,
-      c .weight-at .ensures .most,
-      row (c .before),
-      known _ _ (c .before .before .before .before .pre) .small,
-    )
+  arith,
+  c .before .before .loop .inv .1 .most,
+  c .weight-at .ensures .most,
+  row (c .before),
+  known _ _ (c .before .before .before .before .pre) .small,
+)
 
 add-i : tie.Need-add-i Inv-loop μ-loop
 add-i c = search needs

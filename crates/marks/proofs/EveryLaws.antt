@@ -122,15 +122,15 @@ module _ (t cs : List ℕ) (h : Head) (x : Reach) (w : Whole t cs h x) where
   stretched = stretch-segment t h cs x (w .ready) (w .counted) (w .reaches) (w .none)
 
   -- THE MARK
-  pub mark-is : (s e : ℕ) (y : Stretch) → h .slot .0 ≤ s → Stretches cs (x .free) (s - h .slot .0) y → e ≡ h .slot .0 + y .last →
-      least-weight e (rd .rows) 16777216 ≡ mark rd s
-  mark-is s e y a g q =
+  pub mark-is : (s e m : ℕ) (y : Stretch) → h .slot .0 ≤ s → Stretches cs (x .free) (s - h .slot .0) y → m ≡ least-weight e (rd .rows) 16777216 →
+      e ≡ h .slot .0 + y .last → m ≡ mark rd s
+  mark-is s e v y a g c q =
       let k = known t h (w .ready) in
       let o : rd .slot + y .last ≡ e = omega (arith, q, k .slot) in
       let z = rd .slot + x .free in
       let m = segment-end rd fine (k .time) (rd .rows) rows-all z (w .reaches .near) (rd .slot + y .first) (rd .slot + y .last)
       (omega (arith, g .near)) (stretched (s - h .slot .0) y g) s (omega (arith, g .from, a, k .slot)) (omega (arith, g .by, a, k .slot)) in
-      sym (near-mark rd fine (rd .rows) rows-all z (w .reaches .near) s (omega (arith, a, k .slot)) (omega (arith, g .by, g .near, a, k .slot))
+      c ∙ sym (near-mark rd fine (rd .rows) rows-all z (w .reaches .near) s (omega (arith, a, k .slot)) (omega (arith, g .by, g .near, a, k .slot))
       ∙ ap (λ (v : ℕ). least-weight v (rd .rows) 16777216) (m ∙ o))
 
   -- THE SUBSTITUTE
@@ -154,8 +154,8 @@ module _ (t cs : List ℕ) (h : Head) (x : Reach) (w : Whole t cs h x) where
         (λ z j m. absurd (not-found rd fine (rd .rows) rows-all z j m j))
         ∙ ap blank o
 
-    pub row-is-low : (e k j : ℕ) → y .first ≡ 0 → e ≡ h .slot .0 + y .last → Lightest-key rd e k → j ≡ k % 1024 → Substitutes rd i (Row-at j)
-    row-is-low e k j n q m p =
+    pub row-is-low : (e k j : ℕ) → y .first ≡ 0 → Lightest-key rd e k → e ≡ h .slot .0 + y .last → j ≡ k % 1024 → Substitutes rd i (Row-at j)
+    row-is-low e k j n m q p =
         let o = known t h (w .ready) in
         let f = fine in
         let b : rd .slot + y .first ≡ rd .slot = omega (arith, n) in

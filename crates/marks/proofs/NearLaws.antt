@@ -181,13 +181,16 @@ module _ (r : Round) (ks fs : List ℕ) (many slot n asked : ℕ) (a : Asked r k
         )
 
     -- of a later one
-    module _ (later : x .first ≡ slot → ⊥) (k : ℕ) (b : Left r fs (x .first) k) where
+    module _ (later : x .first ≡ slot → ⊥) (from k : ℕ) (l : Left r fs from k) (e : from ≡ x .first) where
+      pub b : Left r fs (x .first) k
+      b = subst (λ (v : ℕ). Left r fs v k) e l
+
       pub after-first : r .slot < x .first
       after-first = let o = later in omega (arith, w .segment .low, g .now, o)
 
       pub row-left : (j : ℕ) → (k ≡ blank-key → ⊥) → j ≡ k % 1024 → Substitutes r i (Row-at j)
-      row-left j e p =
-          let q = e in
+      row-left j o p =
+          let q = o in
           let s = b .some (omega (arith, b .by, q)) in
           let u : j ≡ s .row = p ∙ ap (λ (v : ℕ). v % 1024) (sym (s .is)) ∙ row-is r (g .fine) (g .small) (g .cap) (s .row) (s .there) in (
             omega (arith, u, s .there),
@@ -201,7 +204,7 @@ module _ (r : Round) (ks fs : List ℕ) (many slot n asked : ℕ) (a : Asked r k
           )
 
       pub blank-left : k ≡ blank-key → Substitutes r i (Blank (x .first))
-      blank-left e =
+      blank-left o =
           segment-none r (g .fine) (g .time) (with-flag r fs) (plan-rows r ks fs many slot n g) (r .slot + n) (g .near) (x .first) (w .end) (w .near)
           (w .segment) after-first (at r i) (omega (arith, d, w .from)) (omega (arith, d, w .by))
           (each-row (λ y. in-plan y (with-flag r fs) ≡ false → y .due < x .first) (blank 0) (r .rows)
@@ -209,7 +212,7 @@ module _ (r : Round) (ks fs : List ℕ) (many slot n asked : ℕ) (a : Asked r k
             | inl y ↦ y .1
             | inr y ↦ absurd (omega (
               arith,
-              e,
+              o,
               b .least v l (out-flag r ks fs many slot n g v l f) (y .1),
               some-key r (g .fine) (g .small) (g .cap) v l .1,
             ))

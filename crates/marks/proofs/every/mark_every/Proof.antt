@@ -1,5 +1,4 @@
 -- `marks::every::mark_every` meets its contract.
-use mathlib.Core.Path.{refl, _∙_}
 use native.Mathlib.Omega.{arith}
 use Rattle.round.proofs.ReadLaws.{known}
 use Rattle.marks.proofs.EveryLaws.{fills, mark-is}
@@ -28,7 +27,9 @@ least-by-requires : tie.Need-least-by-requires
 least-by-requires c κs = search needs
 
 returns : tie.Need-returns
-returns c = let p = c .before .before .before .before .before .pre in c .least-by .ensures ∙ mark-is _ _ _ _ (p .0) _ _ _ (p .1) (c .before .before .stretch-of .ensures) refl
+returns c =
+    let p = c .before .before .before .before .before .pre in
+    mark-is _ _ _ _ (p .0) _ _ _ _ (p .1) (c .before .before .stretch-of .ensures) (c .least-by .ensures) (omega arith)
 
 pub mark-every-spec : {M : Type 1} → statement M
 mark-every-spec =

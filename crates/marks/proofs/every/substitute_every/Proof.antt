@@ -1,5 +1,4 @@
 -- `marks::every::substitute_every` meets its contract.
-use mathlib.Core.Path.{refl}
 use native.Mathlib.Omega.{arith}
 use Rattle.round.proofs.ReadLaws.{known}
 use Rattle.marks.proofs.EveryLaws.{fills, blank-is, row-is-low}
@@ -28,7 +27,7 @@ add-t13 c = search needs
 
 returns : tie.Need-returns
 returns c = let p = c .before .before .before .before .before .before .before .pre in
-    blank-is _ _ _ _ (p .0) _ _ (p .1) (c .before .before .before .before .due-at .ensures) _ (c .before .before .before .stretch-of .ensures) _ (c .before .if1 .taken) refl
+    blank-is _ _ _ _ (p .0) _ _ (p .1) (c .before .before .before .before .due-at .ensures) _ (c .before .before .before .stretch-of .ensures) _ (c .before .if1 .taken) (omega arith)
 
 cast-lightest-by : tie.Need-cast-lightest-by
 cast-lightest-by c = let p = c .before .before .before .before .before .before .before .pre in omega (arith, c .before .before .before .stretch-of .ensures .near, fills _ _ _ _ (p .0) .small)
@@ -47,7 +46,7 @@ row-of-requires c κs = search needs
 returns-2 : tie.Need-returns-2
 returns-2 c = let p = c .before .before .before .before .before .before .before .before .before .pre in
     row-is-low _ _ _ _ (p .0) _ _ (p .1) (c .before .before .before .before .before .before .due-at .ensures) _ (c .before .before .before .before .before .stretch-of .ensures) _ _ _
-    (c .before .before .before .if1 .left) refl (c .before .lightest-by .ensures) (c .row-of .ensures)
+    (c .before .before .before .if1 .left) (c .before .lightest-by .ensures) (omega arith) (c .row-of .ensures)
 
 pub substitute-every-spec : {M : Type 1} → statement M
 substitute-every-spec =

@@ -41,41 +41,51 @@ due-of-requires : tie.Need-due-of-requires Inv-loop μ-loop
 due-of-requires c κs = search needs
 
 returns : tie.Need-returns Inv-loop μ-loop
-returns c = λ r n a.
-    pass-found r _ _ _ _ n _ a _ _ _ _ _ (c .before .before .before .before .before .before .before .before .loop-test .taken) refl (c .before .before .before .before .before .before .before .before .before .loop .inv .1 r n a) _ (c .before .before .before .before .before .before .row-of .ensures)
-    (c .before .before .before .before .if1 .taken) _ _ (c .before .before .due-of .ensures) (c .before .if2 .taken) (c .if3 .taken) (c .before .before .before .larger .ensures)
+returns c =
+    let turn = c .before .before .before .before .before .before .before .before in
+    let kept = c .before .before .before .before in
+    λ r n a.
+    pass-found r _ _ _ _ n _ a _ _ _ _ _ (turn .loop-test .taken) refl (turn .before .loop .inv .1 r n a) _ (kept .before .before .row-of .ensures)
+    (kept .if1 .taken) _ _ (c .before .before .due-of .ensures) (omega (arith, c .before .if2 .taken)) (omega (arith, c .if3 .taken))
+    (omega (arith, c .before .before .before .larger .ensures))
 
 loop-less : tie.Need-loop-less Inv-loop μ-loop
 loop-less c = search needs
 
 loop-again : tie.Need-loop-again Inv-loop μ-loop
-loop-again c = (
-  omega (arith, c .before .before .before .before .before .before .before .before .loop-test .taken),
-  λ r n a.
-      pass-cut r _ _ _ _ n _ a _ _ _ _ _ (c .before .before .before .before .before .before .before .before .loop-test .taken) refl (c .before .before .before .before .before .before .before .before .before .loop .inv .1 r n a) _ (c .before .before .before .before .before .before .row-of .ensures)
-      (c .before .before .before .before .if1 .taken) _ _ (c .before .before .due-of .ensures) (c .before .if2 .taken) (c .if3 .left) (c .before .before .before .larger .ensures),
-)
+loop-again c =
+    let turn = c .before .before .before .before .before .before .before .before in
+    let kept = c .before .before .before .before in (
+      omega (arith, turn .loop-test .taken),
+      λ r n a.
+          pass-cut r _ _ _ _ n _ a _ _ _ _ _ (turn .loop-test .taken) refl (turn .before .loop .inv .1 r n a) _ (kept .before .before .row-of .ensures)
+          (kept .if1 .taken) _ _ (c .before .before .due-of .ensures) (omega (arith, c .before .if2 .taken)) (omega (arith, c .if3 .left))
+          (omega (arith, c .before .before .before .larger .ensures)),
+    )
 
 loop-less-2 : tie.Need-loop-less-2 Inv-loop μ-loop
 loop-less-2 c = search needs
 
 loop-again-2 : tie.Need-loop-again-2 Inv-loop μ-loop
-loop-again-2 c = (
-  omega (arith, c .before .before .before .before .before .before .before .loop-test .taken),
-  λ r n a.
-      pass-on r _ _ _ _ n _ a _ _ _ _ _ (c .before .before .before .before .before .before .before .loop-test .taken) refl (c .before .before .before .before .before .before .before .before .loop .inv .1 r n a) _ (c .before .before .before .before .before .row-of .ensures)
-      (c .before .before .before .if1 .taken) _ _ (c .before .due-of .ensures) (c .if2 .left) (c .before .before .larger .ensures),
-)
+loop-again-2 c =
+    let turn = c .before .before .before .before .before .before .before in
+    let kept = c .before .before .before in (
+      omega (arith, turn .loop-test .taken),
+      λ r n a.
+          pass-on r _ _ _ _ n _ a _ _ _ _ _ (turn .loop-test .taken) refl (turn .before .loop .inv .1 r n a) _ (kept .before .before .row-of .ensures)
+          (kept .if1 .taken) _ _ (c .before .due-of .ensures) (omega (arith, c .if2 .left)) (omega (arith, c .before .before .larger .ensures)),
+    )
 
 loop-less-3 : tie.Need-loop-less-3 Inv-loop μ-loop
 loop-less-3 c = search needs
 
 loop-again-3 : tie.Need-loop-again-3 Inv-loop μ-loop
-loop-again-3 c = (
-  omega (arith, c .before .before .before .before .loop-test .taken),
-  λ r n a.
-      pass-out r _ _ _ _ n _ a _ _ _ _ _ (c .before .before .before .before .loop-test .taken) refl (c .before .before .before .before .before .loop .inv .1 r n a) _ (c .before .before .row-of .ensures) (c .if1 .left),
-)
+loop-again-3 c =
+    let turn = c .before .before .before .before in (
+      omega (arith, turn .loop-test .taken),
+      λ r n a.
+          pass-out r _ _ _ _ n _ a _ _ _ _ _ (turn .loop-test .taken) refl (turn .before .loop .inv .1 r n a) _ (c .before .before .row-of .ensures) (c .if1 .left),
+    )
 
 returns-2 : tie.Need-returns-2 Inv-loop μ-loop
 returns-2 c = λ r n a. absurd (pass-end r _ _ _ _ n _ a _ _ _ _ (c .loop-test .left) (c .before .loop .inv .0) (c .before .loop .inv .1 r n a))

@@ -1,6 +1,7 @@
 -- `marks::substitute::substitute_of` meets its contract.
 use Rattle.marks.proofs.NearLaws.{row-first, row-left, blank-left}
 use borrow.Author.Needs.{needs}
+use native.Mathlib.Omega.{arith}
 use Rattle.marks.proofs.substitute.substitute_of.Statement.{statement}
 use Rattle.marks.proofs.substitute.substitute_of.Tie as tie
 
@@ -19,16 +20,16 @@ heaviest-out-requires c κs = search needs
 
 returns-2 : tie.Need-returns-2
 returns-2 c = λ r n i a h o d.
-    blank-left r _ _ _ _ n _ a _ (c .before .before .before .before .find-segment .ensures r n a) i h o d (c .before .before .if1 .left) _
-    (c .before .heaviest-out .ensures r _ n (a .given)) (c .if2 .taken)
+    blank-left r _ _ _ _ n _ a _ (c .before .before .before .before .find-segment .ensures r n a) i h o d (c .before .before .if1 .left) _ _
+    (c .before .heaviest-out .ensures r _ n (a .given)) (omega arith) (c .if2 .taken)
 
 row-of-requires-2 : tie.Need-row-of-requires-2
 row-of-requires-2 c κs = search needs
 
 returns-3 : tie.Need-returns-3
 returns-3 c = λ r n i a h o d.
-    row-left r _ _ _ _ n _ a _ (c .before .before .before .before .before .find-segment .ensures r n a) i h o d (c .before .before .before .if1 .left) _
-    (c .before .before .heaviest-out .ensures r _ n (a .given)) _ (c .before .if2 .left) (c .row-of2 .ensures)
+    row-left r _ _ _ _ n _ a _ (c .before .before .before .before .before .find-segment .ensures r n a) i h o d (c .before .before .before .if1 .left) _ _
+    (c .before .before .heaviest-out .ensures r _ n (a .given)) (omega arith) _ (c .before .if2 .left) (c .row-of2 .ensures)
 
 pub substitute-of-spec : {M : Type 1} → statement M
 substitute-of-spec =

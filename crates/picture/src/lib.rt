@@ -1,1 +1,1 @@
-// The plan's segments as a value, and the laws by which pick, marks, substitutes and leaps are read from it. No code
+// Laws of the plan's segments as a value: pick, marks, substitutes and leaps are read from it. No code.

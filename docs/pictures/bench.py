@@ -1,6 +1,6 @@
 #!/usr/bin/env python3
 """bench.py FIGURES: draws what bench/run printed. Left, the instructions of each call by rows, its costliest shape;
-right, at 1,024 rows, the ratio to tuned Rust shape by shape."""
+right, at 1,024 rows, the ratio to tuned Rust in the seven shapes of full tables."""
 import math
 import re
 import sys
@@ -9,6 +9,7 @@ WIDTH, HEIGHT, TOP, BOTTOM = 960, 720, 76, 630
 LEFT, RIGHT = 80, 400
 ROWS = (1, 16, 128, 1024)
 CALLS = ("open", "take", "send", "mark", "total", "substitute")
+SHAPES = ("-", "inplan", "halfout", "asc2x", "fewdue", "equal", "spread", "chain")
 COLOURS = {"open": "#7a5195", "take": "#3a7d44", "total": "#b8860b", "mark": "#d9730d", "substitute": "#b0305c", "send": "#3b6ea5"}
 INK, GREY, GRID, PAPER = "#222222", "#666666", "#dddddd", "#ffffff"
 CELL = re.compile(r"(\w+) +(\w+|-) +(\d+) +(\d+) \| +([\d,]+) +([\d,]+) ")
@@ -76,7 +77,7 @@ def bars(found):
         yield line(left + unit * ratio, 60, left + unit * ratio, HEIGHT - 20, INK if ratio == 1 else GRID)
         yield text(left + unit * ratio, 52, ratio, GREY, "middle")
     for call in CALLS:
-        shapes = [shape for name, shape, rows in found if name == call and rows == 1024]
+        shapes = [shape for shape in SHAPES if (call, shape, 1024) in found]
         for shape in shapes:
             ours, tuned = found[call, shape, 1024]
             end = left + unit * ours / tuned

@@ -1,19 +1,15 @@
 -- What the counts say of the round.
-use mathlib.Core.Path.{_≡_, sym, ap, _∙_, subst}
+use mathlib.Core.Path.{_≡_, sym, subst}
 use mathlib.Core.Logic.{_⊎_, inl, inr}
 use mathlib.Core.List.{List}
-use Prim.Native.Nat.{ℕ, zero, suc, _+_, _-_, _/_, _≤_, _<_}
+use Prim.Native.Nat.{ℕ, zero, suc, _+_, _-_, _/_, _≤_}
 use native.Mathlib.Omega.{arith}
 use lib.ListN.{length, getD}
-use Rattle.rules.specs.Rows.{Round, All}
+use Rattle.rules.specs.Rows.{Round}
 use Rattle.rules.specs.Table.{round-in}
 use Rattle.theory.specs.Tests.{leb?}
 use Rattle.theory.specs.Sum.{sum}
-use Rattle.theory.specs.All.{all-map}
-use Rattle.theory.specs.Feas.{num}
-use Rattle.theory.specs.Bounds.{Row-fine}
-use Rattle.theory.specs.Full.{Fine}
-use Rattle.theory.specs.Count.{in-bucket, counts-next, counts-none, counts-below, counts-all, Sweep, sweep-near, sweep-none, sweep-left, sweep-at}
+use Rattle.theory.specs.Count.{in-bucket, counts-next, counts-none, counts-all, Sweep, sweep-near, sweep-none}
 use Rattle.round.specs.Rows.{Ready, top-of}
 use Rattle.round.specs.Buckets.{Counted}
 use Rattle.round.proofs.ReadLaws.{known}
@@ -72,41 +68,4 @@ reaches t h cs x k c s =
       sweep = w;
       near = sweep-near r (n .fine) (top-of r) (x .over) (x .free) m o w;
       fits = sweep-none r (n .fine) (top-of r) (x .over) (x .free) m o w;
-    }
-
--- COUNTS OF NEAR BUCKETS: of each its own slot's rows alone
-pub counts-free : (r : Round) → Fine r → r .slot ≤ r .last → (x : Reach) → Reaches r x → (v : ℕ) → v ≤ x .free → before r (r .rows) v ≡ num 0 (r .slot + v) (r .rows)
-counts-free r f o x w v h = elim (leb? v (top-of r)) [
-  | inl a ↦ counts-below (r .slot) (top-of r) v (r .rows) (a .1) from
-  | inr a ↦
-      let d : v ≡ x .free = omega (arith, a .1, h, w .sweep .high) in
-      ap (before r (r .rows)) d ∙ sweep-at r f (top-of r) (x .over) (x .free) (omega (arith, o)) (enough r o) (w .sweep)
-      ∙ ap (λ (y : ℕ). num 0 (r .slot + y) (r .rows)) (sym d)
-]
-  where
-    from : All (λ y. r .slot ≤ y .due) (r .rows)
-    from = all-map {Q = λ y. r .slot ≤ y .due} (λ y (g : Row-fine r y). g .due-from) (r .rows) (f .fine)
-
-pub record Counts-near (r : Round) (x : Reach) (cs : List ℕ) : Type 0 where
-  pub fits : x .free ≤ length cs
-  pub below : (v : ℕ) → v ≤ x .free → upto v cs ≡ num 0 (r .slot + v) (r .rows)
-  pub count : (v : ℕ) → v < x .free → num 0 (r .slot + suc v) (r .rows) ≡ num 0 (r .slot + v) (r .rows) + getD cs v 0 / 2048
-  pub all : num 0 (r .slot + x .free) (r .rows) ≡ x .free + x .over
-
-pub counts-near : (t : List ℕ) (h : Head) (cs : List ℕ) (x : Reach) → Ready t h → Counted (round-in t) cs → Reaches (round-in t) x → Counts-near (round-in t) x cs
-counts-near t h cs x k c w =
-    let r = round-in t in
-    let n = known t h k in
-    let o = enough r (n .time) in
-    record {
-      fits = omega (arith, c .enough, w .sweep .high);
-      below = λ v l. upto-is r cs c v (omega (arith, l, w .sweep .high)) ∙ counts-free r (n .fine) (n .time) x w v l;
-      count = λ v l. omega (
-        arith,
-        counts-next (r .slot) (top-of r) v (r .rows),
-        count-rows r cs c v (omega (arith, l, w .sweep .high)),
-        counts-free r (n .fine) (n .time) x w v (omega (arith, l)),
-        counts-free r (n .fine) (n .time) x w (suc v) l,
-      );
-      all = sweep-left r (n .fine) (top-of r) (x .over) (x .free) (omega (arith, n .time)) o (w .sweep);
     }

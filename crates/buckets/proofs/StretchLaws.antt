@@ -24,9 +24,6 @@ walk-start cs free b =
     record { by = omega arith; early = omega arith; level = refl; edge = refl; gap = λ v h k. absurd (omega (arith, h, k)) }
 
 module _ (cs : List ℕ) (free b a lack s : ℕ) (f : Full cs free) (w : Walking cs free b a lack s) where
-  pub small : lack ≤ 2099200
-  small = omega (arith, w .level, w .by, f .small)
-
   -- what a bucket takes
   module _ (h : s < free) where
     pub covered : getD cs s 0 ≤ lack + 2048

@@ -14,8 +14,7 @@ use Rattle.rules.specs.PlanM.{score}
 use Rattle.theory.specs.Tests.{leb?, both-ways}
 use Rattle.theory.specs.All.{blank-weight, blank-is}
 use Rattle.theory.specs.Full.{Fine}
-use Rattle.keys.specs.Key.{blank-key}
-use Rattle.keys.specs.KeyLaws.{weight-is, some-key}
+use Rattle.keys.specs.KeyLaws.{weight-is}
 use Rattle.picture.specs.Picture.{Segment}
 use Rattle.picture.specs.Substitutes.{stand-in}
 use Rattle.picture.specs.Pick.{top-score}
@@ -44,13 +43,6 @@ module _ (r : Round) (f : Fine r) (small : length (r .rows) ≤ 1024) (cap : r .
   named-weight b x k (inl w) = keyed-weight x k w
   named-weight b x k (inr (e, d)) =
       ap (λ (v : ℕ). 16777217 - v / 16777216) d ∙ sym (ap (λ (y : Row). y .weight) e ∙ blank-weight (blank b) (blank-is b))
-
-  pub keyed-most : (x : Row) (k : ℕ) → Keyed r x k → k ≤ blank-key
-  keyed-most x k w = omega (arith, w .key, some-key r f small cap (w .row) (w .there) .1)
-
-  pub named-most : (b : ℕ) (x : Row) (k : ℕ) → Named r b x k → k ≤ blank-key
-  named-most b x k (inl w) = keyed-most x k w
-  named-most b x k (inr (e, d)) = omega (arith, d)
 
   -- WHO LEADS with one segment more before them
   leads-first : (b z : ℕ) (h : Segment) (gs : List Segment) → Drawn-own r b z (h ∷ gs) → (g : Segment) → Leads r gs g → top-score r g ≤ top-score r h →

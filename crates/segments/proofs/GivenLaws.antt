@@ -34,7 +34,7 @@ given t h ks fs many n w c s k o m =
     }
 
 -- rows fill no more slots than there are rows
-num-most : (e : ℕ) (xs : List Row) → num 0 e xs ≤ length xs
+pub num-most : (e : ℕ) (xs : List Row) → num 0 e xs ≤ length xs
 num-most e [] = omega arith
 num-most e (x ∷ xs) = omega (arith, below-1 0 e x, num-most e xs)
 

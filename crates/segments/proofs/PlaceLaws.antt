@@ -1,7 +1,7 @@
 -- What is at each place of the due order: its key, its row, and whether the slots by it are full.
 use mathlib.Core.Path.{_≡_, sym, ap, _∙_, subst}
 use mathlib.Core.Logic.{inl, inr}
-use mathlib.Core.Bool.{true, false, true≢false}
+use mathlib.Core.Bool.{false, true≢false}
 use mathlib.Core.List.{List}
 use Prim.Native.Nat.{ℕ, suc, _+_, _-_, _/_, _%_, _≤_, _<_}
 use native.Mathlib.Omega.{arith}
@@ -17,8 +17,8 @@ use Rattle.theory.specs.Near.{near-edge, near-out, rows-feas}
 use Rattle.theory.specs.Index.{index-of, flag-in, chosen-index, at-flag}
 use Rattle.theory.specs.Flags.{raised, raised-at, with-flag, chosen-rows}
 use Rattle.round.specs.Rows.{at}
-use Rattle.keys.specs.Key.{blank-key, key-at}
-use Rattle.keys.specs.KeyLaws.{row-fine, due-is, row-is, some-key}
+use Rattle.keys.specs.Key.{key-at}
+use Rattle.keys.specs.KeyLaws.{row-fine, due-is, row-is}
 use Rattle.keys.specs.Sorted.{many-due, placed}
 use Rattle.keys.specs.DueOrder.{many-mono, place, placed-row, placed-rises, placed-all, placed-from}
 use Rattle.segments.specs.Given.{Given}
@@ -49,12 +49,6 @@ module _ (r : Round) (ks fs : List ℕ) (many slot n : ℕ) (g : Given r ks fs m
 
   pub row-told : (p : ℕ) → p < many-due r n → getD ks p 0 % 1024 ≡ placed r n p
   row-told p h = ap (λ (k : ℕ). k % 1024) (key-there p h) ∙ row-is r (g .fine) (g .small) (g .cap) (placed r n p) (placed-row r n p h .0)
-
-  pub key-within : (p : ℕ) → p < many-due r n → (1 ≤ getD ks p 0) × (getD ks p 0 < blank-key)
-  key-within p h =
-      let e = key-there p h in
-      let k = some-key r (g .fine) (g .small) (g .cap) (placed r n p) (placed-row r n p h .0) in
-      (omega (arith, e, k .0), omega (arith, e, k .1))
 
   -- MEMBERS by index: rows with a flag
   pub flag-told : (i : ℕ) → i < length (r .rows) → getD (raised fs) i false ≡ eqb (getD fs i 0) 1

@@ -1,26 +1,22 @@
--- What the segments in arrays tell: each by its number, its mark, and who goes.
+-- What the segments in arrays tell: each by its number, and who goes.
 use mathlib.Core.Path.{_≡_, refl, sym, ap, _∙_, subst}
 use mathlib.Core.Logic.{inl, inr}
 use mathlib.Core.List.{List, [], _∷_}
-use Prim.Native.Nat.{ℕ, suc, _+_, _*_, _%_, _≤_, _<_, min}
+use Prim.Native.Nat.{ℕ, suc, _+_, _*_, _≤_, _<_}
 use native.Mathlib.Omega.{arith}
 use lib.ListN.{length, getD}
 use Rattle.rules.specs.Rows.{Row, Round}
-use Rattle.rules.specs.Plan.{plan, mark, best}
+use Rattle.rules.specs.Plan.{plan, best}
 use Rattle.theory.specs.Tests.{eqb?}
 use Rattle.theory.specs.Full.{Fine}
 use Rattle.theory.specs.Members.{Rows-of-plan}
 use Rattle.theory.specs.Near.{Near}
-use Rattle.round.specs.Rows.{at}
-use Rattle.keys.specs.Key.{blank-key}
-use Rattle.keys.specs.KeyLaws.{row-is, some-key}
 use Rattle.picture.specs.Picture.{Segment, Heaviest}
-use Rattle.picture.specs.Substitutes.{stand-in-first, stand-in-later}
+use Rattle.picture.specs.Substitutes.{stand-in-later}
 use Rattle.picture.specs.Far.{Far}
 use Rattle.picture.specs.Own.{Right-own, Drawn-own, Numbered}
 use Rattle.picture.specs.OwnPick.{right-own-of, numbered-among, own-leader, own-far}
-use Rattle.picture.specs.OwnMark.{own-mark-first, own-mark-next}
-use Rattle.segments.specs.Segmented.{Keyed, Named, Holds-segment, Stored, Segmented}
+use Rattle.segments.specs.Segmented.{Named, Holds-segment, Stored, Segmented}
 use Rattle.segments.specs.declared.Lead.{Lead}
 
 -- SEGMENT k of those from slot b on: the first has the greatest number, each other begins behind the end with the next number
@@ -109,33 +105,12 @@ module _ (r : Round) (n : ℕ) (es ts ls : List ℕ) (l : Lead) (s : Segmented r
   pub lead-end : getD es (l .segment) 0 ≡ s .leader .of .last
   lead-end = segment-at (l .segment) lead-below .holds .end ∙ ap (λ (g : Segment). g .last) lead-is
 
-  -- its substitute: its own lightest, or who is outside
-  pub lead-low : suc (l .segment) ≡ l .count → Named r (s .leader .of .first) (s .leader .of .low) (l .other)
-  lead-low e =
-      subst (λ (x : Row). Named r (s .leader .of .first) x (l .other)) (stand-in-first r (s .leader .of) (lead-first e)) (s .leader .other)
-
+  -- its substitute, behind the first one: who is outside
   pub lead-out : r .slot < s .leader .of .first → Named r (s .leader .of .first) (s .leader .of .out) (l .other)
   lead-out h =
       subst (λ (x : Row). Named r (s .leader .of .first) x (l .other)) (stand-in-later r (s .leader .of) h) (s .leader .other)
 
   module _ (f : Fine r) where
-    -- MARKS: the least of the segments' own lightest so far, from the first on
-    pub mark-first : (k : ℕ) → suc k ≡ l .count → (v : ℕ) → r .slot ≤ v → v ≤ getD es k 0 → mark r v ≡ getD ls k 0
-    mark-first k e v a b =
-        let q = segment-at k (omega (arith, e)) in
-        let o = q .first (e ∙ s .count) in
-        own-mark-first r f (q .of) (q .right) v (omega (arith, o, a)) (omega (arith, b, q .holds .end)) o ∙ sym (q .holds .low)
-
-    pub mark-next : (k : ℕ) → suc k < l .count → (v : ℕ) → getD es (suc k) 0 < v → v ≤ getD es k 0 →
-        mark r v ≡ min (mark r (getD es (suc k) 0)) (getD ls k 0)
-    mark-next k h v a b =
-        let q = segment-at k (omega (arith, h)) in
-        let p = segment-at (suc k) h in
-        let o = q .later (omega (arith, h, s .count)) in
-        own-mark-next r f (q .of) (q .right) v (omega (arith, o, a)) (omega (arith, b, q .holds .end)) (p .of) (p .right) (o ∙ ap suc (p .holds .end))
-        ∙ ap (λ (m : ℕ). min m (q .of .low .weight)) (ap (mark r) (sym (p .holds .end)))
-        ∙ ap (λ (m : ℕ). min (mark r (getD es (suc k) 0)) m) (sym (q .holds .low))
-
     -- WHO GOES: the leader's top, unless the heaviest far row scores more
     module _ (o : r .slot ≤ r .last) (rs : List Row) (c : Rows-of-plan r rs) (k : Near r (r .slot + n)) where
       pub lead-goes : ((x : Row) → Heaviest (Far rs (r .slot + n)) x → x .weight * 39088169 ≤ l .score) → best r (plan r) ≡ s .leader .of .top
@@ -146,17 +121,3 @@ module _ (r : Round) (n : ℕ) (es ts ls : List ℕ) (l : Lead) (s : Segmented r
       pub far-goes : (x : Row) → Heaviest (Far rs (r .slot + n)) x → l .score < x .weight * 39088169 → best r (plan r) ≡ x
       far-goes x y h =
           own-far r f o rs c (r .slot + n) k (s .segments) (s .drawn) (s .leader .of) (s .leader .leads) x y (omega (arith, h, s .leader .score))
-
-    -- THE ROW that a key names
-    module _ (small : length (r .rows) ≤ 1024) (cap : r .last ≤ 4095) where
-      pub keyed-row : (x : Row) (k : ℕ) → Keyed r x k → at r (k % 1024) ≡ x
-      keyed-row x k w = ap (at r) (ap (λ (v : ℕ). v % 1024) (w .key) ∙ row-is r f small cap (w .row) (w .there)) ∙ sym (w .is)
-
-      pub keyed-below : (x : Row) (k : ℕ) → Keyed r x k → (k % 1024 < length (r .rows)) × (k < blank-key)
-      keyed-below x k w = (
-        omega (arith, ap (λ (v : ℕ). v % 1024) (w .key) ∙ row-is r f small cap (w .row) (w .there), w .there),
-        omega (arith, w .key, some-key r f small cap (w .row) (w .there) .1),
-      )
-
-      pub lead-row : at r (l .key % 1024) ≡ s .leader .of .top
-      lead-row = keyed-row (s .leader .of .top) (l .key) (s .leader .key)

@@ -1,17 +1,17 @@
 -- From the counts to the plan, from the plan to its segments, and from these to the step.
-use mathlib.Core.Path.{_≡_, refl, sym, ap, _∙_}
-use mathlib.Core.Logic.{_⊎_, inl, inr}
-use mathlib.Core.List.{List, [], _∷_}
-use Prim.Native.Nat.{ℕ, suc, _+_, _/_, _%_, _≤_, _<_}
+use mathlib.Core.Path.{_≡_, refl, sym, ap}
+use mathlib.Core.Logic.{inl, inr}
+use mathlib.Core.List.{List}
+use Prim.Native.Nat.{ℕ, suc, _+_, _/_, _%_, _≤_}
 use native.Mathlib.Omega.{arith}
 use lib.ListN.{length, getD, replicate, length-replicate}
-use Rattle.rules.specs.Rows.{Row, Round}
+use Rattle.rules.specs.Rows.{Round}
 use Rattle.rules.specs.Table.{round-in}
 use Rattle.theory.specs.Tests.{leb?, ltb?}
 use Rattle.theory.specs.Sum.{sum, sum-le, length-sum}
 use Rattle.theory.specs.All.{all-map}
 use Rattle.theory.specs.Bounds.{Row-fine}
-use Rattle.theory.specs.Feas.{num, below-1}
+use Rattle.theory.specs.Feas.{num}
 use Rattle.theory.specs.Count.{under, under-1, counts-next, counts-none, counts-below, counts-all}
 use Rattle.sorts.specs.declared.Round.{Round as Head}
 use Rattle.round.specs.Rows.{Ready, top-of}
@@ -21,9 +21,8 @@ use Rattle.keys.specs.Key.{blank-key}
 use Rattle.buckets.specs.Reach.{Reaches, Reach-says, head-top}
 use Rattle.buckets.specs.declared.Reach.{Reach}
 use Rattle.buckets.proofs.ReachLaws.{reaches, count-rows}
-use Rattle.plan.specs.Plans.{Lent, Plans, Heaviest-from}
+use Rattle.plan.specs.Plans.{Plans, Heaviest-from}
 use Rattle.plan.specs.declared.Planned.{Planned}
-use Rattle.segments.specs.Given as given
 use Rattle.segments.specs.Segmented.{Segments-say}
 use Rattle.segments.specs.declared.Lead.{Lead}
 use Rattle.segments.proofs.GivenLaws as given-laws
@@ -32,10 +31,6 @@ use Rattle.whole.specs.Whole as whole
 use Rattle.whole.specs.declared.Whole.{Whole}
 use Rattle.step.specs.Send.{Far-first, Planned-step, Whole-step}
 use Rattle.sender.specs.Crowded.{Crowded, Led}
-
-num-most : (e : ℕ) (xs : List Row) → num 0 e xs ≤ length xs
-num-most e [] = omega arith
-num-most e (x ∷ xs) = omega (arith, below-1 0 e x, num-most e xs)
 
 -- ROWS DUE NOW: no more than the first bucket counts
 pub due-now : (t : List ℕ) (h : Head) (cs : List ℕ) → Ready t h → Counted (round-in t) cs → (n : ℕ) → n ≡ getD cs 0 0 / 2048 → Due-now t n
@@ -68,7 +63,7 @@ due-now t h cs k c n e =
             b,
             counts-all (r .slot) (top-of r) (r .rows),
             ap (λ (u : ℕ). sum (under (r .slot) (top-of r) (suc u)) (r .rows)) z,
-            num-most (suc (r .slot)) (r .rows),
+            given-laws.num-most (suc (r .slot)) (r .rows),
           )
     ]
 
@@ -115,10 +110,6 @@ led t cs ks fs hs ls h x e c ks2 fs2 p q cs2 hs2 a b =
     }
 
 -- THE STEP goes by them
-pub segments-lent : {t cs ks fs hs ls : List ℕ} {h : Head} {x : Reach} {p : Planned} {e : ℕ} → Led t cs ks fs hs ls h x p e →
-    given.Lent ks fs (p .many) (h .slot .0) (x .free) cs hs ls
-segments-lent {t} g = record { of = round-in t; given = g .given; ends = g .ends; tops = g .tops; lows = g .lows }
-
 pub planned-step : {t cs ks fs hs ls : List ℕ} {h : Head} {x : Reach} {p : Planned} {e : ℕ} → Led t cs ks fs hs ls h x p e →
     (es ts ms : List ℕ) (l : Lead) → Segments-say ks fs (p .many) (h .slot .0) (x .free) es ts ms l → Planned-step t h es ts ms (p .far) l
 planned-step {t} {x = x} {p = p} g es ts ms l s =

@@ -33,10 +33,6 @@ pub record Champion (r : Round) (rs : List Row) (b d : ℕ) (m : Row) : Type 0 w
   pub ahead : (q : Row) → In q rs → b ≤ q .due → q .due < d → Behind r q m
 
 module _ (r : Round) (f : Fine r) (o : r .slot ≤ r .last) (rs : List Row) (c : Rows-of-plan r rs) where
-  -- no row is due from d on
-  pub lead-first : (b d : ℕ) (m : Row) → ((q : Row) → In q rs → q .due < d) → Champion r rs b d m → Leads r rs b m
-  lead-first b d m n h = record { inside = h .inside; from = h .from; ahead = λ q i a. h .ahead q i a (n q i) }
-
   -- an earlier stretch takes the lead with a score no less
   pub lead-takes : (b d : ℕ) (p m : Row) → Leads r rs d p → Champion r rs b d m → score-of r p ≤ score-of r m → Leads r rs b m
   lead-takes b d p m l h s =

@@ -75,7 +75,7 @@ pub mod Complete
 pub mod Printing
 pub mod Served
 pub mod Reads
--- keys and certificates, for code
+-- indices and certificates, for code
 pub mod Keys
 pub mod Flags
 pub mod Index

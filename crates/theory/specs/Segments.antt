@@ -16,7 +16,7 @@ use Rattle.theory.specs.Marks.{Tight-in, next}
 use Rattle.theory.specs.Send.{next-by, between-count}
 use Rattle.theory.specs.Score.{score-of}
 use Rattle.theory.specs.Members.{Rows-of-plan, found-member}
-use Rattle.theory.specs.Substitute.{later-row, later-none, score-first, score-sub, score-none}
+use Rattle.theory.specs.Substitute.{later-row, later-none, score-first}
 use Rattle.theory.specs.Best.{first-same, later-same, heaviest-beats}
 use Rattle.theory.specs.Near.{Near, near-is-tight, near-next, near-start, near-mark-least}
 use Rattle.theory.specs.Count.{under, Sweep, kept-counts}
@@ -91,12 +91,6 @@ module _ (r : Round) (f : Fine r) (o : r .slot ≤ r .last) (rs : List Row) (c :
   -- SCORES
   pub segment-score-first : b ≡ r .slot → (p : Row) → In p rs → p .due ≤ e → score-of r p ≡ p .weight * 39088169 + mark r (r .slot) * 63245986
   segment-score-first h p i l = score-first r f rs c p (found-member r f rs c p i) (omega (arith, first-segment h, l))
-
-  pub segment-score-row : (p x : Row) → substitute r (plan r) p ≡ x → score-of r p ≡ p .weight * 39088169 + x .weight * 63245986
-  segment-score-row p x q = score-sub r f rs c p x q
-
-  pub segment-score-none : (p : Row) → substitute r (plan r) p ≡ blank b → score-of r p ≡ p .weight * 39088169
-  segment-score-none p q = score-none r f rs c p b q
 
   -- ONE MARK: the least weight of the rows due by its end
   pub segment-mark : (d : ℕ) → b ≤ d → d ≤ e → (x : Row) → In x rs → x .due ≤ e → ((y : Row) → In y rs → y .due ≤ e → x .weight ≤ y .weight) →

@@ -21,7 +21,16 @@ fn flag_some(table: &[u8], flags: &mut [u8], counts: &mut [u32], round: Round, r
 {
     let mut keys = [0u64; Round::PLACES];
     let mut heap = [EMPTY; Round::PLACES];
-    plan_of(table, counts, &mut keys, flags, &mut heap, round, reach);
+    plan_of(
+        table,
+        counts,
+        &mut keys,
+        flags,
+        &mut heap,
+        round,
+        reach,
+        false,
+    );
 }
 
 pub fn flag_plan(table: &[u8], flags: &mut [u8], counts: &mut [u32], round: Round)

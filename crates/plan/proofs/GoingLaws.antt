@@ -12,7 +12,7 @@ use Rattle.theory.specs.Tests.{leb?, ltb?, eqb?}
 use Rattle.keys.specs.DueOrder.{each}
 use Rattle.heap.specs.Heap.{Heap, heaped, Grown, Replaced}
 use Rattle.heap.proofs.HeapLaws.{heaped-at, heaped-some, top-most}
-use Rattle.plan.specs.Sweep.{tally, Queue, Swept, Heaped, Leaves, Crowds, First-crowded, Filled, Greatest, Empty-heap, Fills, Crowd, Parted}
+use Rattle.plan.specs.Sweep.{tally, Queue, Swept, Heaped, Leaves, Crowds, First-crowded, Filled, Greatest, Lightest, Empty-heap, Fills, Crowd, Parted}
 use Rattle.plan.specs.Sweep.{key-on, row-on, ahead-on, weight-on, kept-on, left-on}
 use Rattle.plan.proofs.TallyLaws.{tally-yes, tally-at, tally-some, tally-all, tally-most}
 use Rattle.plan.proofs.SweepLaws.{keys-differ, count-few, kept-less, swept-joins, swept-leaves, swept-none, swept-front, crowded-in}
@@ -347,10 +347,24 @@ greatest-more ks n top k v G e d = elim (leb? k top) [
   }
 ]
 
-pub greatest-end : (ks : List ℕ) (i last top : ℕ) → Greatest ks (i + 1) top → i ≡ last → Greatest ks (last + 1) top
-greatest-end ks i last top G e = rw (← e) G
+-- as the code looks for it
+pub lightest-in : (ks : List ℕ) (slot p k a : ℕ) → Looking ks slot p → k ≡ key-on ks p → a ≡ k / 4096 % 4096 - slot → p ≤ a → (p + 1 < length ks) × (p + 1 ≤ 1024)
+lightest-in ks slot p k a L e d h = looking-in ks slot (p + 1) (looking-more ks slot p L k a e d h)
 
-module _ (ks gs : List ℕ) (slot free over c top : ℕ) (C : Crowd ks gs slot free over) (F : First-crowded ks slot c) (G : Greatest ks (c + 1) top) where
+pub lightest-end : (ks : List ℕ) (slot p top k a : ℕ) → Looking ks slot p → Greatest ks (p + 1) top → k ≡ key-on ks p → a ≡ k / 4096 % 4096 - slot → a < p →
+    Lightest ks slot top
+lightest-end ks slot p top k a L G e d h = record { place = p; first = looking-end ks slot p L k a e d h; greatest = G }
+
+module _ (ks gs : List ℕ) (slot free over top : ℕ) (C : Crowd ks gs slot free over) (L : Lightest ks slot top) where
+  abbrev c : ℕ
+  c = L .place
+
+  abbrev F : First-crowded ks slot (L .place)
+  F = L .first
+
+  abbrev G : Greatest ks (L .place + 1) top
+  G = L .greatest
+
   S : Swept ks gs slot (free + over) c c 0
   S = swept-front ks gs slot free over C c F (omega (arith, crowded-in ks gs slot free over C c F)) c (omega arith)
 

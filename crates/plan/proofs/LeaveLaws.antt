@@ -5,18 +5,12 @@ use Prim.Native.Nat.{ℕ, suc, _+_, _*_, _-_, _/_, _%_, _≤_, _<_}
 use native.Mathlib.Omega.{arith}
 use lib.ListN.{length, getD, set, length-set}
 use Rattle.heap.specs.Heap.{Heap, Grown}
-use Rattle.plan.specs.Sweep.{Queue, Leaves, First-crowded, Filled, Greatest, Empty-heap, Crowd, Parted}
+use Rattle.plan.specs.Sweep.{Queue, Leaves, First-crowded, Filled, Lightest, Empty-heap, Crowd, Parted}
 use Rattle.plan.specs.Sweep.{key-on, ahead-on}
-use Rattle.plan.proofs.SweepLaws.{crowded-in}
 use Rattle.plan.proofs.GoingLaws.{Going, going-count, place-more, lost-bound, going-end, going-joins, going-leaves, out-row, out-most, going-start, one-row}
 
-pub crowded-bounds : (ks gs : List ℕ) (slot free over c : ℕ) → Crowd ks gs slot free over → First-crowded ks slot c → (c < length ks) × (c ≤ 1024)
-crowded-bounds ks gs slot free over c C F =
-    (F .within, omega (arith, crowded-in ks gs slot free over C c F, C .queue .small))
-
-pub one-row-at : (ks gs : List ℕ) (slot free over c top i : ℕ) → Crowd ks gs slot free over → First-crowded ks slot c → Greatest ks (c + 1) top →
-    i ≡ top % 1024 → i < length gs
-one-row-at ks gs slot free over c top i C F G e = omega (arith, e, one-row ks gs slot free over c top C F G)
+pub one-row-at : (ks gs : List ℕ) (slot free over top i : ℕ) → Crowd ks gs slot free over → Lightest ks slot top → i ≡ top % 1024 → i < length gs
+one-row-at ks gs slot free over top i C L e = omega (arith, e, one-row ks gs slot free over top C L)
 
 -- THE SWEEP beside the arrays it began with
 pub record Sweeping (ks gs hs fs us : List ℕ) (slot free over p count w : ℕ) : Type 0 where

@@ -1,6 +1,7 @@
 -- From what is lent to the plan, step by step.
 use mathlib.Core.Path.{_≡_, refl, sym, ap, _∙_}
 use mathlib.Core.Logic.{_⊎_, inl, inr}
+use mathlib.Core.Bool.{Bool, true}
 use mathlib.Core.List.{List}
 use Prim.Native.Nat.{ℕ, zero, suc, _+_, _*_, _-_, _/_, _%_, _≤_, _<_, min}
 use native.Mathlib.Omega.{arith}
@@ -97,8 +98,8 @@ module _ (t cs ks fs hs : List ℕ) (h : Head) (x : Reach) (L : Lent t cs ks fs 
       }
 
   -- NO ROW IS SORTED yet
-  pub unsorted : (ds : List ℕ) (m : ℕ) → Started cs ds (x .free) m → length ds ≡ length cs → Sorting (round-in t) (x .free) ds ks 0 281474993487872
-  unsorted ds m S l =
+  pub unsorted : (asked : Bool) (ds : List ℕ) (m : ℕ) → Started cs ds (x .free) m → length ds ≡ length cs → Sorting (round-in t) (x .free) asked ds ks 0 281474993487872
+  unsorted asked ds m S l =
       record {
         few = few;
         wide = omega (arith, L .keys, known t h (L .ready) .used);
@@ -107,12 +108,12 @@ module _ (t cs ks fs hs : List ℕ) (h : Head) (x : Reach) (L : Lent t cs ks fs 
         next = λ s a. omega (arith, S .places s a, upto-is s (omega (arith, a)));
         put = λ s j a b. absurd (omega (arith, b));
         by = omega arith;
-        least = λ j a. absurd (omega (arith, a));
+        least = λ f j a. absurd (omega (arith, a));
         named = λ a. absurd (omega (arith, a));
       }
 
   -- ALL ROWS ARE
-  module _ (ds us : List ℕ) (far : ℕ) (S : Sorting (round-in t) (x .free) ds us (h .used) far) where
+  module _ (asked : Bool) (ds us : List ℕ) (far : ℕ) (S : Sorting (round-in t) (x .free) asked ds us (h .used) far) where
     pub sorted : Sorted (round-in t) (x .free) us
     sorted =
         record {
@@ -123,11 +124,11 @@ module _ (t cs ks fs hs : List ℕ) (h : Head) (x : Reach) (L : Lent t cs ks fs 
               ∙ S .put (y .ahead) (placed r (x .free) p) (y .early) (omega (arith, y .within, known t h (L .ready) .used)) (y .due);
         }
 
-    pub far-is : Heaviest-from (round-in t) (round-in t .slot + x .free) far
-    far-is =
+    far-is : asked ≡ true → Heaviest-from (round-in t) (round-in t .slot + x .free) far
+    far-is f =
         record {
           by = S .by;
-          least = λ i a b. S .least i (omega (arith, a, known t h (L .ready) .used)) b;
+          least = λ i a b. S .least f i (omega (arith, a, known t h (L .ready) .used)) b;
           named = λ a. let y = S .named a in (omega (arith, y .0, known t h (L .ready) .used), y .1, y .2);
         }
 
@@ -157,7 +158,7 @@ module _ (t cs ks fs hs : List ℕ) (h : Head) (x : Reach) (L : Lent t cs ks fs 
 
     -- AND ARE LEFT OUT
     pub plans : (gs es : List ℕ) (slot m lost : ℕ) (p : Planned) → slot ≡ h .slot .0 → length gs ≡ length fs → Parted us gs slot (x .free) (x .over) lost →
-        Started cs es (x .free) m → p .many ≡ m → p .far ≡ far → p .lost ≡ lost → Plans (round-in t) x us gs p
+        Started cs es (x .free) m → p .many ≡ m → p .far ≡ far → p .lost ≡ lost → Plans (round-in t) x asked us gs p
     plans gs es slot m lost p e l P A em ef el =
         let k = known t h (L .ready) in
         let z : slot ≡ round-in t .slot = e ∙ k .slot in
@@ -167,6 +168,6 @@ module _ (t cs ks fs hs : List ℕ) (h : Head) (x : Reach) (L : Lent t cs ks fs 
           sorted = sorted;
           chosen = chosen-left r (k .fine) (k .small) (k .cap) (x .free) (x .over) us sorted many-near (L .reaches .near) (L .some) gs g lost Q;
           many = em ∙ A .many-is ∙ upto-is (x .free) (omega arith);
-          far = rw ef far-is;
+          far = λ f. rw ef (far-is f);
           lost = rw el (lost-is r (k .fine) (k .small) (k .cap) (x .free) (x .over) us sorted many-near (L .reaches .near) (L .some) gs g lost Q);
         }

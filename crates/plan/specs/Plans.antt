@@ -1,5 +1,6 @@
 -- What a plan is made from, and what it tells.
 use mathlib.Core.Path.{_≡_}
+use mathlib.Core.Bool.{Bool, true}
 use mathlib.Core.List.{List}
 use Prim.Native.Nat.{ℕ, _+_, _%_, _≤_, _<_}
 use lib.ListN.{length, replicate}
@@ -34,10 +35,10 @@ pub record Heaviest-from (r : Round) (slot key : ℕ) : Type 0 where
   pub named : key < blank-key → (key % 1024 < length (r .rows)) × (slot ≤ at r (key % 1024) .due) × (key-at r (key % 1024) ≡ key)
 
 -- THE PLAN: the near rows' keys in due order, a flag for each row of the plan, how many near rows there are,
--- the heaviest of the others, and the weight of all rows left out
-pub record Plans (r : Round) (x : Reach) (ks fs : List ℕ) (p : Planned) : Type 0 where
+-- the heaviest of the others where it is asked for, and the weight of all rows left out
+pub record Plans (r : Round) (x : Reach) (asked : Bool) (ks fs : List ℕ) (p : Planned) : Type 0 where
   pub sorted : Sorted r (x .free) ks
   pub chosen : Chosen r fs
   pub many : p .many ≡ many-due r (x .free)
-  pub far : Heaviest-from r (r .slot + x .free) (p .far)
+  pub far : asked ≡ true → Heaviest-from r (r .slot + x .free) (p .far)
   pub lost : p .lost + sum (λ y. y .weight) (with-flag r fs) ≡ sum (λ y. y .weight) (r .rows)

@@ -114,6 +114,12 @@ pub record Greatest (ks : List ℕ) (n top : ℕ) : Type 0 where
   pub is : top ≡ key-on ks place
   pub most : (q : ℕ) → q < n → key-on ks q ≤ top
 
+-- the greatest key up to the first crowded place
+pub record Lightest (ks : List ℕ) (slot top : ℕ) : Type 0 where
+  pub place : ℕ
+  pub first : First-crowded ks slot place
+  pub greatest : Greatest ks (place + 1) top
+
 -- an empty heap, and what may be in it
 pub record Empty-heap (hs : List ℕ) (most : ℕ) : Type 0 where
   pub none : hs ≡ replicate (length hs) 0

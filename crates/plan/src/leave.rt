@@ -3,7 +3,7 @@ ghost use mathlib.Core.Path.{_≡_};
 ghost use Prim.Native.Nat.{_+_, _-_, _/_, _%_, _≤_, _<_};
 ghost use lib.ListN.{length};
 ghost use Rattle.heap.specs.Heap.{Heap};
-ghost use Rattle.plan.specs.Sweep.{Leaves, Crowds, First-crowded, Empty-heap, Fills, Filled, Greatest, Crowd, Parted};
+ghost use Rattle.plan.specs.Sweep.{Leaves, Crowds, First-crowded, Lightest, Empty-heap, Fills, Filled, Crowd, Parted};
 use buckets::Reach;
 use heap::rise;
 use heap::sink;
@@ -32,26 +32,26 @@ fn first_crowded(keys: &[u64], slot: u32) -> usize
     place
 }
 
-// The greatest key up to a place.
-fn lightest(keys: &[u64], last: usize) -> u64
-    requires { ⌜ (last < length (now keys)) × (last ≤ 1024) ⌝ }
-    ensures { λ r. ⌜ Greatest (now (keys .entry)) (last + 1) r ⌝ }
+// The greatest key up to that place.
+fn lightest(keys: &[u64], slot: u32) -> u64
+    requires { ⌜ Crowds (now keys) slot ⌝ }
+    ensures { λ r. ⌜ Lightest (now (keys .entry)) slot r ⌝ }
 {
     let mut top = keys[0];
-    let mut i: usize = 0;
-    while i < last {
-        i += 1;
-        top = larger(top, keys[i]);
+    let mut at: usize = 0;
+    while at <= ahead_of(keys[at], slot) {
+        at += 1;
+        top = larger(top, keys[at]);
     }
     top
 }
 
 // One too many: the lightest of those that crowd first.
-fn leave_one(keys: &[u64], flags: &mut [u8], slot: u32, reach: Reach, first: usize) -> u64
-    requires { ⌜ Crowd (now keys) (now flags) slot (reach .free) (reach .over) × (reach .over ≡ 1) × First-crowded (now keys) slot first ⌝ }
+fn leave_one(keys: &[u64], flags: &mut [u8], slot: u32, reach: Reach) -> u64
+    requires { ⌜ Crowd (now keys) (now flags) slot (reach .free) (reach .over) × (reach .over ≡ 1) ⌝ }
     ensures { λ r. ⌜ Parted (now (keys .entry)) (now (flags .exit)) slot (reach .free) (reach .over) r ⌝ }
 {
-    let top = lightest(keys, first);
+    let top = lightest(keys, slot);
     flags[row_of(top)] = 0;
     weight_of(top) as u64
 }
@@ -118,9 +118,9 @@ pub fn leave_out(keys: &[u64], flags: &mut [u8], heap: &mut [u64], slot: u32, re
     requires { ⌜ Crowd (now keys) (now flags) slot (reach .free) (reach .over) × Empty-heap (now heap) (reach .free + reach .over) ⌝ }
     ensures { λ r. ⌜ Parted (now (keys .entry)) (now (flags .exit)) slot (reach .free) (reach .over) r ⌝ }
 {
-    let first = first_crowded(keys, slot);
     if reach.over == 1 {
-        return leave_one(keys, flags, slot, reach, first);
+        return leave_one(keys, flags, slot, reach);
     }
+    let first = first_crowded(keys, slot);
     leave_some(keys, flags, heap, slot, reach, first)
 }

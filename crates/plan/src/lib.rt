@@ -11,7 +11,7 @@ use sort::sort;
 use sort::starts;
 use sorts::Round;
 
-// How many near rows there are, the key of the heaviest other one, and the weight of all rows left out.
+// How many near rows there are, the key of the heaviest other one where it is asked for, and the weight of all rows left out.
 pub struct Planned {
     pub many: usize,
     pub far: u64,
@@ -27,12 +27,13 @@ pub fn plan_of(
     heap: &mut [u64],
     round: Round,
     reach: Reach,
+    asked: bool,
 ) -> Planned
     requires { ⌜ Lent (now table) (now counts) (now keys) (now flags) (now heap) round reach ⌝ }
-    ensures { λ r. ⌜ Plans (round-in (now (table .entry))) reach (now (keys .exit)) (now (flags .exit)) r ⌝ }
+    ensures { λ r. ⌜ Plans (round-in (now (table .entry))) reach asked (now (keys .exit)) (now (flags .exit)) r ⌝ }
 {
     let many = starts(counts, reach.free);
-    let far = sort(table, counts, keys, round, reach.free);
+    let far = sort(table, counts, keys, round, reach.free, asked);
     let lost = leave_out(keys, flags, heap, round.slot.0, reach);
     Planned { many, far, lost }
 }

@@ -1,5 +1,6 @@
 -- What the plan gives to those who ask about it.
 use mathlib.Core.Path.{_≡_}
+use mathlib.Core.Bool.{false}
 use mathlib.Core.List.{List}
 use Prim.Native.Nat.{ℕ, _+_, _≤_, _<_}
 use lib.ListN.{getD}
@@ -21,7 +22,7 @@ use Rattle.marks.proofs.AskLaws.{lost-is, lost-none, lent-asked, mark-says, sub
 use Rattle.questions.specs.Seen.{Seen}
 
 -- a plan by its keys and flags
-module _ (t : List ℕ) (h : Head) (x : Reach) (k : Ready t h) (w : Reaches (round-in t) x) (ks fs : List ℕ) (p : Planned) (c : Plans (round-in t) x ks fs p) where
+module _ (t : List ℕ) (h : Head) (x : Reach) (k : Ready t h) (w : Reaches (round-in t) x) (ks fs : List ℕ) (p : Planned) (c : Plans (round-in t) x false ks fs p) where
   -- the rows left out weigh what the plan lost
   pub plan-lost : Lost (round-in t) (p .lost)
   plan-lost = lost-is (round-in t) (known t h k .fine) fs (p .lost) (c .chosen) (c .lost)

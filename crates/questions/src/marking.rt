@@ -141,6 +141,6 @@ fn mark_planned(
         × (round .slot .0 ≤ slot .0) × (slot .0 < round .slot .0 + reach .free) ⌝ }
     ensures { λ r. ⌜ r .0 ≡ mark (round-in (now (table .entry))) (slot .0) ⌝ }
 {
-    let planned = plan_of(table, counts, keys, flags, heap, round, reach);
+    let planned = plan_of(table, counts, keys, flags, heap, round, reach, false);
     Weight(marks::mark::mark_of(keys, flags, planned.many, round.slot.0, slot.0))
 }

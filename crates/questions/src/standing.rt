@@ -1,4 +1,5 @@
 // Who stands in for a row: refusal 11 where the row is not in the plan.
+ghost use mathlib.Core.Bool.{false};
 ghost use Prim.Native.Nat.{_+_, _≤_, _<_};
 ghost use Rattle.rules.specs.Table.{round-in};
 ghost use Rattle.round.specs.Rows.{Ready, at};
@@ -162,7 +163,7 @@ fn substitute_planned(
         × (at (round-in (now table)) row .due < round .slot .0 + reach .free) ⌝ }
     ensures { λ r. ⌜ Stood-in (round-in (now (table .entry))) row (of-substituted r) ⌝ }
 {
-    let planned = plan_of(table, counts, keys, flags, heap, round, reach);
+    let planned = plan_of(table, counts, keys, flags, heap, round, reach, false);
     substitute_flagged(table, keys, flags, round, reach, planned, row)
 }
 
@@ -176,7 +177,7 @@ fn substitute_flagged(
     planned: Planned,
     row: usize,
 ) -> Substituted
-    requires { ⌜ Ready (now table) round × Reaches (round-in (now table)) reach × Plans (round-in (now table)) reach (now keys) (now flags) planned
+    requires { ⌜ Ready (now table) round × Reaches (round-in (now table)) reach × Plans (round-in (now table)) reach false (now keys) (now flags) planned
         × (row < round .used) × (at (round-in (now table)) row .due < round .slot .0 + reach .free) ⌝ }
     ensures { λ r. ⌜ Stood-in (round-in (now (table .entry))) row (of-substituted r) ⌝ }
 {

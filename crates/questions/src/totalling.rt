@@ -121,6 +121,6 @@ fn total_planned(
     requires { ⌜ Lent (now table) (now counts) (now keys) (now flags) (now heap) round reach ⌝ }
     ensures { λ r. ⌜ r ≡ total (round-in (now (table .entry))) ⌝ }
 {
-    let planned = plan_of(table, counts, keys, flags, heap, round, reach);
+    let planned = plan_of(table, counts, keys, flags, heap, round, reach, false);
     total_of(table, round, planned.lost)
 }

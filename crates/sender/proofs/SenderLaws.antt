@@ -1,5 +1,6 @@
 -- From the counts to the plan, from the plan to its segments, and from these to the step.
 use mathlib.Core.Path.{_≡_, refl, sym, ap}
+use mathlib.Core.Bool.{true}
 use mathlib.Core.Logic.{inl, inr}
 use mathlib.Core.List.{List}
 use Prim.Native.Nat.{ℕ, suc, _+_, _/_, _%_, _≤_}
@@ -93,7 +94,7 @@ some-slot t x k o =
 
 -- THE PLAN MADE: its segments are given
 pub led : (t cs ks fs hs ls : List ℕ) (h : Head) (x : Reach) (e : ℕ) → Crowded t cs ks fs hs ls h x e → (ks2 fs2 : List ℕ) (p : Planned) →
-    Plans (round-in t) x ks2 fs2 p → (cs2 hs2 : List ℕ) → length cs2 ≡ length cs → length hs2 ≡ length hs → Led t cs2 ks2 fs2 hs2 ls h x p e
+    Plans (round-in t) x true ks2 fs2 p → (cs2 hs2 : List ℕ) → length cs2 ≡ length cs → length hs2 ≡ length hs → Led t cs2 ks2 fs2 hs2 ls h x p e
 led t cs ks fs hs ls h x e c ks2 fs2 p q cs2 hs2 a b =
     let g = given-laws.given t h ks2 fs2 (p .many) (x .free) (c .lent .ready) (q .chosen) (q .sorted) (c .lent .reaches .near)
     (some-slot t x (c .lent .reaches) (c .lent .some)) (q .many) in
@@ -102,7 +103,7 @@ led t cs ks fs hs ls h x e c ks2 fs2 p q cs2 hs2 a b =
     record {
       ready = c .lent .ready;
       given = g;
-      far = q .far;
+      far = q .far refl;
       ends = omega (arith, a, c .lent .counted .enough, c .lent .reaches .sweep .high);
       tops = omega (arith, b, m, v .used, c .lent .room);
       lows = omega (arith, m, v .used, c .lows);

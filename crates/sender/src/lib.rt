@@ -73,7 +73,7 @@ fn send_crowded(
     requires { ⌜ Crowded (now table) (now counts) (now keys) (now flags) (now heap) (now lows) round reach expiring ⌝ }
     ensures { λ r. ⌜ Sent-says (now (table .entry)) (now (table .exit)) r ⌝ }
 {
-    let planned = plan_of(table, counts, keys, flags, heap, round, reach);
+    let planned = plan_of(table, counts, keys, flags, heap, round, reach, true);
     send_led(
         table,
         counts,

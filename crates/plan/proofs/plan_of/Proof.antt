@@ -11,13 +11,13 @@ starts-requires c κs = startable _ _ _ _ _ _ _ (c .before .before .before .befo
 sort-requires : tie.Need-sort-requires
 sort-requires c κs =
     let l = c .before .before .before .before .before .before .before .before .before .before .before .pre in
-    (l .ready, unsorted _ _ _ _ _ _ _ l _ _ (c .before .before .before .before .starts .ensures) (search needs))
+    (l .ready, unsorted _ _ _ _ _ _ _ l _ _ _ (c .before .before .before .before .starts .ensures) (search needs))
 
 leave-out-requires : tie.Need-leave-out-requires
 leave-out-requires c κs =
     let before = c .before .before .before .before .before .before .before .before .before .before .before .before .before .before .before .before .before .before .before in
     let sort = c .before .before .before .before .before .before .before .sort in
-    crowd _ _ _ _ _ _ _ (before .pre) _ _ _ (sort .ensures) _ refl
+    crowd _ _ _ _ _ _ _ (before .pre) _ _ _ _ (sort .ensures) _ refl
 
 same-length : tie.Need-same-length
 same-length c = search needs
@@ -37,7 +37,7 @@ returns c =
     let sort = c .before .before .before .before .before .before .before .before .before .before .before .before .sort in
     let leave-out = c .before .before .before .before .leave-out in
     let starts = c .before .before .before .before .before .before .before .before .before .before .before .before .before .before .before .before .before .starts in
-    plans _ _ _ _ _ _ _ (before .pre) _ _ _ (sort .ensures) _ _ _ _ _ _ refl (search needs) (leave-out .ensures) (starts .ensures) refl refl refl
+    plans _ _ _ _ _ _ _ (before .pre) _ _ _ _ (sort .ensures) _ _ _ _ _ _ refl (search needs) (leave-out .ensures) (starts .ensures) refl refl refl
 
 pub plan-of-spec : {M : Type 1} → statement M
 plan-of-spec =

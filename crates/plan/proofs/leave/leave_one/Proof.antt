@@ -1,12 +1,12 @@
 -- `leave_one`: the greatest key names the row that leaves.
-use Rattle.plan.proofs.GoingLaws.{one-most, one-left}
-use Rattle.plan.proofs.LeaveLaws.{crowded-bounds, one-row-at}
+use Rattle.plan.proofs.GoingLaws.{crowd-met, one-most, one-left}
+use Rattle.plan.proofs.LeaveLaws.{one-row-at}
 use borrow.Author.Needs.{needs}
 use Rattle.plan.proofs.leave.leave_one.Statement.{statement}
 use Rattle.plan.proofs.leave.leave_one.Tie as tie
 
 lightest-requires : tie.Need-lightest-requires
-lightest-requires c κs = let p = c .before .before .pre in crowded-bounds _ _ _ _ _ _ (p .0) (p .2)
+lightest-requires c κs = crowd-met _ _ _ _ _ (c .before .before .pre .0)
 
 row-of-requires : tie.Need-row-of-requires
 row-of-requires c κs = search needs
@@ -14,12 +14,12 @@ row-of-requires c κs = search needs
 slice-write-flags : tie.Need-slice-write-flags
 slice-write-flags c =
     let p = c .before .before .before .before .pre in
-    one-row-at _ _ _ _ _ _ _ _ (p .0) (p .2) (c .before .lightest .ensures) (c .row-of .ensures)
+    one-row-at _ _ _ _ _ _ _ (p .0) (c .before .lightest .ensures) (c .row-of .ensures)
 
 weight-of-requires : tie.Need-weight-of-requires
 weight-of-requires c κs =
     let p = c .before .before .before .before .pre in
-    one-most _ _ _ _ _ _ _ (p .0) (p .2) (c .before .lightest .ensures)
+    one-most _ _ _ _ _ _ (p .0) (c .before .lightest .ensures)
 
 cast-result : tie.Need-cast-result
 cast-result c = search needs
@@ -30,7 +30,7 @@ same-length c = search needs
 returns : tie.Need-returns
 returns c =
     let p = c .before .before .before .before .before .pre in
-    one-left _ _ _ _ _ _ _ (p .0) (p .2) (c .before .before .lightest .ensures) _ _ (p .1) (c .before .row-of .ensures) (search needs)
+    one-left _ _ _ _ _ _ (p .0) (c .before .before .lightest .ensures) _ _ (p .1) (c .before .row-of .ensures) (search needs)
 
 pub leave-one-spec : {M : Type 1} → statement M
 leave-one-spec =

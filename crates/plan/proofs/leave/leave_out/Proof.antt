@@ -4,9 +4,6 @@ use borrow.Author.Needs.{needs}
 use Rattle.plan.proofs.leave.leave_out.Statement.{statement}
 use Rattle.plan.proofs.leave.leave_out.Tie as tie
 
-first-crowded-requires : tie.Need-first-crowded-requires
-first-crowded-requires c κs = crowd-met _ _ _ _ _ (c .before .before .before .pre .0)
-
 leave-one-requires : tie.Need-leave-one-requires
 leave-one-requires c κs = search needs
 
@@ -15,6 +12,9 @@ same-length c = search needs
 
 returns : tie.Need-returns
 returns c = search needs
+
+first-crowded-requires : tie.Need-first-crowded-requires
+first-crowded-requires c κs = crowd-met _ _ _ _ _ (c .before .before .before .before .before .pre .0)
 
 leave-some-requires : tie.Need-leave-some-requires
 leave-some-requires c κs = search needs
@@ -32,10 +32,10 @@ pub leave-out-spec : {M : Type 1} → statement M
 leave-out-spec =
     tie.close
     (tie.spec
-    first-crowded-requires
     leave-one-requires
     same-length
     returns
+    first-crowded-requires
     leave-some-requires
     same-length-2
     same-length-3

@@ -2,7 +2,7 @@
 use mathlib.Core.Path.{_≡_, refl, sym, ap, _∙_, subst}
 use mathlib.Core.Logic.{inl, inr}
 use mathlib.Core.List.{List, [], _∷_}
-use Prim.Native.Nat.{ℕ, suc, _+_, _*_, _%_, _≤_, _<_, min}
+use Prim.Native.Nat.{ℕ, suc, _+_, _*_, _≤_, _<_, min}
 use native.Mathlib.Omega.{arith}
 use lib.ListN.{length, getD}
 use Rattle.rules.specs.Rows.{Row, Round}
@@ -12,7 +12,7 @@ use Rattle.theory.specs.Full.{Fine}
 use Rattle.theory.specs.Members.{Rows-of-plan}
 use Rattle.theory.specs.Near.{Near}
 use Rattle.round.specs.Rows.{at}
-use Rattle.keys.specs.Key.{blank-key}
+use Rattle.keys.specs.Key.{row-of, blank-key}
 use Rattle.keys.specs.KeyLaws.{row-is, some-key}
 use Rattle.picture.specs.Picture.{Segment, Heaviest}
 use Rattle.picture.specs.Substitutes.{stand-in-first, stand-in-later}
@@ -149,14 +149,14 @@ module _ (r : Round) (n : ℕ) (es ts ls : List ℕ) (l : Lead) (s : Segmented r
 
     -- THE ROW that a key names
     module _ (small : length (r .rows) ≤ 1024) (cap : r .last ≤ 4095) where
-      pub keyed-row : (x : Row) (k : ℕ) → Keyed r x k → at r (k % 1024) ≡ x
-      keyed-row x k w = ap (at r) (ap (λ (v : ℕ). v % 1024) (w .key) ∙ row-is r f small cap (w .row) (w .there)) ∙ sym (w .is)
+      pub keyed-row : (x : Row) (k : ℕ) → Keyed r x k → at r (row-of k) ≡ x
+      keyed-row x k w = ap (at r) (ap row-of (w .key) ∙ row-is r f small cap (w .row) (w .there)) ∙ sym (w .is)
 
-      pub keyed-below : (x : Row) (k : ℕ) → Keyed r x k → (k % 1024 < length (r .rows)) × (k < blank-key)
+      pub keyed-below : (x : Row) (k : ℕ) → Keyed r x k → (row-of k < length (r .rows)) × (k < blank-key)
       keyed-below x k w = (
-        omega (arith, ap (λ (v : ℕ). v % 1024) (w .key) ∙ row-is r f small cap (w .row) (w .there), w .there),
+        omega (arith, ap row-of (w .key) ∙ row-is r f small cap (w .row) (w .there), w .there),
         omega (arith, w .key, some-key r f small cap (w .row) (w .there) .1),
       )
 
-      pub lead-row : at r (l .key % 1024) ≡ s .leader .of .top
+      pub lead-row : at r (row-of (l .key)) ≡ s .leader .of .top
       lead-row = keyed-row (s .leader .of .top) (l .key) (s .leader .key)

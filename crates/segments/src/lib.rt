@@ -1,10 +1,11 @@
 // Segments as a value: one backward pass over the near rows' keys in due order finds each segment and the one whose top goes first.
 ghost use mathlib.Core.Path.{_≡_};
-ghost use Prim.Native.Nat.{_+_, _-_, _≤_, _<_};
+ghost use Prim.Native.Nat.{_+_, _≤_, _<_};
 ghost use lib.ListN.{length, set};
 ghost use Rattle.rules.specs.PlanM.{score};
+ghost use Rattle.keys.specs.Key.{weight-of, blank-key};
 ghost use Rattle.segments.specs.Given.{Lent};
-ghost use Rattle.segments.specs.Segmented.{ends-here, weight-in, closed, Segments-say};
+ghost use Rattle.segments.specs.Segmented.{ends-here, closed, Segments-say};
 use keys::BLANK;
 use keys::due_of;
 use keys::larger;
@@ -41,10 +42,10 @@ fn close_segment(
     other: u64,
 ) -> Lead
     requires { ⌜ (lead .count < length (now ends)) × (lead .count < length (now tops)) × (lead .count < length (now lows))
-        × (heavy ≤ 281474993487872) × (light ≤ 281474993487872) × (other ≤ 281474993487872) ⌝ }
+        × (heavy ≤ blank-key) × (light ≤ blank-key) × (other ≤ blank-key) ⌝ }
     ensures { λ r. ⌜ (r ≡ closed lead heavy other) × (now (ends .exit) ≡ set (now (ends .entry)) (lead .count) end)
         × (now (tops .exit) ≡ set (now (tops .entry)) (lead .count) heavy)
-        × (now (lows .exit) ≡ set (now (lows .entry)) (lead .count) (weight-in light)) ⌝ }
+        × (now (lows .exit) ≡ set (now (lows .entry)) (lead .count) (weight-of light)) ⌝ }
 {
     let at = lead.count;
     let score = score_of(weight_of(heavy), weight_of(other));

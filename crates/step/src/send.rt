@@ -1,8 +1,9 @@
 // A sending, once the row that goes is known: what it writes, and what went out. At most expiring rows are due in the current slot.
 ghost use mathlib.Core.Path.{_≡_};
-ghost use Prim.Native.Nat.{_*_, _-_, _/_, _≤_, _<_};
+ghost use Prim.Native.Nat.{_*_, _≤_, _<_};
 ghost use Rattle.rules.specs.Table.{round-in};
 ghost use Rattle.round.specs.Rows.{Ready, at};
+ghost use Rattle.keys.specs.Key.{weight-of, blank-key};
 ghost use Rattle.closing.specs.Close.{Due-now};
 ghost use Rattle.step.specs.Send.{Went-of, Sent-says, Leaves-alone, Keeps-blank, Leaps-blank, Leaps-row, Planned-step, Whole-step};
 use crate::chain::lower_marks;
@@ -131,8 +132,8 @@ fn send_swapped(
 
 // A far row has no substitute, so its score is its weight's alone.
 fn far_score(far: u64) -> u64
-    requires { ⌜ far ≤ 281474993487872 ⌝ }
-    ensures { λ r. ⌜ r ≡ (16777217 - far / 16777216) * 39088169 ⌝ }
+    requires { ⌜ far ≤ blank-key ⌝ }
+    ensures { λ r. ⌜ r ≡ weight-of far * 39088169 ⌝ }
 {
     weight_of(far) as u64 * 39088169
 }

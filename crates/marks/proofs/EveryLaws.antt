@@ -145,7 +145,7 @@ module _ (t cs : List ℕ) (h : Head) (x : Reach) (w : Whole t cs h x) where
           omega (arith, g .by, k .slot, a .is, a .from),
         )
 
-    pub blank-is : (v : ℕ) → (y .first ≡ 0 → ⊥) → v ≡ h .slot .0 + y .first → Substitutes rd i (Blank v)
+    pub blank-is : (v : ℕ) → (y .first ≡ 0 → ⊥) → v ≡ h .slot .0 + y .first → Substitutes rd i (Blank (record { 0 = v }))
     blank-is v n q =
         let k = known t h (w .ready) in
         let o : rd .slot + y .first ≡ v = omega (arith, q, k .slot) in

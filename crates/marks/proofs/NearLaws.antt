@@ -200,7 +200,7 @@ module _ (r : Round) (ks fs : List ℕ) (many slot n asked : ℕ) (a : Asked r k
                 ∙ ap (at r) (sym u),
           )
 
-      pub blank-left : k ≡ blank-key → Substitutes r i (Blank (x .first))
+      pub blank-left : k ≡ blank-key → Substitutes r i (Blank (record { 0 = x .first }))
       blank-left e =
           segment-none r (g .fine) (g .time) (with-flag r fs) (plan-rows r ks fs many slot n g) (r .slot + n) (g .near) (x .first) (w .end) (w .near)
           (w .segment) after-first (at r i) (omega (arith, d, w .from)) (omega (arith, d, w .by))

@@ -1,7 +1,7 @@
 -- From the counts to the plan, from the plan to its segments, and from these to the step.
 use mathlib.Core.Path.{_≡_, refl, sym, ap, _∙_}
 use mathlib.Core.Logic.{_⊎_, inl, inr}
-use mathlib.Core.List.{List, [], _∷_}
+use mathlib.Core.List.{List}
 use Prim.Native.Nat.{ℕ, suc, _+_, _/_, _≤_, _<_}
 use native.Mathlib.Omega.{arith}
 use lib.ListN.{length, getD, replicate, length-replicate}
@@ -11,7 +11,7 @@ use Rattle.theory.specs.Tests.{leb?, ltb?}
 use Rattle.theory.specs.Sum.{sum, sum-le, length-sum}
 use Rattle.theory.specs.All.{all-map}
 use Rattle.theory.specs.Bounds.{Row-fine}
-use Rattle.theory.specs.Feas.{num, below-1}
+use Rattle.theory.specs.Feas.{num}
 use Rattle.theory.specs.Count.{under, under-1, counts-next, counts-none, counts-below, counts-all}
 use Rattle.sorts.specs.declared.Round.{Round as Head}
 use Rattle.round.specs.Rows.{Ready, top-of}
@@ -31,11 +31,8 @@ use Rattle.closing.specs.Close.{Due-now}
 use Rattle.whole.specs.Whole as whole
 use Rattle.whole.specs.declared.Whole.{Whole}
 use Rattle.step.specs.Send.{Far-first, Planned-step, Whole-step}
+use Rattle.step.proofs.SendLaws.{num-most}
 use Rattle.sender.specs.Crowded.{Crowded, Led}
-
-num-most : (e : ℕ) (xs : List Row) → num 0 e xs ≤ length xs
-num-most e [] = omega arith
-num-most e (x ∷ xs) = omega (arith, below-1 0 e x, num-most e xs)
 
 -- ROWS DUE NOW: no more than the first bucket counts
 pub due-now : (t : List ℕ) (h : Head) (cs : List ℕ) → Ready t h → Counted (round-in t) cs → (n : ℕ) → n ≡ getD cs 0 0 / 2048 → Due-now t n

@@ -1,12 +1,24 @@
 -- One number for a row: greater for the lighter one; of equal weights for the later due slot, then for the later row. So no key is
 -- greater than a heavier row's, and that of a blank, which weighs nothing, is greater than any row's.
-use Prim.Native.Nat.{ℕ, _+_, _*_, _-_}
+use Prim.Native.Nat.{ℕ, _+_, _*_, _-_, _/_, _%_}
 use Rattle.rules.specs.Rows.{Round}
 use Rattle.round.specs.Rows.{at}
 
 -- Weight, due slot, two bits that nothing uses yet, and the row.
 unfoldable pub key : (weight due row : ℕ) → ℕ
 key w d i = (16777217 - w) * 16777216 + d * 4096 + i
+
+-- the weight that a key tells, 0 of a blank
+abbrev pub weight-of : (key : ℕ) → ℕ
+weight-of k = 16777217 - k / 16777216
+
+-- the due slot that it tells
+abbrev pub due-of : (key : ℕ) → ℕ
+due-of k = k / 4096 % 4096
+
+-- the row that it tells, and so does a key of canonical order
+abbrev pub row-of : (key : ℕ) → ℕ
+row-of k = k % 1024
 
 -- no row
 abbrev pub blank-key : ℕ

@@ -2,7 +2,7 @@
 use mathlib.Core.Path.{_≡_, sym, ap, _∙_}
 use mathlib.Core.Logic.{inl, inr}
 use mathlib.Core.Bool.{true, false}
-use Prim.Native.Nat.{ℕ, _+_, _*_, _-_, _/_, _%_, _≤_, _<_}
+use Prim.Native.Nat.{ℕ, _+_, _*_, _-_, _≤_, _<_}
 use native.Mathlib.Omega.{arith}
 use lib.Dec.{ltb}
 use lib.ListN.{length}
@@ -14,18 +14,18 @@ use Rattle.theory.specs.Full.{Fine}
 use Rattle.theory.specs.Order.{Not-over, heavier?}
 use Rattle.theory.specs.Keys.{getD-in, tickets-rise}
 use Rattle.round.specs.Rows.{at}
-use Rattle.keys.specs.Key.{key, blank-key, key-at}
+use Rattle.keys.specs.Key.{key, weight-of, due-of, row-of, blank-key, key-at}
 
 -- WHAT A KEY TELLS
-pub key-weight : (w d i : ℕ) → w ≤ 16777216 → d ≤ 4095 → i < 1024 → 16777217 - key w d i / 16777216 ≡ w
+pub key-weight : (w d i : ℕ) → w ≤ 16777216 → d ≤ 4095 → i < 1024 → weight-of (key w d i) ≡ w
 unfolding key
 key-weight w d i a b c = omega arith
 
-pub key-due : (w d i : ℕ) → d ≤ 4095 → i < 1024 → key w d i / 4096 % 4096 ≡ d
+pub key-due : (w d i : ℕ) → d ≤ 4095 → i < 1024 → due-of (key w d i) ≡ d
 unfolding key
 key-due w d i b c = omega arith
 
-pub key-row : (w d i : ℕ) → i < 1024 → key w d i % 1024 ≡ i
+pub key-row : (w d i : ℕ) → i < 1024 → row-of (key w d i) ≡ i
 unfolding key
 key-row w d i c = omega arith
 
@@ -62,14 +62,14 @@ module _ (r : Round) (f : Fine r) (small : length (r .rows) ≤ 1024) (cap : r .
   pub row-fine : (i : ℕ) → i < length (r .rows) → Row-fine r (at r i)
   row-fine i h = all-in (Row-fine r) (at r i) (r .rows) (f .fine) (getD-in (r .rows) (blank 0) i h)
 
-  pub weight-is : (i : ℕ) → i < length (r .rows) → 16777217 - key-at r i / 16777216 ≡ at r i .weight
+  pub weight-is : (i : ℕ) → i < length (r .rows) → weight-of (key-at r i) ≡ at r i .weight
   weight-is i h =
       let b = row-fine i h in key-weight (at r i .weight) (at r i .due) i (b .most) (omega (arith, b .due-by)) (omega (arith, h))
 
-  pub due-is : (i : ℕ) → i < length (r .rows) → key-at r i / 4096 % 4096 ≡ at r i .due
+  pub due-is : (i : ℕ) → i < length (r .rows) → due-of (key-at r i) ≡ at r i .due
   due-is i h = let b = row-fine i h in key-due (at r i .weight) (at r i .due) i (omega (arith, b .due-by)) (omega (arith, h))
 
-  pub row-is : (i : ℕ) → i < length (r .rows) → key-at r i % 1024 ≡ i
+  pub row-is : (i : ℕ) → i < length (r .rows) → row-of (key-at r i) ≡ i
   row-is i h = key-row (at r i .weight) (at r i .due) i (omega (arith, h))
 
   pub some-key : (i : ℕ) → i < length (r .rows) → (1 ≤ key-at r i) × (key-at r i < blank-key)
@@ -81,7 +81,7 @@ module _ (r : Round) (f : Fine r) (small : length (r .rows) ≤ 1024) (cap : r .
 
   -- different rows have different keys
   pub keys-apart : (i j : ℕ) → i < length (r .rows) → j < length (r .rows) → key-at r i ≡ key-at r j → i ≡ j
-  keys-apart i j h k e = sym (row-is i h) ∙ ap (λ (x : ℕ). x % 1024) e ∙ row-is j k
+  keys-apart i j h k e = sym (row-is i h) ∙ ap row-of e ∙ row-is j k
 
   -- and the order is heavier
   pub heavier-key : (i j : ℕ) → i < length (r .rows) → j < length (r .rows) → heavier (at r i) (at r j) ≡ ltb (key-at r i) (key-at r j)

@@ -1,7 +1,7 @@
 // One number for a row, by which rows are compared, and the laws of that number: the only place that knows how a key is made.
 ghost use mathlib.Core.Path.{_≡_};
-ghost use Prim.Native.Nat.{_-_, _/_, _%_, _≤_, _<_, max, min};
-ghost use Rattle.keys.specs.Key.{key};
+ghost use Prim.Native.Nat.{_≤_, _<_, max, min};
+ghost use Rattle.keys.specs.Key.{key, weight-of, due-of, row-of, blank-key};
 use sorts::Slot;
 use sorts::Weight;
 
@@ -19,20 +19,20 @@ pub fn key_of(weight: Weight, due: Slot, row: usize) -> u64
 
 // What a key tells: the weight (0 of BLANK), the due slot, the row.
 pub fn weight_of(key: u64) -> u32
-    requires { ⌜ key ≤ 281474993487872 ⌝ }
-    ensures { λ r. ⌜ r ≡ 16777217 - key / 16777216 ⌝ }
+    requires { ⌜ key ≤ blank-key ⌝ }
+    ensures { λ r. ⌜ r ≡ weight-of key ⌝ }
 {
     (16777217 - key / 16777216) as u32
 }
 
 pub fn due_of(key: u64) -> u32
-    ensures { λ r. ⌜ r ≡ key / 4096 % 4096 ⌝ }
+    ensures { λ r. ⌜ r ≡ due-of key ⌝ }
 {
     (key / 4096 % 4096) as u32
 }
 
 pub fn row_of(key: u64) -> usize
-    ensures { λ r. ⌜ r ≡ key % 1024 ⌝ }
+    ensures { λ r. ⌜ r ≡ row-of key ⌝ }
 {
     (key % 1024) as usize
 }

@@ -3,7 +3,7 @@ use mathlib.Core.Path.{_≡_, refl, sym, ap, _∙_, subst}
 use mathlib.Core.Logic.{inl, inr}
 use mathlib.Core.Bool.{false, cond}
 use mathlib.Core.List.{List, [], _∷_}
-use Prim.Native.Nat.{ℕ, zero, suc, _+_, _-_, _%_, _≤_, _<_, min, max}
+use Prim.Native.Nat.{ℕ, zero, suc, _+_, _-_, _≤_, _<_, min, max}
 use native.Mathlib.Omega.{arith}
 use native.Mathlib.Numerals.{add-one}
 use lib.Dec.{leb}
@@ -23,7 +23,7 @@ use Rattle.theory.specs.Substitute.{first-row}
 use Rattle.sorts.specs.declared.Round.{Round as Head}
 use Rattle.round.specs.Rows.{Due-at, Weight-at, at}
 use Rattle.round.proofs.ReadLaws.{known}
-use Rattle.keys.specs.Key.{key, key-at}
+use Rattle.keys.specs.Key.{key, row-of, key-at}
 use Rattle.keys.specs.KeyLaws.{row-is, some-key, greater-key}
 use Rattle.buckets.specs.declared.Reach.{Reach}
 use Rattle.buckets.specs.Stretch.{Full, Stretches}
@@ -145,7 +145,7 @@ module _ (t cs : List ℕ) (h : Head) (x : Reach) (w : Whole t cs h x) where
           omega (arith, g .by, k .slot, a .is, a .from),
         )
 
-    pub blank-is : (v : ℕ) → (y .first ≡ 0 → ⊥) → v ≡ h .slot .0 + y .first → Substitutes rd i (Blank v)
+    pub blank-is : (v : ℕ) → (y .first ≡ 0 → ⊥) → v ≡ h .slot .0 + y .first → Substitutes rd i (Blank (record { 0 = v }))
     blank-is v n q =
         let k = known t h (w .ready) in
         let o : rd .slot + y .first ≡ v = omega (arith, q, k .slot) in
@@ -154,7 +154,7 @@ module _ (t cs : List ℕ) (h : Head) (x : Reach) (w : Whole t cs h x) where
         (λ z j m. absurd (not-found rd fine (rd .rows) rows-all z j m j))
         ∙ ap blank o
 
-    pub row-is-low : (e k j : ℕ) → y .first ≡ 0 → Lightest-key rd e k → e ≡ h .slot .0 + y .last → j ≡ k % 1024 → Substitutes rd i (Row-at j)
+    pub row-is-low : (e k j : ℕ) → y .first ≡ 0 → Lightest-key rd e k → e ≡ h .slot .0 + y .last → j ≡ row-of k → Substitutes rd i (Row-at j)
     row-is-low e k j n m q p =
         let o = known t h (w .ready) in
         let f = fine in
@@ -163,7 +163,7 @@ module _ (t cs : List ℕ) (h : Head) (x : Reach) (w : Whole t cs h x) where
         first-segment rd f (o .time) (rd .rows) rows-all (rd .slot + x .free) (w .reaches .near) (rd .slot + y .first) (rd .slot + y .last)
         (omega (arith, g .near)) (stretched (d - h .slot .0) y g) b in
         let c = m .some (omega (arith, m .most i there (omega (arith, within .1, q, o .slot)), some-key rd f (o .small) (o .cap) i there .0)) in
-        let u : j ≡ c .row = p ∙ ap (λ (v : ℕ). v % 1024) (sym (c .is)) ∙ row-is rd f (o .small) (o .cap) (c .row) (c .below) in (
+        let u : j ≡ c .row = p ∙ ap row-of (sym (c .is)) ∙ row-is rd f (o .small) (o .cap) (c .row) (c .below) in (
           omega (arith, u, c .below),
           first-row rd f (rd .rows) rows-all (o .time) (at rd i) (found-member rd f (rd .rows) rows-all (at rd i) (getD-in (rd .rows) (blank 0) i there))
               (omega (arith, z, within .1)) (at rd (c .row)) (getD-in (rd .rows) (blank 0) (c .row) (c .below)) (omega (arith, z, c .by, q, o .slot))

@@ -368,7 +368,7 @@ module _ (t cs : List ℕ) (h : Head) (x : Reach) (i : ℕ) (a : Far-row t cs h 
           }
 
       -- THE ANSWER
-      pub blank-begins : (b s : ℕ) → Begins ds (w .mid) (w .top) b → s ≡ w .low + b → Substitutes rd i (Blank s)
+      pub blank-begins : (b s : ℕ) → Begins ds (w .mid) (w .top) b → s ≡ w .low + b → Substitutes rd i (Blank (record { 0 = s }))
       blank-begins b s j o =
           let n = known t h (a .ready) in
           let z = rd .slot + x .free in

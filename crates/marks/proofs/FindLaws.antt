@@ -2,7 +2,7 @@
 use mathlib.Core.Path.{_≡_, refl, sym, ap, _∙_, subst}
 use mathlib.Core.Logic.{inl, inr}
 use mathlib.Core.List.{List}
-use Prim.Native.Nat.{ℕ, suc, _+_, _-_, _/_, _%_, _≤_, _<_, max}
+use Prim.Native.Nat.{ℕ, suc, _+_, _-_, _≤_, _<_, max}
 use native.Mathlib.Omega.{arith}
 use native.Mathlib.Numerals.{add-one}
 use lib.ListN.{length, getD}
@@ -11,7 +11,7 @@ use Rattle.theory.specs.Tests.{leb?, ltb?, eqb?}
 use Rattle.theory.specs.Feas.{num, num-mono}
 use Rattle.theory.specs.Flags.{with-flag}
 use Rattle.round.specs.Rows.{at}
-use Rattle.keys.specs.Key.{key-at}
+use Rattle.keys.specs.Key.{due-of, row-of, key-at}
 use Rattle.keys.specs.Sorted.{placed}
 use Rattle.keys.specs.DueOrder.{each, each-more, placed-all, placed-rises}
 use Rattle.marks.specs.Given.{Asked, Lent-asked}
@@ -87,7 +87,7 @@ module _ (r : Round) (ks fs : List ℕ) (many slot n asked : ℕ) (a : Asked r k
     read = key-read r ks fs many slot n (a .given) p k h e
 
     -- of a row left out nothing comes
-    pub pass-out : (i : ℕ) → i ≡ k % 1024 → (getD fs i 0 ≡ 1 → ⊥) → Passing r fs n asked first edge low (p + 1)
+    pub pass-out : (i : ℕ) → i ≡ row-of k → (getD fs i 0 ≡ 1 → ⊥) → Passing r fs n asked first edge low (p + 1)
     pass-out i d o =
         let u : i ≡ placed r n p = d ∙ read .row in
         let v : getD fs (placed r n p) 0 ≡ 1 → ⊥ = λ y. o (ap (λ (b : ℕ). getD fs b 0) u ∙ y) in
@@ -107,7 +107,7 @@ module _ (r : Round) (ks fs : List ℕ) (many slot n asked : ℕ) (a : Asked r k
         }
 
     -- a row of the plan fills one more
-    module _ (i : ℕ) (d : i ≡ k % 1024) (o : getD fs i 0 ≡ 1) where
+    module _ (i : ℕ) (d : i ≡ row-of k) (o : getD fs i 0 ≡ 1) where
       pub flag-here : getD fs (placed r n p) 0 ≡ 1
       flag-here = ap (λ (b : ℕ). getD fs b 0) (sym (d ∙ read .row)) ∙ o
 
@@ -128,7 +128,7 @@ module _ (r : Round) (ks fs : List ℕ) (many slot n asked : ℕ) (a : Asked r k
       ]
 
       -- no segment ends there if the row is due later
-      pub pass-on : (x low2 : ℕ) → x ≡ k / 4096 % 4096 → edge + 1 ≤ x → low2 ≡ max low k → Passing r fs n asked first (edge + 1) low2 (p + 1)
+      pub pass-on : (x low2 : ℕ) → x ≡ due-of k → edge + 1 ≤ x → low2 ≡ max low k → Passing r fs n asked first (edge + 1) low2 (p + 1)
       pass-on x low2 c l m =
           let s = add-one p in
           record {
@@ -155,7 +155,7 @@ module _ (r : Round) (ks fs : List ℕ) (many slot n asked : ℕ) (a : Asked r k
           }
 
       -- it ends there if the row is due by then
-      pub tight : (x : ℕ) → x ≡ k / 4096 % 4096 → x < edge + 1 → (edge ≡ due) × (num 0 (edge + 1) (with-flag r fs) ≡ edge + 1 - r .slot)
+      pub tight : (x : ℕ) → x ≡ due-of k → x < edge + 1 → (edge ≡ due) × (num 0 (edge + 1) (with-flag r fs) ≡ edge + 1 - r .slot)
       tight x c l =
           let f = fits r ks fs many slot n (a .given) in
           let z : edge ≡ due =
@@ -172,7 +172,7 @@ module _ (r : Round) (ks fs : List ℕ) (many slot n asked : ℕ) (a : Asked r k
             ),
           )
 
-      pub pass-cut : (x low2 : ℕ) → x ≡ k / 4096 % 4096 → x < edge + 1 → edge + 1 ≤ asked → low2 ≡ max low k →
+      pub pass-cut : (x low2 : ℕ) → x ≡ due-of k → x < edge + 1 → edge + 1 ≤ asked → low2 ≡ max low k →
           Passing r fs n asked (edge + 1) (edge + 1) low2 (p + 1)
       pass-cut x low2 c l b m =
           let s = add-one p in
@@ -209,7 +209,7 @@ module _ (r : Round) (ks fs : List ℕ) (many slot n asked : ℕ) (a : Asked r k
             ))
       ]
 
-      pub pass-found : (x low2 : ℕ) → x ≡ k / 4096 % 4096 → x < edge + 1 → asked < edge + 1 → low2 ≡ max low k →
+      pub pass-found : (x low2 : ℕ) → x ≡ due-of k → x < edge + 1 → asked < edge + 1 → low2 ≡ max low k →
           Finds r fs n asked (record { first = first; low = low2 })
       pass-found x low2 c l b m =
           let t = tight x c l in
@@ -258,7 +258,7 @@ Pass ks fs many slot asked first edge low p = (r : Round) (n : ℕ) → Asked r 
 
 -- what reading asks for
 module _ (ks fs : List ℕ) (many slot asked : ℕ) (l : Lent-asked ks fs many slot asked) where
-  pub flag-there : (p k i : ℕ) → p < many → k ≡ getD ks p 0 → i ≡ k % 1024 → i < length fs
+  pub flag-there : (p k i : ℕ) → p < many → k ≡ getD ks p 0 → i ≡ row-of k → i < length fs
   flag-there p k i h e d = omega (arith, d, key-read (l .of) ks fs many slot (l .n) (l .given .given) p k h e .fits)
 
   pub edge-fits : (first edge low p : ℕ) → p ≤ many → Pass ks fs many slot asked first edge low p → edge ≤ 8192

@@ -3,7 +3,7 @@ use mathlib.Core.Path.{_≡_, refl, sym, ap, _∙_}
 use mathlib.Core.Logic.{inl, inr}
 use mathlib.Core.Bool.{true, false, cond}
 use mathlib.Core.List.{List}
-use Prim.Native.Nat.{ℕ, zero, suc, _+_, _-_, _/_, _%_, _≤_, _<_}
+use Prim.Native.Nat.{ℕ, zero, suc, _+_, _-_, _≤_, _<_}
 use native.Mathlib.Omega.{arith}
 use lib.Dec.{eqb}
 use lib.ListN.{length, getD, take}
@@ -21,7 +21,7 @@ use Rattle.theory.specs.Flags.{raised, with-flag, Chosen, chosen-rows, raised-a
 use Rattle.sorts.specs.declared.Round.{Round as Head}
 use Rattle.round.specs.Rows.{Ready, at}
 use Rattle.round.proofs.ReadLaws.{known}
-use Rattle.keys.specs.Key.{key-at}
+use Rattle.keys.specs.Key.{due-of, row-of, blank-key, key-at}
 use Rattle.keys.specs.KeyLaws.{row-fine, row-is, due-is, some-key}
 use Rattle.keys.specs.Sorted.{Sorted, many-due, placed}
 use Rattle.keys.specs.DueOrder.{place, each, each-same, each-more, before-slot, placed-sum, placed-front}
@@ -161,21 +161,21 @@ module _ (r : Round) (ks fs : List ℕ) (many slot n : ℕ) (g : Given r ks fs m
   -- WHAT A KEY READ THERE TELLS
   pub record Read (p k : ℕ) : Type 0 where
     pub key : k ≡ key-at r (placed r n p)
-    pub row : k % 1024 ≡ placed r n p
-    pub due : k / 4096 % 4096 ≡ at r (placed r n p) .due
+    pub row : row-of k ≡ placed r n p
+    pub due : due-of k ≡ at r (placed r n p) .due
     pub some : 1 ≤ k
-    pub by : k ≤ 281474993487872
-    pub fits : k % 1024 < length fs
+    pub by : k ≤ blank-key
+    pub fits : row-of k < length fs
 
   pub key-read : (p k : ℕ) → p < many → k ≡ getD ks p 0 → Read p k
   key-read p k h e =
       let w = at-place p h .row in
       let q : k ≡ key-at r (placed r n p) = e ∙ g .sorted .is p (omega (arith, h, g .all)) in
-      let i = ap (λ (v : ℕ). v % 1024) q ∙ row-is r (g .fine) (g .small) (g .cap) (placed r n p) w in
+      let i = ap row-of q ∙ row-is r (g .fine) (g .small) (g .cap) (placed r n p) w in
       record {
         key = q;
         row = i;
-        due = ap (λ (v : ℕ). v / 4096 % 4096) q ∙ due-is r (g .fine) (g .small) (g .cap) (placed r n p) w;
+        due = ap due-of q ∙ due-is r (g .fine) (g .small) (g .cap) (placed r n p) w;
         some = omega (arith, q, some-key r (g .fine) (g .small) (g .cap) (placed r n p) w .0);
         by = omega (arith, q, some-key r (g .fine) (g .small) (g .cap) (placed r n p) w .1);
         fits = omega (arith, i, w, g .chosen .long);

@@ -3,7 +3,7 @@ use mathlib.Core.Path.{_≡_, sym, ap, _∙_, subst}
 use mathlib.Core.Logic.{inl, inr}
 use mathlib.Core.Bool.{true, false, true≢false}
 use mathlib.Core.List.{List}
-use Prim.Native.Nat.{ℕ, suc, _+_, _-_, _/_, _%_, _≤_, _<_, min}
+use Prim.Native.Nat.{ℕ, suc, _+_, _-_, _≤_, _<_, min}
 use native.Mathlib.Omega.{arith}
 use lib.ListN.{length, getD}
 use Rattle.rules.specs.Rows.{Row, Round, blank, heavier, In}
@@ -17,7 +17,7 @@ use Rattle.theory.specs.Segments.{segment-mark, segment-row, segment-none, firs
 use Rattle.theory.specs.Substitute.{first-row}
 use Rattle.theory.specs.Flags.{raised, with-flag}
 use Rattle.round.specs.Rows.{at}
-use Rattle.keys.specs.Key.{key, key-at, blank-key}
+use Rattle.keys.specs.Key.{key, weight-of, due-of, row-of, blank-key, key-at}
 use Rattle.keys.specs.KeyLaws.{row-fine, row-is, weight-is, some-key, greater-key}
 use Rattle.keys.specs.Sorted.{placed}
 use Rattle.keys.specs.DueOrder.{placed-all, placed-rises}
@@ -94,19 +94,19 @@ module _ (r : Round) (ks fs : List ℕ) (many slot n : ℕ) (g : Given r ks fs m
     pub red : Read r ks fs many slot n g p x
     red = key-read r ks fs many slot n g p x h e
 
-    pub back-stop : (d : ℕ) → d ≡ x / 4096 % 4096 → d < from → Left r fs from k
+    pub back-stop : (d : ℕ) → d ≡ due-of x → d < from → Left r fs from k
     back-stop d c l =
         back-end from k (suc p)
         (λ q y. omega (arith, placed-rises r n q p (omega (arith, y)) (omega (arith, h, g .all)), red .due, c, l)) b
 
-    module _ (d : ℕ) (c : d ≡ x / 4096 % 4096) (l : from ≤ d) where
+    module _ (d : ℕ) (c : d ≡ due-of x) (l : from ≤ d) where
       pub due-back : (q : ℕ) → p ≤ q → q < many → from ≤ at r (placed r n q) .due
       due-back q y z = elim (eqb? q p) [
         | inl a ↦ omega (arith, ap (λ (j : ℕ). at r (placed r n j) .due) (a .1), red .due, c, l)
         | inr a ↦ let o = a .1 in b .due q (omega (arith, y)) z
       ]
 
-      pub back-kept : (i : ℕ) → i ≡ x % 1024 → getD fs i 0 ≡ 1 → Backing from k p
+      pub back-kept : (i : ℕ) → i ≡ row-of x → getD fs i 0 ≡ 1 → Backing from k p
       back-kept i m o =
           let u : getD fs (placed r n p) 0 ≡ 1 = ap (λ (j : ℕ). getD fs j 0) (sym (m ∙ red .row)) ∙ o in
           record {
@@ -119,7 +119,7 @@ module _ (r : Round) (ks fs : List ℕ) (many slot n : ℕ) (g : Given r ks fs m
             some = b .some;
           }
 
-      pub back-left : (i y : ℕ) → i ≡ x % 1024 → (getD fs i 0 ≡ 1 → ⊥) → y ≡ min k x → Backing from y p
+      pub back-left : (i y : ℕ) → i ≡ row-of x → (getD fs i 0 ≡ 1 → ⊥) → y ≡ min k x → Backing from y p
       back-left i y m o f =
           let u : getD fs (placed r n p) 0 ≡ 1 → ⊥ = λ w. o (ap (λ (j : ℕ). getD fs j 0) (m ∙ red .row) ∙ w) in
           record {
@@ -146,14 +146,14 @@ module _ (r : Round) (ks fs : List ℕ) (many slot n asked : ℕ) (a : Asked r k
   abbrev pub g : Given r ks fs many slot n
   g = a .given
 
-  pub low-fine : x .low ≤ 281474993487872
+  pub low-fine : x .low ≤ blank-key
   low-fine = omega (arith, w .low, some-key r (g .fine) (g .small) (g .cap) (w .row) (w .there) .1)
 
   -- the mark
-  pub mark-found : (m : ℕ) → m ≡ 16777217 - x .low / 16777216 → m ≡ mark r asked
+  pub mark-found : (m : ℕ) → m ≡ weight-of (x .low) → m ≡ mark r asked
   mark-found m e =
       let f = row-fine r (g .fine) (g .small) (g .cap) in
-      e ∙ ap (λ (k : ℕ). 16777217 - k / 16777216) (sym (w .low)) ∙ weight-is r (g .fine) (g .small) (g .cap) (w .row) (w .there)
+      e ∙ ap weight-of (sym (w .low)) ∙ weight-is r (g .fine) (g .small) (g .cap) (w .row) (w .there)
       ∙ sym (segment-mark r (g .fine) (g .time) (with-flag r fs) (plan-rows r ks fs many slot n g) (r .slot + n) (g .near) (x .first) (w .end) (w .near)
       (w .segment) asked (w .from) (w .by) (at r (w .row)) (kept-in r ks fs many slot n g (w .row) (w .there) (w .kept)) (w .due)
       (each-chosen (λ y. y .due ≤ w .end → at r (w .row) .weight ≤ y .weight) (blank 0) (raised fs) (r .rows)
@@ -164,12 +164,12 @@ module _ (r : Round) (ks fs : List ℕ) (many slot n asked : ℕ) (a : Asked r k
   -- the substitute of a row of the plan that is due then
   module _ (i : ℕ) (h : i < length (r .rows)) (on : getD fs i 0 ≡ 1) (d : at r i .due ≡ asked) where
     -- of the first segment
-    pub row-first : (j : ℕ) → x .first ≡ slot → j ≡ x .low % 1024 → Substitutes r i (Row-at j)
+    pub row-first : (j : ℕ) → x .first ≡ slot → j ≡ row-of (x .low) → Substitutes r i (Row-at j)
     row-first j e p =
         let c = plan-rows r ks fs many slot n g in
         let z : first-end r (plan r) ≡ w .end =
         first-segment r (g .fine) (g .time) (with-flag r fs) c (r .slot + n) (g .near) (x .first) (w .end) (w .near) (w .segment) (e ∙ g .now) in
-        let u : j ≡ w .row = p ∙ ap (λ (v : ℕ). v % 1024) (sym (w .low)) ∙ row-is r (g .fine) (g .small) (g .cap) (w .row) (w .there) in (
+        let u : j ≡ w .row = p ∙ ap row-of (sym (w .low)) ∙ row-is r (g .fine) (g .small) (g .cap) (w .row) (w .there) in (
           omega (arith, u, w .there),
           first-row r (g .fine) (with-flag r fs) c (g .time) (at r i)
               (found-member r (g .fine) (with-flag r fs) c (at r i) (kept-in r ks fs many slot n g i h on)) (omega (arith, z, d, w .by))
@@ -188,11 +188,11 @@ module _ (r : Round) (ks fs : List ℕ) (many slot n asked : ℕ) (a : Asked r k
       pub after-first : r .slot < x .first
       after-first = let o = later in omega (arith, w .segment .low, g .now, o)
 
-      pub row-left : (j : ℕ) → (k ≡ blank-key → ⊥) → j ≡ k % 1024 → Substitutes r i (Row-at j)
+      pub row-left : (j : ℕ) → (k ≡ blank-key → ⊥) → j ≡ row-of k → Substitutes r i (Row-at j)
       row-left j o p =
           let q = o in
           let s = b .some (omega (arith, b .by, q)) in
-          let u : j ≡ s .row = p ∙ ap (λ (v : ℕ). v % 1024) (sym (s .is)) ∙ row-is r (g .fine) (g .small) (g .cap) (s .row) (s .there) in (
+          let u : j ≡ s .row = p ∙ ap row-of (sym (s .is)) ∙ row-is r (g .fine) (g .small) (g .cap) (s .row) (s .there) in (
             omega (arith, u, s .there),
             segment-row r (g .fine) (g .time) (with-flag r fs) (plan-rows r ks fs many slot n g) (r .slot + n) (g .near) (x .first) (w .end) (w .near)
                 (w .segment) after-first (at r i) (omega (arith, d, w .from)) (omega (arith, d, w .by)) (at r (s .row))
@@ -203,7 +203,7 @@ module _ (r : Round) (ks fs : List ℕ) (many slot n asked : ℕ) (a : Asked r k
                 ∙ ap (at r) (sym u),
           )
 
-      pub blank-left : k ≡ blank-key → Substitutes r i (Blank (x .first))
+      pub blank-left : k ≡ blank-key → Substitutes r i (Blank (record { 0 = x .first }))
       blank-left o =
           segment-none r (g .fine) (g .time) (with-flag r fs) (plan-rows r ks fs many slot n g) (r .slot + n) (g .near) (x .first) (w .end) (w .near)
           (w .segment) after-first (at r i) (omega (arith, d, w .from)) (omega (arith, d, w .by))
@@ -222,7 +222,7 @@ module _ (r : Round) (ks fs : List ℕ) (many slot n asked : ℕ) (a : Asked r k
 abbrev pub Back : (ks fs : List ℕ) (many from k p : ℕ) → Type 0
 Back ks fs many from k p = (r : Round) (slot n : ℕ) (g : Given r ks fs many slot n) → Backing r ks fs many slot n g from k p
 
-pub left-there : (ks fs : List ℕ) (many : ℕ) → Lent ks fs many → (p k i : ℕ) → p < many → k ≡ getD ks p 0 → i ≡ k % 1024 → i < length fs
+pub left-there : (ks fs : List ℕ) (many : ℕ) → Lent ks fs many → (p k i : ℕ) → p < many → k ≡ getD ks p 0 → i ≡ row-of k → i < length fs
 left-there ks fs many l p k i h e d = omega (arith, d, key-read (l .of) ks fs many (l .slot) (l .n) (l .given) p k h e .fits)
 
 module _ (r : Round) (ks fs : List ℕ) (many slot n : ℕ) (g : Given r ks fs many slot n) (from k p x : ℕ) (o : 0 < p) (h : p ≤ many) (e : x ≡ getD ks (p - 1) 0)
@@ -230,13 +230,13 @@ module _ (r : Round) (ks fs : List ℕ) (many slot n : ℕ) (g : Given r ks fs m
   pub before-p : Backing r ks fs many slot n g from k (suc (p - 1))
   before-p = let d : p ≡ suc (p - 1) = omega (arith, o) in subst (Backing r ks fs many slot n g from k) d b
 
-  pub stops : (d : ℕ) → d ≡ x / 4096 % 4096 → d < from → Left r fs from k
+  pub stops : (d : ℕ) → d ≡ due-of x → d < from → Left r fs from k
   stops = back-stop r ks fs many slot n g from k (p - 1) x (omega (arith, o, h)) e before-p
 
-  pub stays : (d i : ℕ) → d ≡ x / 4096 % 4096 → from ≤ d → i ≡ x % 1024 → getD fs i 0 ≡ 1 → Backing r ks fs many slot n g from k (p - 1)
+  pub stays : (d i : ℕ) → d ≡ due-of x → from ≤ d → i ≡ row-of x → getD fs i 0 ≡ 1 → Backing r ks fs many slot n g from k (p - 1)
   stays d i c l = back-kept r ks fs many slot n g from k (p - 1) x (omega (arith, o, h)) e before-p d c l i
 
-  pub takes : (d i y : ℕ) → d ≡ x / 4096 % 4096 → from ≤ d → i ≡ x % 1024 → (getD fs i 0 ≡ 1 → ⊥) → y ≡ min k x →
+  pub takes : (d i y : ℕ) → d ≡ due-of x → from ≤ d → i ≡ row-of x → (getD fs i 0 ≡ 1 → ⊥) → y ≡ min k x →
       Backing r ks fs many slot n g from y (p - 1)
   takes d i y c l = back-left r ks fs many slot n g from k (p - 1) x (omega (arith, o, h)) e before-p d c l i y
 

@@ -11,4 +11,4 @@ use Rattle.marks.specs.declared.sub.Sub.the-variants.{Row, Blank}
 -- THE SUBSTITUTE of row i
 abbrev pub Substitutes : Round → (row : ℕ) → Sub → Type 0
 Substitutes r i (Row j) = (j < length (r .rows)) × (substitute r (plan r) (at r i) ≡ at r j)
-Substitutes r i (Blank s) = substitute r (plan r) (at r i) ≡ blank s
+Substitutes r i (Blank s) = substitute r (plan r) (at r i) ≡ blank (s .0)

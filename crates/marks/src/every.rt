@@ -55,13 +55,19 @@ fn least_by(table: &[u8], round: Round, by: u32) -> u32
 }
 
 // The mark of a slot before free: the least weight due by its segment's end.
-pub fn mark_every(table: &[u8], counts: &[u32], round: Round, reach: Reach, slot: u32) -> u32
-    requires { ⌜ Whole (now table) (now counts) round reach × (round .slot .0 ≤ slot) × (slot < round .slot .0 + reach .free) ⌝ }
-    ensures { λ r. ⌜ r ≡ mark (round-in (now (table .entry))) slot ⌝ }
+pub fn mark_every(
+    table: &[u8],
+    counts: &[u32],
+    round: Round,
+    reach: Reach,
+    slot: Slot,
+) -> Weight
+    requires { ⌜ Whole (now table) (now counts) round reach × (round .slot .0 ≤ slot .0) × (slot .0 < round .slot .0 + reach .free) ⌝ }
+    ensures { λ r. ⌜ r .0 ≡ mark (round-in (now (table .entry))) (slot .0) ⌝ }
 {
     let current = round.slot.0;
-    let stretch = stretch_of(counts, reach.free, (slot - current) as usize);
-    least_by(table, round, current + stretch.last as u32)
+    let stretch = stretch_of(counts, reach.free, (slot.0 - current) as usize);
+    Weight(least_by(table, round, current + stretch.last as u32))
 }
 
 // The lighter row's key, if the row is due by a slot.
@@ -104,7 +110,7 @@ pub fn substitute_every(table: &[u8], counts: &[u32], round: Round, reach: Reach
         (due_at(table, round, row) - current) as usize,
     );
     if stretch.first != 0 {
-        return Sub::Blank(current + stretch.first as u32);
+        return Sub::Blank(Slot(current + stretch.first as u32));
     }
     Sub::Row(row_of(lightest_by(table, round, current + stretch.last as u32)))
 }

@@ -13,13 +13,14 @@ use buckets::Reach;
 use round::read::bucket_of;
 use round::read::due_at;
 use sorts::Round;
+use sorts::Slot;
 
 // Whether a slot is so far that the plan has free ones up to it: its mark is 0.
-pub fn is_far(round: Round, reach: Reach, slot: u32) -> bool
-    requires { ⌜ round .slot .0 ≤ slot ⌝ }
-    ensures { λ r. ⌜ r ≡ leb (reach .free) (slot - round .slot .0) ⌝ }
+pub fn is_far(round: Round, reach: Reach, slot: Slot) -> bool
+    requires { ⌜ round .slot .0 ≤ slot .0 ⌝ }
+    ensures { λ r. ⌜ r ≡ leb (reach .free) (slot .0 - round .slot .0) ⌝ }
 {
-    reach.free <= (slot - round.slot.0) as usize
+    reach.free <= (slot.0 - round.slot.0) as usize
 }
 
 // Buckets 0 to top: slots from low on; bucket mid is the slot where the row is due.
@@ -110,5 +111,5 @@ pub fn substitute_far(
     let window = window_of(round, reach, due_at(table, round, row));
     count_in(table, counts, round, window);
     let begin = begin_of(counts, window.mid, window.top);
-    Sub::Blank(window.low + begin as u32)
+    Sub::Blank(Slot(window.low + begin as u32))
 }

@@ -1,5 +1,8 @@
-// Who stands in for a row of the plan: a row by its index, or the blank due at a slot.
+// Who stands in for a row of the plan.
+use sorts::Slot;
+
+// A row by its index, or the blank due at a slot.
 pub enum Sub {
     Row(usize),
-    Blank(u32),
+    Blank(Slot),
 }

@@ -7,6 +7,7 @@ use keys::BLANK;
 use keys::due_of;
 use keys::lesser;
 use keys::row_of;
+use sorts::Slot;
 
 // The heaviest row left out that is due from a slot on; BLANK for none.
 fn heaviest_out(keys: &[u64], flags: &[u8], many: usize, from: u32) -> u64
@@ -30,17 +31,23 @@ fn heaviest_out(keys: &[u64], flags: &[u8], many: usize, from: u32) -> u64
 
 // Who stands in for a row of the plan due then: of the first segment its lightest row; of a later one the heaviest row left out from
 // its first slot on, or else the blank due there.
-pub fn substitute_of(keys: &[u64], flags: &[u8], many: usize, slot: u32, due: u32) -> Sub
-    requires { ⌜ Lent-asked (now keys) (now flags) many slot due ⌝ }
-    ensures { λ r. ⌜ Substitutes-say (now (keys .entry)) (now (flags .entry)) many slot due r ⌝ }
+pub fn substitute_near(
+    keys: &[u64],
+    flags: &[u8],
+    many: usize,
+    slot: Slot,
+    due: Slot,
+) -> Sub
+    requires { ⌜ Lent-asked (now keys) (now flags) many (slot .0) (due .0) ⌝ }
+    ensures { λ r. ⌜ Substitutes-say (now (keys .entry)) (now (flags .entry)) many (slot .0) (due .0) r ⌝ }
 {
-    let found = find_segment(keys, flags, many, slot, due);
-    if found.first == slot {
+    let found = find_segment(keys, flags, many, slot.0, due.0);
+    if found.first == slot.0 {
         return Sub::Row(row_of(found.low));
     }
     let out = heaviest_out(keys, flags, many, found.first);
     if out == BLANK {
-        return Sub::Blank(found.first);
+        return Sub::Blank(Slot(found.first));
     }
     Sub::Row(row_of(out))
 }

@@ -7,20 +7,21 @@ use native.Mathlib.Omega.{arith}
 use lib.Dec.{ltb}
 use Rattle.rules.specs.PlanM.{score}
 use Rattle.theory.specs.Tests.{eqb?, leb?}
-use Rattle.segments.specs.Segmented.{ends-here, weight-in, closed}
+use Rattle.keys.specs.Key.{weight-of}
+use Rattle.segments.specs.Segmented.{ends-here, closed}
 use Rattle.segments.specs.declared.Lead.{Lead}
 
 abbrev lead-of : (count score key segment other : ℕ) → Lead
 lead-of c s k g o = record { count = c; score = s; key = k; segment = g; other = o }
 
-module _ (l : Lead) (h o a b s : ℕ) (p : a ≡ weight-in h) (q : b ≡ weight-in o) (e : s ≡ score a b) where
-  the-score : s ≡ score (weight-in h) (weight-in o)
-  the-score = e ∙ ap (λ (v : ℕ). score v b) p ∙ ap (λ (v : ℕ). score (weight-in h) v) q
+module _ (l : Lead) (h o a b s : ℕ) (p : a ≡ weight-of h) (q : b ≡ weight-of o) (e : s ≡ score a b) where
+  the-score : s ≡ score (weight-of h) (weight-of o)
+  the-score = e ∙ ap (λ (v : ℕ). score v b) p ∙ ap (λ (v : ℕ). score (weight-of h) v) q
 
   pub closed-takes : l .score ≤ s → record { count = l .count + 1; score = s; key = h; segment = l .count; other = o } ≡ closed l h o
   closed-takes k =
       let n : l .count + 1 ≡ suc (l .count) = omega arith in
-      elim (leb? (l .score) (score (weight-in h) (weight-in o))) [
+      elim (leb? (l .score) (score (weight-of h) (weight-of o))) [
         | inl t ↦ rw (t .0) (ap (λ (v : ℕ). lead-of v s h (l .count) o) n ∙ ap (λ (v : ℕ). lead-of (suc (l .count)) v h (l .count) o) the-score)
         | inr t ↦ absurd (omega (arith, k, t .1, the-score))
       ]
@@ -29,7 +30,7 @@ module _ (l : Lead) (h o a b s : ℕ) (p : a ≡ weight-in h) (q : b ≡ weight-
       record { count = l .count + 1; score = l .score; key = l .key; segment = l .segment; other = l .other } ≡ closed l h o
   closed-keeps k =
       let n : l .count + 1 ≡ suc (l .count) = omega arith in
-      elim (leb? (l .score) (score (weight-in h) (weight-in o))) [
+      elim (leb? (l .score) (score (weight-of h) (weight-of o))) [
         | inl t ↦ absurd (omega (arith, k, t .1, the-score))
         | inr t ↦ rw (t .0) (ap (λ (v : ℕ). lead-of v (l .score) (l .key) (l .segment) (l .other)) n)
       ]

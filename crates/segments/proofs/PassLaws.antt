@@ -3,7 +3,7 @@ use mathlib.Core.Path.{_≡_, refl, sym, ap, _∙_, subst}
 use mathlib.Core.Logic.{inl, inr}
 use mathlib.Core.Bool.{true, false, false≢true}
 use mathlib.Core.List.{List, []}
-use Prim.Native.Nat.{ℕ, suc, _+_, _-_, _/_, _%_, _≤_, _<_, min, max}
+use Prim.Native.Nat.{ℕ, suc, _+_, _-_, _≤_, _<_, min, max}
 use native.Mathlib.Omega.{arith}
 use lib.ListN.{length, getD, set, length-set}
 use borrow.Author.Tests.{ltb-true, ltb-false}
@@ -13,7 +13,7 @@ use Rattle.theory.specs.All.{all-of-in}
 use Rattle.theory.specs.Feas.{num-none}
 use Rattle.theory.specs.Members.{of-rows-fine}
 use Rattle.theory.specs.Flags.{with-flag}
-use Rattle.keys.specs.Key.{blank-key}
+use Rattle.keys.specs.Key.{weight-of, due-of, row-of, blank-key}
 use Rattle.keys.specs.KeyLaws.{some-key}
 use Rattle.keys.specs.Sorted.{many-due, placed}
 use Rattle.keys.specs.DueOrder.{placed-row, placed-rises}
@@ -21,7 +21,7 @@ use Rattle.picture.specs.Substitutes.{stand-in, stand-in-first, stand-in-later}
 use Rattle.picture.specs.Own.{Drawn-own}
 use Rattle.picture.specs.OwnPick.{own-long}
 use Rattle.segments.specs.Given.{Given}
-use Rattle.segments.specs.Segmented.{Keyed, Named, Segmented, ends-here, weight-in, closed}
+use Rattle.segments.specs.Segmented.{Keyed, Named, Segmented, ends-here, closed}
 use Rattle.segments.specs.declared.Lead.{Lead}
 use Rattle.segments.proofs.CountLaws.{kept-next, flag-yes}
 use Rattle.segments.proofs.PlaceLaws.{due-at, rows-of-it, key-there, due-told, row-told}
@@ -113,7 +113,7 @@ module _ (r : Round) (ks fs : List ℕ) (many slot n : ℕ) (g : Given r ks fs m
           subst (λ (x : Row). Named r b x out) (sym (stand-in-later r (m .of) (omega (arith, h, m .first)))) (m .out)
 
       pub met-new : due-at r n p - r .slot < kept → (due-at r n p ≡ end → ⊥) → l .count < length es → l .count < length ts → l .count < length ls →
-          Met r fs n (set es (l .count) end) (set ts (l .count) heavy) (set ls (l .count) (weight-in light)) (closed l heavy out) (due-at r n p) blank-key 0 out
+          Met r fs n (set es (l .count) end) (set ts (l .count) heavy) (set ls (l .count) (weight-of light)) (closed l heavy out) (due-at r n p) blank-key 0 out
           kept p
       met-new t m a c d =
           let h = made r ks fs many slot n g end heavy light out kept (suc p) (suc (due-at r n p)) (w .now) (begins t m) in
@@ -157,21 +157,21 @@ module _ (r : Round) (ks fs : List ℕ) (many slot n : ℕ) (g : Given r ks fs m
           }
 
       pub pass-last : l .count < length es → l .count < length ts → l .count < length ls →
-          Segmented r n (set es (l .count) end) (set ts (l .count) heavy) (set ls (l .count) (weight-in light)) (closed l heavy light)
+          Segmented r n (set es (l .count) end) (set ts (l .count) heavy) (set ls (l .count) (weight-of light)) (closed l heavy light)
       pass-last a c d =
           let h = made r ks fs many slot n g end heavy light out kept 0 (r .slot) (w .now) begins-first in
           let o : Named r (r .slot) (stand-in r (h .of)) light =
           inl (subst (λ (x : Row). Keyed r x light) (sym (stand-in-first r (h .of) (h .first))) (h .low)) in
           let v = behind-next r (g .fine) (g .small) (g .cap) (r .slot + n) (r .slot) end heavy light out light h es ts ls l (w .behind) o a c d in
-          segmented r n (g .some) (set es (l .count) end) (set ts (l .count) heavy) (set ls (l .count) (weight-in light)) (closed l heavy light) v
+          segmented r n (g .some) (set es (l .count) end) (set ts (l .count) heavy) (set ls (l .count) (weight-of light)) (closed l heavy light) v
           (omega (arith, closed-count l heavy light, a, length-set es (l .count) end))
           (omega (arith, closed-count l heavy light, c, length-set ts (l .count) heavy))
-          (omega (arith, closed-count l heavy light, d, length-set ls (l .count) (weight-in light)))
+          (omega (arith, closed-count l heavy light, d, length-set ls (l .count) (weight-of light)))
 
 -- THE SAME as the code has it
 module _ (ks fs : List ℕ) (many slot n : ℕ) (es ts ls : List ℕ) (l : Lead) (end heavy light out kept i : ℕ) where
   -- no new segment
-  pub passing-on : Passing ks fs many slot n es ts ls l end heavy light out kept i → 0 < i → (due : ℕ) → due ≡ getD ks (i - 1) 0 / 4096 % 4096 →
+  pub passing-on : Passing ks fs many slot n es ts ls l end heavy light out kept i → 0 < i → (due : ℕ) → due ≡ due-of (getD ks (i - 1) 0) →
       ends-here due slot kept end ≡ false → Meeting ks fs many slot n es ts ls l end heavy light out kept (i - 1)
   passing-on w h due d t r g =
       let e : i ≡ suc (i - 1) = omega (arith, h) in
@@ -186,16 +186,16 @@ module _ (ks fs : List ℕ) (many slot n : ℕ) (es ts ls : List ℕ) (l : Lead)
       }
 
   -- a new one
-  pub passing-new : Passing ks fs many slot n es ts ls l end heavy light out kept i → 0 < i → (due : ℕ) → due ≡ getD ks (i - 1) 0 / 4096 % 4096 →
+  pub passing-new : Passing ks fs many slot n es ts ls l end heavy light out kept i → 0 < i → (due : ℕ) → due ≡ due-of (getD ks (i - 1) 0) →
       ends-here due slot kept end ≡ true → l .count < length es → l .count < length ts → l .count < length ls →
-      Meeting ks fs many slot n (set es (l .count) end) (set ts (l .count) heavy) (set ls (l .count) (weight-in light)) (closed l heavy out) due blank-key 0 out
+      Meeting ks fs many slot n (set es (l .count) end) (set ts (l .count) heavy) (set ls (l .count) (weight-of light)) (closed l heavy out) due blank-key 0 out
       kept (i - 1)
   passing-new w h due d t a b c r g =
       let e : i ≡ suc (i - 1) = omega (arith, h) in
       let v = subst (Pass r fs n es ts ls l end heavy light out kept) e (w r g) in
       let q : due ≡ due-at r n (i - 1) = d ∙ due-told r ks fs many slot n g (i - 1) (v .now .seen) in
       let f = ends-facts due t in
-      subst (λ u. Met r fs n (set es (l .count) end) (set ts (l .count) heavy) (set ls (l .count) (weight-in light)) (closed l heavy out) u blank-key 0 out kept
+      subst (λ u. Met r fs n (set es (l .count) end) (set ts (l .count) heavy) (set ls (l .count) (weight-of light)) (closed l heavy out) u blank-key 0 out kept
       (i - 1)) (sym q)
       (met-new r ks fs many slot n g es ts ls l end heavy light out kept (i - 1) v (omega (arith, f .1, q, g .now)) (λ k. f .0 (q ∙ k)) a b c)
     where
@@ -208,10 +208,10 @@ module _ (ks fs : List ℕ) (many slot n : ℕ) (es ts ls : List ℕ) (l : Lead)
 -- THE NEXT PLACE, in the plan or left out
 module _ (ks fs : List ℕ) (many slot n : ℕ) (es ts ls : List ℕ) (l : Lead) (end heavy light out kept p : ℕ)
     (w : Meeting ks fs many slot n es ts ls l end heavy light out kept p) (key row flag : ℕ) (k : key ≡ getD ks p 0)
-    (j : row ≡ key % 1024) (f : flag ≡ getD fs row 0) where
+    (j : row ≡ row-of key) (f : flag ≡ getD fs row 0) where
   its-row : (r : Round) (g : Given r ks fs many slot n) → flag ≡ getD fs (placed r n p) 0
   its-row r g =
-      f ∙ ap (λ (v : ℕ). getD fs v 0) (j ∙ ap (λ (v : ℕ). v % 1024) k ∙ row-told r ks fs many slot n g p (w r g .pass .now .seen))
+      f ∙ ap (λ (v : ℕ). getD fs v 0) (j ∙ ap row-of k ∙ row-told r ks fs many slot n g p (w r g .pass .now .seen))
 
   its-key : (r : Round) (g : Given r ks fs many slot n) → key-of r n p ≡ key
   its-key r g = sym (k ∙ key-there r ks fs many slot n g p (w r g .pass .now .seen))

@@ -3,7 +3,7 @@ use mathlib.Core.Path.{_≡_, sym, ap, _∙_, subst}
 use mathlib.Core.Logic.{inl, inr}
 use mathlib.Core.Bool.{false, true≢false}
 use mathlib.Core.List.{List}
-use Prim.Native.Nat.{ℕ, suc, _+_, _-_, _/_, _%_, _≤_, _<_}
+use Prim.Native.Nat.{ℕ, suc, _+_, _-_, _≤_, _<_}
 use native.Mathlib.Omega.{arith}
 use lib.Dec.{eqb}
 use lib.ListN.{length, getD}
@@ -17,7 +17,7 @@ use Rattle.theory.specs.Near.{near-edge, near-out, rows-feas}
 use Rattle.theory.specs.Index.{index-of, flag-in, chosen-index, at-flag}
 use Rattle.theory.specs.Flags.{raised, raised-at, with-flag, chosen-rows}
 use Rattle.round.specs.Rows.{at}
-use Rattle.keys.specs.Key.{key-at}
+use Rattle.keys.specs.Key.{due-of, row-of, key-at}
 use Rattle.keys.specs.KeyLaws.{row-fine, due-is, row-is}
 use Rattle.keys.specs.Sorted.{many-due, placed}
 use Rattle.keys.specs.DueOrder.{many-mono, place, placed-row, placed-rises, placed-all, placed-from}
@@ -43,12 +43,12 @@ module _ (r : Round) (ks fs : List ℕ) (many slot n : ℕ) (g : Given r ks fs m
   pub key-there : (p : ℕ) → p < many-due r n → getD ks p 0 ≡ key-at r (placed r n p)
   key-there p h = g .sorted .is p h
 
-  pub due-told : (p : ℕ) → p < many-due r n → getD ks p 0 / 4096 % 4096 ≡ due-at r n p
+  pub due-told : (p : ℕ) → p < many-due r n → due-of (getD ks p 0) ≡ due-at r n p
   due-told p h =
-      ap (λ (k : ℕ). k / 4096 % 4096) (key-there p h) ∙ due-is r (g .fine) (g .small) (g .cap) (placed r n p) (placed-row r n p h .0)
+      ap due-of (key-there p h) ∙ due-is r (g .fine) (g .small) (g .cap) (placed r n p) (placed-row r n p h .0)
 
-  pub row-told : (p : ℕ) → p < many-due r n → getD ks p 0 % 1024 ≡ placed r n p
-  row-told p h = ap (λ (k : ℕ). k % 1024) (key-there p h) ∙ row-is r (g .fine) (g .small) (g .cap) (placed r n p) (placed-row r n p h .0)
+  pub row-told : (p : ℕ) → p < many-due r n → row-of (getD ks p 0) ≡ placed r n p
+  row-told p h = ap row-of (key-there p h) ∙ row-is r (g .fine) (g .small) (g .cap) (placed r n p) (placed-row r n p h .0)
 
   -- MEMBERS by index: rows with a flag
   pub flag-told : (i : ℕ) → i < length (r .rows) → getD (raised fs) i false ≡ eqb (getD fs i 0) 1

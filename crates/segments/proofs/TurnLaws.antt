@@ -2,14 +2,14 @@
 use mathlib.Core.Path.{_≡_, refl, ap, _∙_, subst}
 use mathlib.Core.Bool.{true, false}
 use mathlib.Core.List.{List}
-use Prim.Native.Nat.{ℕ, _+_, _-_, _/_, _%_, _≤_, _<_, min, max}
+use Prim.Native.Nat.{ℕ, _+_, _-_, _≤_, _<_, min, max}
 use native.Mathlib.Omega.{arith}
 use lib.ListN.{length, getD, set, length-set}
-use Rattle.keys.specs.Key.{blank-key}
+use Rattle.keys.specs.Key.{weight-of, due-of, row-of, blank-key}
 use Rattle.keys.specs.Sorted.{many-due}
 use Rattle.keys.specs.DueOrder.{placed-row}
 use Rattle.segments.specs.Given.{Lent}
-use Rattle.segments.specs.Segmented.{Segments-say, ends-here, weight-in, closed}
+use Rattle.segments.specs.Segmented.{Segments-say, ends-here, closed}
 use Rattle.segments.specs.declared.Lead.{Lead}
 use Rattle.segments.proofs.PlaceLaws.{due-told, row-told}
 use Rattle.segments.proofs.PassLaws.{Pass, Passing, Meeting, pass-first, pass-last, room, fair-keys, passing-on, passing-new, passing-kept, passing-left, passing-some}
@@ -72,7 +72,7 @@ module _ {ks fs : List ℕ} {many slot n : ℕ} {es₀ ts₀ ls₀ : List ℕ} (
       }
 
   -- a key's due slot and its row's flag
-  pub due-late : 0 < i → {due : ℕ} → due ≡ getD ks (i - 1) 0 / 4096 % 4096 → slot ≤ due
+  pub due-late : 0 < i → {due : ℕ} → due ≡ due-of (getD ks (i - 1) 0) → slot ≤ due
   due-late h d =
       let k : i - 1 < many-due (given .of) n = omega (arith, h, it .now .seen) in
       omega (
@@ -83,18 +83,18 @@ module _ {ks fs : List ℕ} {many slot n : ℕ} {es₀ ts₀ ls₀ : List ℕ} (
         given .given .now,
       )
 
-  pub row-there : 0 < i → {key row : ℕ} → key ≡ getD ks (i - 1) 0 → row ≡ key % 1024 → row < length fs
+  pub row-there : 0 < i → {key row : ℕ} → key ≡ getD ks (i - 1) 0 → row ≡ row-of key → row < length fs
   row-there h e d =
       let k : i - 1 < many-due (given .of) n = omega (arith, h, it .now .seen) in
       omega (
         arith,
-        d ∙ ap (λ (v : ℕ). v % 1024) e,
+        d ∙ ap row-of e,
         row-told (given .of) ks fs many slot n (given .given) (i - 1) k,
         placed-row (given .of) n (i - 1) k .0,
         given .given .chosen .long,
       )
 
-  module _ (h : 0 < i) {due : ℕ} (d : due ≡ getD ks (i - 1) 0 / 4096 % 4096) {es' ts' ls' : List ℕ} {l' : Lead} {end' heavy' light' : ℕ} where
+  module _ (h : 0 < i) {due : ℕ} (d : due ≡ due-of (getD ks (i - 1) 0)) {es' ts' ls' : List ℕ} {l' : Lead} {end' heavy' light' : ℕ} where
     pub goes-on : ends-here due slot kept end ≡ false → es' ≡ es → ts' ≡ ts → ls' ≡ ls → l' ≡ l → end' ≡ end → heavy' ≡ heavy → light' ≡ light →
         Goes ks fs many slot n es₀ ts₀ ls₀ es' ts' ls' l' end' heavy' light' out kept (i - 1)
     goes-on t e₁ e₂ e₃ e₄ e₅ e₆ e₇ =
@@ -102,7 +102,7 @@ module _ {ks fs : List ℕ} {many slot n : ℕ} {es₀ ts₀ ls₀ : List ℕ} (
         (record { meeting = passing-on ks fs many slot n es ts ls l end heavy light out kept i (w .0) h due d t; ends = w .1; tops = w .2; lows = w .3 })
 
     pub goes-new : ends-here due slot kept end ≡ true → es' ≡ set es (l .count) end → ts' ≡ set ts (l .count) heavy →
-        ls' ≡ set ls (l .count) (weight-in light) → l' ≡ closed l heavy out → end' ≡ due → heavy' ≡ blank-key → light' ≡ 0 →
+        ls' ≡ set ls (l .count) (weight-of light) → l' ≡ closed l heavy out → end' ≡ due → heavy' ≡ blank-key → light' ≡ 0 →
         Goes ks fs many slot n es₀ ts₀ ls₀ es' ts' ls' l' end' heavy' light' out kept (i - 1)
     goes-new t e₁ e₂ e₃ e₄ e₅ e₆ e₇ =
         rw (e₁, e₂, e₃, e₄, e₅, e₆, e₇)
@@ -110,12 +110,12 @@ module _ {ks fs : List ℕ} {many slot n : ℕ} {es₀ ts₀ ls₀ : List ℕ} (
           meeting = passing-new ks fs many slot n es ts ls l end heavy light out kept i (w .0) h due d t (roomy .ends) (roomy .tops) (roomy .lows);
           ends = length-set es (l .count) end ∙ w .1;
           tops = length-set ts (l .count) heavy ∙ w .2;
-          lows = length-set ls (l .count) (weight-in light) ∙ w .3;
+          lows = length-set ls (l .count) (weight-of light) ∙ w .3;
         })
 
   -- THE END
   pub says : i ≡ 0 → {es' ts' ls' : List ℕ} {l' : Lead} → l' ≡ closed l heavy light → es' ≡ set es (l .count) end → ts' ≡ set ts (l .count) heavy →
-      ls' ≡ set ls (l .count) (weight-in light) → Segments-say ks fs many slot n es' ts' ls' l'
+      ls' ≡ set ls (l .count) (weight-of light) → Segments-say ks fs many slot n es' ts' ls' l'
   says z e₁ e₂ e₃ e₄ r g =
       rw (e₁, e₂, e₃, e₄)
       (pass-last r ks fs many slot n g es ts ls l end heavy light out kept (subst (Pass r fs n es ts ls l end heavy light out kept) z (w .0 r g))
@@ -124,7 +124,7 @@ module _ {ks fs : List ℕ} {many slot n : ℕ} {es₀ ts₀ ls₀ : List ℕ} (
 -- ONE PLACE FURTHER
 module _ {ks fs : List ℕ} {many slot n : ℕ} {es₀ ts₀ ls₀ es ts ls : List ℕ} {l : Lead} {end heavy light out kept p : ℕ}
     (w : Goes ks fs many slot n es₀ ts₀ ls₀ es ts ls l end heavy light out kept p) {key row : ℕ} (k : key ≡ getD ks p 0)
-    (j : row ≡ key % 1024) where
+    (j : row ≡ row-of key) where
   pub kept-further : getD fs row 0 ≡ 1 → {heavy' light' kept' : ℕ} → heavy' ≡ min heavy key → light' ≡ max light key → kept' ≡ kept - 1 →
       Passing ks fs many slot n es ts ls l end heavy' light' out kept' p
   kept-further y e₁ e₂ e₃ =

@@ -3,13 +3,13 @@ use mathlib.Core.Path.{_≡_}
 use mathlib.Core.Logic.{_⊎_}
 use mathlib.Core.Bool.{Bool, false, cond}
 use mathlib.Core.List.{List, [], _∷_}
-use Prim.Native.Nat.{ℕ, suc, _+_, _-_, _/_, _≤_, _<_}
+use Prim.Native.Nat.{ℕ, suc, _+_, _-_, _≤_, _<_}
 use lib.Dec.{leb, ltb, eqb}
 use lib.ListN.{length, getD}
 use Rattle.rules.specs.Rows.{Row, Round, blank}
 use Rattle.rules.specs.PlanM.{score}
 use Rattle.round.specs.Rows.{at}
-use Rattle.keys.specs.Key.{blank-key, key-at}
+use Rattle.keys.specs.Key.{weight-of, blank-key, key-at}
 use Rattle.picture.specs.Picture.{Segment}
 use Rattle.picture.specs.Substitutes.{stand-in}
 use Rattle.picture.specs.Pick.{top-score}
@@ -67,11 +67,8 @@ abbrev pub ends-here : (due slot kept end : ℕ) → Bool
 ends-here d s k e = cond (eqb d e) false (ltb (d - s) k)
 
 -- ONE SEGMENT CLOSED: the lead after it
-abbrev pub weight-in : (key : ℕ) → ℕ
-weight-in k = 16777217 - k / 16777216
-
 abbrev pub closed : Lead → (heavy other : ℕ) → Lead
 closed l h o =
-    cond (leb (l .score) (score (weight-in h) (weight-in o)))
-    (record { count = suc (l .count); score = score (weight-in h) (weight-in o); key = h; segment = l .count; other = o })
+    cond (leb (l .score) (score (weight-of h) (weight-of o)))
+    (record { count = suc (l .count); score = score (weight-of h) (weight-of o); key = h; segment = l .count; other = o })
     (record { count = suc (l .count); score = l .score; key = l .key; segment = l .segment; other = l .other })

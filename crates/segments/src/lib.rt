@@ -1,16 +1,19 @@
 // Segments as a value: one backward pass over the near rows' keys in due order finds each segment and the one whose top goes first.
 ghost use mathlib.Core.Path.{_≡_};
-ghost use Prim.Native.Nat.{_+_, _-_, _≤_, _<_};
+ghost use Prim.Native.Nat.{_≤_, _<_};
 ghost use lib.ListN.{length, set};
 ghost use Rattle.rules.specs.PlanM.{score};
+ghost use Rattle.keys.specs.Key.{weight-of, blank-key};
 ghost use Rattle.segments.specs.Given.{Lent};
-ghost use Rattle.segments.specs.Segmented.{ends-here, weight-in, closed, Segments-say};
+ghost use Rattle.segments.specs.Segmented.{ends-here, closed, Segments-say};
 use keys::BLANK;
 use keys::due_of;
 use keys::larger;
 use keys::lesser;
 use keys::row_of;
 use keys::weight_of;
+use sorts::Slot;
+use sorts::Weight;
 
 // How many segments there are, and of the one whose top goes before all others': score, top, number, and its substitute (BLANK for none).
 pub struct Lead {
@@ -22,11 +25,10 @@ pub struct Lead {
 }
 
 // Two rows compared by weight + φ × substitute: F(38) and F(39) stand for 1 and φ.
-pub fn score_of(weight: u32, substitute: u32) -> u64
-    requires { ⌜ (weight ≤ 16777217) × (substitute ≤ 16777217) ⌝ }
-    ensures { λ r. ⌜ r ≡ score weight substitute ⌝ }
+pub fn score_of(weight: Weight, substitute: Weight) -> u64
+    ensures { λ r. ⌜ r ≡ score (weight .0) (substitute .0) ⌝ }
 {
-    weight as u64 * 39088169 + substitute as u64 * 63245986
+    weight.0 as u64 * 39088169 + substitute.0 as u64 * 63245986
 }
 
 // A segment is complete: it is stored, and leads from an equal score on, since it is earlier.
@@ -41,13 +43,13 @@ fn close_segment(
     other: u64,
 ) -> Lead
     requires { ⌜ (lead .count < length (now ends)) × (lead .count < length (now tops)) × (lead .count < length (now lows))
-        × (heavy ≤ 281474993487872) × (light ≤ 281474993487872) × (other ≤ 281474993487872) ⌝ }
+        × (heavy ≤ blank-key) × (light ≤ blank-key) × (other ≤ blank-key) ⌝ }
     ensures { λ r. ⌜ (r ≡ closed lead heavy other) × (now (ends .exit) ≡ set (now (ends .entry)) (lead .count) end)
         × (now (tops .exit) ≡ set (now (tops .entry)) (lead .count) heavy)
-        × (now (lows .exit) ≡ set (now (lows .entry)) (lead .count) (weight-in light)) ⌝ }
+        × (now (lows .exit) ≡ set (now (lows .entry)) (lead .count) (weight-of light)) ⌝ }
 {
     let at = lead.count;
-    let score = score_of(weight_of(heavy), weight_of(other));
+    let score = score_of(Weight(weight_of(heavy)), Weight(weight_of(other)));
     ends[at] = end;
     tops[at] = heavy;
     lows[at] = weight_of(light);
@@ -85,14 +87,14 @@ pub fn segments_of(
     keys: &[u64],
     flags: &[u8],
     many: usize,
-    slot: u32,
+    slot: Slot,
     free: usize,
     ends: &mut [u32],
     tops: &mut [u64],
     lows: &mut [u32],
 ) -> Lead
-    requires { ⌜ Lent (now keys) (now flags) many slot free (now ends) (now tops) (now lows) ⌝ }
-    ensures { λ r. ⌜ Segments-say (now (keys .entry)) (now (flags .entry)) many slot free (now (ends .exit)) (now (tops .exit)) (now (lows .exit)) r ⌝ }
+    requires { ⌜ Lent (now keys) (now flags) many (slot .0) free (now ends) (now tops) (now lows) ⌝ }
+    ensures { λ r. ⌜ Segments-say (now (keys .entry)) (now (flags .entry)) many (slot .0) free (now (ends .exit)) (now (tops .exit)) (now (lows .exit)) r ⌝ }
 {
     let mut lead = Lead {
         count: 0,
@@ -101,7 +103,7 @@ pub fn segments_of(
         segment: 0,
         other: BLANK,
     };
-    let mut end = slot + free as u32 - 1;
+    let mut end = slot.0 + free as u32 - 1;
     let mut heavy = BLANK;
     let mut light: u64 = 0;
     let mut out = BLANK;
@@ -111,7 +113,7 @@ pub fn segments_of(
         i -= 1;
         let key = keys[i];
         let due = due_of(key);
-        if ends_here(due, slot, kept, end) {
+        if ends_here(due, slot.0, kept, end) {
             lead = close_segment(ends, tops, lows, lead, end, heavy, light, out);
             end = due;
             heavy = BLANK;

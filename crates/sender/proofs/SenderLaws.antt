@@ -3,7 +3,7 @@ use mathlib.Core.Path.{_≡_, refl, sym, ap}
 use mathlib.Core.Bool.{true}
 use mathlib.Core.Logic.{inl, inr}
 use mathlib.Core.List.{List}
-use Prim.Native.Nat.{ℕ, suc, _+_, _/_, _%_, _≤_}
+use Prim.Native.Nat.{ℕ, suc, _+_, _/_, _≤_}
 use native.Mathlib.Omega.{arith}
 use lib.ListN.{length, getD, replicate, length-replicate}
 use Rattle.rules.specs.Rows.{Round}
@@ -18,7 +18,7 @@ use Rattle.sorts.specs.declared.Round.{Round as Head}
 use Rattle.round.specs.Rows.{Ready, top-of}
 use Rattle.round.specs.Buckets.{Counted}
 use Rattle.round.proofs.ReadLaws.{known}
-use Rattle.keys.specs.Key.{blank-key}
+use Rattle.keys.specs.Key.{row-of, blank-key}
 use Rattle.buckets.specs.Reach.{Reaches, Reach-says, head-top}
 use Rattle.buckets.specs.declared.Reach.{Reach}
 use Rattle.buckets.proofs.ReachLaws.{reaches, count-rows}
@@ -31,6 +31,7 @@ use Rattle.closing.specs.Close.{Due-now}
 use Rattle.whole.specs.Whole as whole
 use Rattle.whole.specs.declared.Whole.{Whole}
 use Rattle.step.specs.Send.{Far-first, Planned-step, Whole-step}
+use Rattle.step.proofs.SendLaws.{num-most}
 use Rattle.sender.specs.Crowded.{Crowded, Led}
 
 -- ROWS DUE NOW: no more than the first bucket counts
@@ -74,7 +75,7 @@ far-first r z k f =
     record {
       least = f .least;
       found = elim (ltb? k blank-key) [
-        | inl g ↦ let w = f .named (g .1) in inr (record { row = k % 1024; below = w .0; far = w .1; key = sym (w .2) })
+        | inl g ↦ let w = f .named (g .1) in inr (record { row = row-of k; below = w .0; far = w .1; key = sym (w .2) })
         | inr g ↦ inl (omega (arith, g .1, f .by))
       ];
     }

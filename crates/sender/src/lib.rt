@@ -40,7 +40,7 @@ fn send_led(
         keys,
         flags,
         planned.many,
-        round.slot.0,
+        round.slot,
         reach.free,
         counts,
         heap,

@@ -2,7 +2,7 @@
 use mathlib.Core.Path.{_≡_, sym, ap, ap₂, _∙_, subst}
 use mathlib.Core.Logic.{inl, inr, _≢_}
 use mathlib.Core.List.{List, [], _∷_, _++_}
-use Prim.Native.Nat.{ℕ, suc, _+_, _*_, _-_, _/_, _%_, _≤_, _<_, max}
+use Prim.Native.Nat.{ℕ, suc, _+_, _*_, _≤_, _<_, max}
 use native.Mathlib.Omega.{arith}
 use lib.ListN.{length, getD}
 use lib.Seq.{sets}
@@ -22,7 +22,7 @@ use Rattle.theory.specs.Leaping.{rising-moves, moved-ticket}
 use Rattle.theory.specs.Whole.{length-moves}
 use Rattle.picture.specs.Places.{ends-at}
 use Rattle.round.specs.Rows.{at}
-use Rattle.keys.specs.Key.{key-at}
+use Rattle.keys.specs.Key.{weight-of, row-of, key-at}
 use Rattle.keys.specs.KeyLaws.{row-fine, weight-is, row-is, some-key, lesser-key, greater-key}
 use Rattle.step.specs.Chain.{Piece, Named, linked, having, Shifts}
 use Rattle.step.proofs.MoveLaws.{moves-changed, moves-other, length-having, table-shift}
@@ -68,8 +68,8 @@ module _ (r : Round) (f : Fine r) (small : length (r .rows) ≤ 1024) (cap : r .
       (all-map {Q = λ y. y .ticket ≢ at r i .ticket} (λ y (u : at r i .ticket ≢ y .ticket) (v : y .ticket ≡ at r i .ticket). u (sym v)) (l .links) o) in
       let long : i < length xs = omega (arith, l .below, length-moves r e1 (l .links) (r .rows)) in
       let shift = table-shift r xs 1 i (rising-moves r 1 (r .next) e1 (l .links) (r .rows) (f .rising)) long e (max (at r i .weight) m) in
-      ap₂ (λ (j v : ℕ). sets t (row-at j + 4) (low 2 e ++ low 4 (max v m))) (ap (λ (v : ℕ). v % 1024) (l .key) ∙ row-is r f small cap i (l .below))
-      (ap (λ (v : ℕ). 16777217 - v / 16777216) (l .key) ∙ weight-is r f small cap i (l .below))
+      ap₂ (λ (j v : ℕ). sets t (row-at j + 4) (low 2 e ++ low 4 (max v m))) (ap row-of (l .key) ∙ row-is r f small cap i (l .below))
+      (ap weight-of (l .key) ∙ weight-is r f small cap i (l .below))
       ∙ ap (λ (bs : List ℕ). sets bs (row-at i + 4) (low 2 e ++ low 4 (max (at r i .weight) m))) (l .bytes)
       ∙ sym shift
       ∙ ap₂ (λ (y : Row) (v : ℕ). table (having r (changed (y .ticket) (row (y .ticket) e (max (at r i .weight) v) (y .tail)) xs))) same q
@@ -168,7 +168,7 @@ module _ (r : Round) (f : Fine r) (small : length (r .rows) ≤ 1024) (cap : r .
         most = omega (arith, l .key, some-key r f small cap (l .row) (l .below) .1);
         there = omega (
           arith,
-          ap (λ (v : ℕ). v % 1024) (l .key),
+          ap row-of (l .key),
           row-is r f small cap (l .row) (l .below),
           l .below,
           o,

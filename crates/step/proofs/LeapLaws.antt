@@ -3,7 +3,7 @@ use mathlib.Core.Path.{_≡_, refl, sym, ap, ap₂, _∙_, subst}
 use mathlib.Core.Logic.{inl, inr, _≢_}
 use mathlib.Core.Bool.{true, false}
 use mathlib.Core.List.{List}
-use Prim.Native.Nat.{ℕ, suc, _+_, _/_, _%_, _≤_, _<_}
+use Prim.Native.Nat.{ℕ, suc, _+_, _≤_, _<_}
 use native.Mathlib.Omega.{arith}
 use lib.ListN.{length, getD}
 use lib.Seq.{sets}
@@ -31,6 +31,7 @@ use Rattle.round.specs.Head.{Head-of}
 use Rattle.round.specs.Rows.{at}
 use Rattle.round.proofs.ReadLaws.{Known, known}
 use Rattle.keys.specs.KeyLaws.{row-fine, due-is, row-is}
+use Rattle.keys.specs.Key.{due-of, row-of}
 use Rattle.closing.specs.Close.{Due-now, gone-ticket, closed-up}
 use Rattle.segments.specs.declared.Lead.{Lead}
 use Rattle.step.specs.Chain.{start-of, Lies-in, Lowered, Chained, having, Shifts}
@@ -74,12 +75,12 @@ module _ {t : List ℕ} {h : Head} {es ts ls : List ℕ} {l : Lead} (w : Leaps t
   own-later = let q = w .pieces .piece (suc own) (w .later) .spans in omega (arith, q .from, q .by)
 
   -- the key names the row that goes
-  pub leap-row-is : {j : ℕ} → j ≡ l .key % 1024 → j ≡ w .row
+  pub leap-row-is : {j : ℕ} → j ≡ row-of (l .key) → j ≡ w .row
   leap-row-is {j} d =
       let n = leap-known in
-      d ∙ ap (λ (v : ℕ). v % 1024) (w .key) ∙ row-is r (n .fine) (n .small) (n .cap) (w .row) (w .below)
+      d ∙ ap row-of (w .key) ∙ row-is r (n .fine) (n .small) (n .cap) (w .row) (w .below)
 
-  pub leap-used : {j : ℕ} → j ≡ l .key % 1024 → j < h .used
+  pub leap-used : {j : ℕ} → j ≡ row-of (l .key) → j < h .used
   leap-used d = omega (arith, leap-row-is d, w .below, leap-known .used)
 
 -- ONTO A BLANK
@@ -90,7 +91,7 @@ module _ {t : List ℕ} {h : Head} {es ts ls : List ℕ} {l : Lead} (w : Leaps-b
       let s = w .leaps .pieces .piece (suc (l .segment)) (w .leaps .later) .spans in
       omega (arith, s .ahead, leap-known (w .leaps) .cap, ap (λ (k : ℕ). getD es k 0) q)
 
-  pub blank-keeps : {us : List ℕ} → Lowered (l .count) (l .segment) ls us → {j : ℕ} → j ≡ l .key % 1024 →
+  pub blank-keeps : {us : List ℕ} → Lowered (l .count) (l .segment) ls us → {j : ℕ} → j ≡ row-of (l .key) →
       Keeps-blank t h j (getD es (l .segment + 1) 0 + 1) (getD us (l .segment) 0)
   blank-keeps {us} m {j} d =
       let r = round-in t in
@@ -146,22 +147,22 @@ module _ {t : List ℕ} {h : Head} {es ts ls : List ℕ} {l : Lead} (w : Leaps-r
     | inr a ↦ absurd (omega (arith, blank-weight y (a .0), y-fine .some))
   ]
 
-  other-due : {d : ℕ} → d ≡ l .other / 4096 % 4096 → d ≡ y .due
+  other-due : {d : ℕ} → d ≡ due-of (l .other) → d ≡ y .due
   other-due {d} a =
       let n = leap-known v in
-      a ∙ ap (λ (x : ℕ). x / 4096 % 4096) (w .key) ∙ due-is (round-in t) (n .fine) (n .small) (n .cap) (w .row) (w .below)
+      a ∙ ap due-of (w .key) ∙ due-is (round-in t) (n .fine) (n .small) (n .cap) (w .row) (w .below)
 
-  other-row : {j : ℕ} → j ≡ l .other % 1024 → j ≡ w .row
+  other-row : {j : ℕ} → j ≡ row-of (l .other) → j ≡ w .row
   other-row {j} a =
-      let n = leap-known v in a ∙ ap (λ (x : ℕ). x % 1024) (w .key) ∙ row-is (round-in t) (n .fine) (n .small) (n .cap) (w .row) (w .below)
+      let n = leap-known v in a ∙ ap row-of (w .key) ∙ row-is (round-in t) (n .fine) (n .small) (n .cap) (w .row) (w .below)
 
   pub swap-own : l .segment < length es
   swap-own = omega (arith, v .later, v .pieces .ends)
 
-  pub swap-near : {d : ℕ} → d ≡ l .other / 4096 % 4096 → d ≤ getD es 0 0
+  pub swap-near : {d : ℕ} → d ≡ due-of (l .other) → d ≤ getD es 0 0
   swap-near a = omega (arith, other-due a, w .near)
 
-  module _ {d to : ℕ} (a : d ≡ l .other / 4096 % 4096) (z : Lies-in es (l .segment) d to) where
+  module _ {d to : ℕ} (a : d ≡ due-of (l .other)) (z : Lies-in es (l .segment) d to) where
     to-in : to < l .count
     to-in = omega (arith, z .by, v .later)
 
@@ -215,7 +216,7 @@ module _ {t : List ℕ} {h : Head} {es ts ls : List ℕ} {l : Lead} (w : Leaps-r
         }
 
     module _ {us : List ℕ} (m : Lowered (l .count) to ls us) {u : List ℕ} (s : Shifts (round-in t) (getD es (l .segment) 0) (getD es to 0) u) {j : ℕ}
-        (jo : j ≡ l .other % 1024) where
+        (jo : j ≡ row-of (l .other)) where
       abbrev g : ℕ
       g = getD es to 0
 
@@ -316,7 +317,7 @@ module _ {t : List ℕ} {h : Head} {es ts ls : List ℕ} {l : Lead} (w : Leaps-r
         pub swap-good : (table-refusal x ≡ 0) × Head-of x h
         swap-good = (swap-stood .sound, swap-stood .head)
 
-        pub swap-says : {o : ℕ} → o ≡ l .key % 1024 → {wt : Went} → Went-of (at (round-in t) o) true wt → {n : List ℕ} → n ≡ closed-up (gone-ticket x o) x →
+        pub swap-says : {o : ℕ} → o ≡ row-of (l .key) → {wt : Went} → Went-of (at (round-in t) o) true wt → {n : List ℕ} → n ≡ closed-up (gone-ticket x o) x →
             Sent-says t n wt
         swap-says {o} q {wt} p {n} d1 =
             let i = leap-row-is v q in

@@ -3,7 +3,7 @@ use mathlib.Core.Path.{_≡_, sym, ap, _∙_, subst}
 use mathlib.Core.Logic.{inl, inr, _≢_}
 use mathlib.Core.Bool.{true, false}
 use mathlib.Core.List.{List, [], _∷_}
-use Prim.Native.Nat.{ℕ, suc, _+_, _-_, _*_, _/_, _%_, _≤_, _<_}
+use Prim.Native.Nat.{ℕ, suc, _+_, _*_, _≤_, _<_}
 use native.Mathlib.Omega.{arith}
 use lib.ListN.{length, getD}
 use Rattle.rules.specs.Rows.{Row, Round, blank, In}
@@ -29,6 +29,7 @@ use Rattle.sorts.specs.declared.Round.{Round as Head}
 use Rattle.round.specs.Rows.{at}
 use Rattle.round.proofs.ReadLaws.{Known, known}
 use Rattle.keys.specs.KeyLaws.{row-fine, weight-is, row-is, some-key, greater-key}
+use Rattle.keys.specs.Key.{weight-of, row-of, blank-key}
 use Rattle.segments.specs.Segmented.{Stored}
 use Rattle.segments.specs.declared.Lead.{Lead}
 use Rattle.segments.proofs.SegmentedLaws.{segment-at, count-some, lead-below, lead-right, lead-first, lead-later, lead-end, lead-out, lead-goes, far-goes}
@@ -119,15 +120,15 @@ module _ {t : List ℕ} {h : Head} {es ts ls : List ℕ} {far : ℕ} {l : Lead} 
         | inr a ↦ absurd (omega (arith, d, near-out r (n .fine) rs c z (w .near) x j (a .0)))
       ]
 
-  pub far-fits : far ≤ 281474993487872
+  pub far-fits : far ≤ blank-key
   far-fits = elim (w .first-far .found) [
     | inl a ↦ omega (arith, a)
     | inr a ↦ omega (arith, a .key, some-key r (n .fine) (n .small) (n .cap) (a .row) (a .below) .1)
   ]
 
-  module _ {x : ℕ} (e : x ≡ (16777217 - far / 16777216) * 39088169) where
+  module _ {x : ℕ} (e : x ≡ weight-of far * 39088169) where
     -- THE FAR ROW GOES
-    pub far-alone : l .score < x → {j : ℕ} → j ≡ far % 1024 → Leaves-alone t h true j
+    pub far-alone : l .score < x → {j : ℕ} → j ≡ row-of far → Leaves-alone t h true j
     far-alone d {j} q = elim (w .first-far .found) [
       | inl a ↦ absurd (omega (arith, a, d, e))
       | inr a ↦
@@ -140,10 +141,10 @@ module _ {t : List ℕ} {h : Head} {es ts ls : List ℕ} {far : ℕ} {l : Lead} 
                 (omega (arith, w .first-far .least m b o, a .key))))
                 y (of-rows-in r (n .fine) rs c y (k .0)) (k .1);
           } in
-          let wt = ap (λ (k : ℕ). 16777217 - k / 16777216) (a .key) ∙ weight-is r (n .fine) (n .small) (n .cap) (a .row) (a .below) in
+          let wt = ap weight-of (a .key) ∙ weight-is r (n .fine) (n .small) (n .cap) (a .row) (a .below) in
           let b = far-goes r (w .free) es ts ls l (w .segments) (n .fine) (n .time) rs c (w .near) v u
           (omega (arith, d, e, ap (λ (k : ℕ). k * 39088169) wt)) in
-          let o : j ≡ a .row = q ∙ ap (λ (k : ℕ). k % 1024) (a .key) ∙ row-is r (n .fine) (n .small) (n .cap) (a .row) (a .below) in
+          let o : j ≡ a .row = q ∙ ap row-of (a .key) ∙ row-is r (n .fine) (n .small) (n .cap) (a .row) (a .below) in
           record {
             ready = w .ready;
             below = omega (arith, o, a .below, n .used);
@@ -159,20 +160,20 @@ module _ {t : List ℕ} {h : Head} {es ts ls : List ℕ} {far : ℕ} {l : Lead} 
           each-row (λ y. z ≤ y .due → y .weight * 39088169 ≤ l .score) (blank 0) (r .rows)
           (λ m b o.
           let wt = weight-is r (n .fine) (n .small) (n .cap) m b in
-          let u : at r m .weight ≤ 16777217 - far / 16777216 = omega (arith, w .first-far .least m b o, wt) in
+          let u : at r m .weight ≤ weight-of far = omega (arith, w .first-far .least m b o, wt) in
           omega (arith, u, e, d))
           y (of-rows-in r (n .fine) rs c y (k .of .0)) (k .of .1))
 
       row-goes : best r (plan r) ≡ at r (w .segments .leader .key .row)
       row-goes = goes ∙ w .segments .leader .key .is
 
-      pub first-alone : l .segment + 1 ≡ l .count → {j : ℕ} → j ≡ l .key % 1024 → Leaves-alone t h false j
+      pub first-alone : l .segment + 1 ≡ l .count → {j : ℕ} → j ≡ row-of (l .key) → Leaves-alone t h false j
       first-alone q {j} a =
           let k = w .segments .leader .key in
           let v = lead-right r (w .free) es ts ls l (w .segments) in
           let g = w .segments .leader .of in
           let i : suc (l .segment) ≡ l .count = omega (arith, q) in
-          let o : j ≡ k .row = a ∙ ap (λ (m : ℕ). m % 1024) (k .key) ∙ row-is r (n .fine) (n .small) (n .cap) (k .row) (k .there) in
+          let o : j ≡ k .row = a ∙ ap row-of (k .key) ∙ row-is r (n .fine) (n .small) (n .cap) (k .row) (k .there) in
           record {
             ready = w .ready;
             below = omega (arith, o, k .there, n .used);
@@ -208,7 +209,7 @@ module _ {t : List ℕ} {h : Head} {es ts ls : List ℕ} {far : ℕ} {l : Lead} 
         past-now : r .slot < w .segments .leader .of .first
         past-now = let s = pieces .piece (suc (l .segment)) is-later .spans in omega (arith, first-is, s .from, s .by)
 
-        pub blank-leaps : l .other ≡ 281474993487872 → Leaps-blank t h es ts ls l
+        pub blank-leaps : l .other ≡ blank-key → Leaps-blank t h es ts ls l
         blank-leaps a =
             let v = lead-right r (w .free) es ts ls l (w .segments) .out in
             record {
@@ -219,7 +220,7 @@ module _ {t : List ℕ} {h : Head} {es ts ls : List ℕ} {far : ℕ} {l : Lead} 
               ];
             }
 
-        pub row-leaps : l .other ≢ 281474993487872 → Leaps-row t h es ts ls l
+        pub row-leaps : l .other ≢ blank-key → Leaps-row t h es ts ls l
         row-leaps a =
             let v = lead-right r (w .free) es ts ls l (w .segments) .out in
             elim (lead-out r (w .free) es ts ls l (w .segments) past-now) [

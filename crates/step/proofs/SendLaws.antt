@@ -12,7 +12,7 @@ use Rattle.rules.specs.Steps.{kept-at, changed}
 use Rattle.rules.specs.Conditions.{row-at}
 use Rattle.rules.specs.Table.{low, table, table-refusal, round-in}
 use Rattle.theory.specs.Bounds.{kept-right}
-use Rattle.theory.specs.Feas.{num}
+use Rattle.theory.specs.Feas.{num, below-1}
 use Rattle.theory.specs.Close.{closed, after-slot}
 use Rattle.theory.specs.Members.{planned-rows}
 use Rattle.theory.specs.Sane.{sound}
@@ -22,7 +22,7 @@ use Rattle.round.specs.Head.{Head-of}
 use Rattle.round.specs.Rows.{Ready, at}
 use Rattle.round.proofs.ReadLaws.{known, reads-within}
 use Rattle.closing.specs.Close.{Due-now, gone-ticket, closed-up}
-use Rattle.step.specs.Send.{Went-of, Sent-says, Leaves-alone, Keeps-blank}
+use Rattle.step.specs.Send.{Went-of, Silent, Sent-says, Leaves-alone, Keeps-blank}
 use Rattle.step.specs.declared.send.Went.{Went}
 use Rattle.step.proofs.MoveLaws.{table-kept}
 use Rattle.step.proofs.StandLaws.{Stood, stood, stood-closed, alone-closed, self-table, sent-says, fit-self, fit-changed}
@@ -37,29 +37,33 @@ no-rows : (xs : List Row) → length xs ≡ 0 → xs ≡ []
 no-rows [] e = refl
 no-rows (x ∷ xs) e = absurd (omega arith)
 
-module _ {t : List ℕ} {h : Head} (k : Ready t h) (e : h .used ≡ 0) where
-  silent-rows : round-in t .rows ≡ []
-  silent-rows = no-rows (round-in t .rows) (omega (arith, e, known t h k .used))
+pub num-most : (e : ℕ) (xs : List Row) → num 0 e xs ≤ length xs
+num-most e [] = omega arith
+num-most e (x ∷ xs) = omega (arith, below-1 0 e x, num-most e xs)
 
-  pub silence-closes : Closes t h 0 (h .used)
+module _ {t : List ℕ} {h : Head} (k : Ready t h) where
+  pub silence-closes : Closes t h (h .used) (h .used)
   silence-closes = (
     k .sound,
     k .head,
     omega arith,
-    omega (arith, ap (λ (xs : List Row). num 0 (suc (round-in t .slot)) xs) silent-rows),
+    omega (arith, num-most (suc (round-in t .slot)) (round-in t .rows), known t h k .used),
   )
 
-  pub silence-says : {u : List ℕ} → u ≡ closed-up (gone-ticket t (h .used)) t →
-      Sent-says t u (record { leap = false; ticket = record { 0 = 0 }; kind = 0 })
+  pub silence-kept : {u : List ℕ} → u ≡ closed-up (gone-ticket t (h .used)) t → Silent t u (record { leap = false; ticket = record { 0 = 0 }; kind = 0 })
+  silence-kept d =
+      record { leaves = d ∙ ap (λ (g : ℕ). closed-up g t) (gone-none t h (k .head)); leap = refl; ticket = refl; kind = refl }
+
+  -- where no row waits it is what sending says
+  pub silence-says : h .used ≡ 0 → {u : List ℕ} {w : Went} → Silent t u w → Sent-says t u w
   unfolding blank
-  silence-says {u} d =
+  silence-says e {u} {w} s =
       let r = round-in t in
       let n = known t h k in
-      sent-says t h k (blank (r .slot)) false 0 [] u (record { leap = false; ticket = record { 0 = 0 }; kind = 0 })
-      (sends-silence r (n .fine) (n .time) (planned r) (planned-rows r (n .fine)) silent-rows)
-      (alone-closed t u 0 (d ∙ ap (λ (g : ℕ). closed-up g t) (gone-none t h (k .head)))
-      ∙ ap (λ (xs : List Row). table (after-slot r (closed (suc (r .slot)) 0 xs))) silent-rows)
-      (record { leap = refl; ticket = refl; kind = refl })
+      let d : r .rows ≡ [] = no-rows (r .rows) (omega (arith, e, n .used)) in
+      sent-says t h k (blank (r .slot)) false 0 [] u w (sends-silence r (n .fine) (n .time) (planned r) (planned-rows r (n .fine)) d)
+      (alone-closed t u 0 (s .leaves) ∙ ap (λ (xs : List Row). table (after-slot r (closed (suc (r .slot)) 0 xs))) d)
+      (record { leap = s .leap; ticket = s .ticket; kind = s .kind })
 
 -- ALONE
 module _ {t : List ℕ} {h : Head} {leaps : Bool} {j : ℕ} (a : Leaves-alone t h leaps j) where

@@ -6,6 +6,8 @@ use Prim.Native.Nat.{ℕ, _<_}
 use native.Mathlib.Omega.{arith}
 use Rattle.rules.specs.Table.{round-in}
 use Rattle.sorts.specs.declared.Round.{Round as Head}
+use Rattle.sorts.specs.declared.Slot.{Slot}
+use Rattle.sorts.specs.declared.Weight.{Weight}
 use Rattle.round.proofs.ReadLaws.{Known, known, at-fine}
 use Rattle.whole.specs.Whole.{Picked}
 use Rattle.whole.specs.declared.Whole.{Whole}
@@ -38,7 +40,7 @@ module _ {t : List ℕ} {h : Head} {k : Whole} (w : Whole-step t h k) where
         sends = far-sends t h (w .reach) (w .ready) (w .reaches) (w .none) i p;
       }
 
-  pub whole-kept : {i b m : ℕ} → k ≡ Kept i b m → Keeps-blank t h i b m
+  pub whole-kept : {i : ℕ} {b : Slot} {m : Weight} → k ≡ Kept i b m → Keeps-blank t h i (b .0) (m .0)
   whole-kept {i} {b} {m} e =
       let p = picked-as e in
       let j : i < h .used = omega (arith, p .leading .below, n .used) in

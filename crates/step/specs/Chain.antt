@@ -2,7 +2,7 @@
 use mathlib.Core.Path.{_≡_}
 use mathlib.Core.Bool.{cond}
 use mathlib.Core.List.{List, _++_}
-use Prim.Native.Nat.{ℕ, suc, _+_, _-_, _/_, _%_, _≤_, _<_, max, min}
+use Prim.Native.Nat.{ℕ, suc, _+_, _-_, _≤_, _<_, max, min}
 use lib.Dec.{leb, eqb}
 use lib.ListN.{length, getD}
 use lib.Seq.{sets}
@@ -14,7 +14,7 @@ use Rattle.theory.specs.Chain.{Linked, moves}
 use Rattle.picture.specs.Picture.{Spans, Heaviest, Lightest, Within}
 use Rattle.sorts.specs.declared.Round.{Round as Head}
 use Rattle.round.specs.Rows.{Ready, at}
-use Rattle.keys.specs.Key.{blank-key, key-at}
+use Rattle.keys.specs.Key.{weight-of, row-of, blank-key, key-at}
 
 -- A SEGMENT BY NUMBERS: its first and last slot, the key of its heaviest row, and the weight of its own lightest
 pub record Piece (r : Round) (b e k w : ℕ) : Type 0 where
@@ -59,11 +59,11 @@ pub record Marked (r : Round) (n to : ℕ) (es ms : List ℕ) : Type 0 where
 -- a key's row stands in the table
 pub record Named (k : ℕ) (t : List ℕ) : Type 0 where
   pub most : k ≤ blank-key
-  pub there : row-at (suc (k % 1024)) ≤ length t
+  pub there : row-at (suc (row-of k)) ≤ length t
 
 -- A LINK MOVED to an end, its weight at least the mark
 abbrev pub linked : (key end mark : ℕ) → List ℕ → List ℕ
-linked k e m bs = sets bs (row-at (k % 1024) + 4) (low 2 e ++ low 4 (max (16777217 - k / 16777216) m))
+linked k e m bs = sets bs (row-at (row-of k) + 4) (low 2 e ++ low 4 (max (weight-of k) m))
 
 -- a segment passed: where its heaviest row is heavier than the link that waits, that one moves to its end
 abbrev pub passed : (ends tops marks : List ℕ) → (waiting k : ℕ) → List ℕ → List ℕ

@@ -24,6 +24,7 @@ use Rattle.segments.specs.Segmented.{Segmented}
 use Rattle.segments.specs.declared.Lead.{Lead}
 use Rattle.whole.specs.Whole.{Picked}
 use Rattle.whole.specs.declared.Whole.{Whole}
+use Rattle.closing.specs.Close.{closed-up}
 use Rattle.step.specs.Chain.{Pieces}
 use Rattle.step.specs.declared.send.Went.{Went}
 
@@ -32,6 +33,13 @@ pub record Went-of (p : Row) (leaps : Bool) (w : Went) : Type 0 where
   pub leap : w .leap ≡ leaps
   pub ticket : w .ticket .0 ≡ p .ticket
   pub kind : w .kind ≡ p .tail .kind
+
+-- SILENCE: the slot moves on, no ticket goes, and none is told
+pub record Silent (t u : List ℕ) (w : Went) : Type 0 where
+  pub leaves : u ≡ closed-up 0 t
+  pub leap : w .leap ≡ false
+  pub ticket : w .ticket .0 ≡ 0
+  pub kind : w .kind ≡ 0
 
 -- what went out
 unfoldable pub went-out : Went → Out

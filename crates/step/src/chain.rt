@@ -1,8 +1,9 @@
 // A leap's marks and shifts, by segments numbered from the back: 0 is the last, and a larger number is an earlier one.
 ghost use mathlib.Core.Path.{_≡_};
-ghost use Prim.Native.Nat.{_≤_, _<_, min, max, _-_, _/_};
+ghost use Prim.Native.Nat.{_≤_, _<_, min, max};
 ghost use lib.ListN.{length, getD};
 ghost use Rattle.rules.specs.Table.{round-in};
+ghost use Rattle.keys.specs.Key.{weight-of, blank-key};
 ghost use Rattle.step.specs.Chain.{Lies-in, Lowered, Named, linked, passed, Chained, Shifts};
 use keys::row_of;
 use keys::weight_of;
@@ -45,8 +46,8 @@ pub fn lower_marks(lows: &mut [u32], count: usize, to: usize)
 }
 
 fn raised(key: u64, mark: u32) -> u32
-    requires { ⌜ key ≤ 281474993487872 ⌝ }
-    ensures { λ r. ⌜ r ≡ max (16777217 - key / 16777216) mark ⌝ }
+    requires { ⌜ key ≤ blank-key ⌝ }
+    ensures { λ r. ⌜ r ≡ max (weight-of key) mark ⌝ }
 {
     let weight = weight_of(key);
     if weight < mark {

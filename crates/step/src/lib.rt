@@ -1,3 +1,3 @@
 // What a sending writes into the table, once the plan's segments are known, and what went out.
-pub mod chain; // chain.rt: a leap's marks and shifts
+mod chain; // chain.rt: a leap's marks and shifts
 pub mod send; // send.rt: the ways of sending

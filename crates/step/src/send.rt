@@ -1,10 +1,11 @@
 // A sending, once the row that goes is known: what it writes, and what went out. At most expiring rows are due in the current slot.
 ghost use mathlib.Core.Path.{_≡_};
-ghost use Prim.Native.Nat.{_*_, _-_, _/_, _≤_, _<_};
+ghost use Prim.Native.Nat.{_*_, _≤_, _<_};
 ghost use Rattle.rules.specs.Table.{round-in};
 ghost use Rattle.round.specs.Rows.{Ready, at};
+ghost use Rattle.keys.specs.Key.{weight-of, blank-key};
 ghost use Rattle.closing.specs.Close.{Due-now};
-ghost use Rattle.step.specs.Send.{Went-of, Sent-says, Leaves-alone, Keeps-blank, Leaps-blank, Leaps-row, Planned-step, Whole-step};
+ghost use Rattle.step.specs.Send.{Went-of, Silent, Sent-says, Leaves-alone, Keeps-blank, Leaps-blank, Leaps-row, Planned-step, Whole-step};
 use crate::chain::lower_marks;
 use crate::chain::segment_by;
 use crate::chain::shift_chain;
@@ -43,12 +44,12 @@ fn went_of(table: &[u8], round: Round, row: usize, leap: bool) -> Went
     }
 }
 
-// Where no row waits, the slot alone moves on.
+// The slot alone moves on; right where no row waits.
 pub fn send_silence(table: &mut [u8], round: Round) -> Went
-    requires { ⌜ Ready (now table) round × (round .used ≡ 0) ⌝ }
-    ensures { λ r. ⌜ Sent-says (now (table .entry)) (now (table .exit)) r ⌝ }
+    requires { ⌜ Ready (now table) round ⌝ }
+    ensures { λ r. ⌜ Silent (now (table .entry)) (now (table .exit)) r ⌝ }
 {
-    close_up(table, round, 0, round.used);
+    close_up(table, round, round.used, round.used); // no row goes, and each can be due now
     Went {
         leap: false,
         ticket: Ticket(0),
@@ -71,15 +72,15 @@ pub fn send_kept(
     table: &mut [u8],
     round: Round,
     row: usize,
-    first: u32,
-    mark: u32,
+    first: Slot,
+    mark: Weight,
     expiring: usize,
 ) -> Went
-    requires { ⌜ Keeps-blank (now table) round row first mark × Due-now (now table) expiring ⌝ }
+    requires { ⌜ Keeps-blank (now table) round row (first .0) (mark .0) × Due-now (now table) expiring ⌝ }
     ensures { λ r. ⌜ Sent-says (now (table .entry)) (now (table .exit)) r ⌝ }
 {
     let went = went_of(table, round, row, true);
-    write_kept(table, row, Slot(first), Weight(mark));
+    write_kept(table, row, first, mark);
     close_up(table, round, expiring, round.used); // no row goes
     went
 }
@@ -101,7 +102,8 @@ fn send_blank(
     lower_marks(lows, lead.count, own);
     let first = ends[own + 1] + 1;
     let mark = lows[own];
-    send_kept(table, round, row_of(lead.key), first, mark, expiring)
+    let row = row_of(lead.key);
+    send_kept(table, round, row, Slot(first), Weight(mark), expiring)
 }
 
 // A leap onto a row left out: the links between the two segments' ends move, and that row gets its segment's mark.
@@ -131,8 +133,8 @@ fn send_swapped(
 
 // A far row has no substitute, so its score is its weight's alone.
 fn far_score(far: u64) -> u64
-    requires { ⌜ far ≤ 281474993487872 ⌝ }
-    ensures { λ r. ⌜ r ≡ (16777217 - far / 16777216) * 39088169 ⌝ }
+    requires { ⌜ far ≤ blank-key ⌝ }
+    ensures { λ r. ⌜ r ≡ weight-of far * 39088169 ⌝ }
 {
     weight_of(far) as u64 * 39088169
 }

@@ -13,6 +13,8 @@ use Rattle.theory.specs.Whole.{Sends, sends-first, sends-far, sends-kept}
 use Rattle.round.specs.Rows.{Ready, at}
 use Rattle.round.proofs.ReadLaws.{known}
 use Rattle.sorts.specs.declared.Round.{Round as Head}
+use Rattle.sorts.specs.declared.Slot.{Slot}
+use Rattle.sorts.specs.declared.Weight.{Weight}
 use Rattle.buckets.specs.Reach.{Reaches}
 use Rattle.buckets.specs.declared.Reach.{Reach}
 use Rattle.buckets.proofs.SegmentLaws.{whole-rows}
@@ -35,15 +37,15 @@ module _ (t : List ℕ) (h : Head) (x : Reach) (k : Ready t h) (w : Reaches (rou
       sends-far r (n .fine) (n .time) (r .rows) (whole-rows r (n .fine) x w e) (r .slot + x .free) (w .near) (at r i) (p .leading .leads) (p .far)
 
   -- A LEAP onto the segment's blank, which is kept in the row with the mark
-  pub kept-sends : (i b m : ℕ) → Picked (round-in t) (x .free) (Kept i b m) → Sends (round-in t) (at (round-in t) i) false 0
-      (changed (at (round-in t) i .ticket) (row (at (round-in t) i .ticket) b m blank-tail) (round-in t .rows))
+  pub kept-sends : (i : ℕ) (b : Slot) (m : Weight) → Picked (round-in t) (x .free) (Kept i b m) → Sends (round-in t) (at (round-in t) i) false 0
+      (changed (at (round-in t) i .ticket) (row (at (round-in t) i .ticket) (b .0) (m .0) blank-tail) (round-in t .rows))
   kept-sends i b m p =
       let r = round-in t in
       let n = known t h k in
       let c = whole-rows r (n .fine) x w e in
       let l = p .mark in
-      subst (λ (v : ℕ). Sends r (at r i) false 0 (changed (at r i .ticket) (row (at r i .ticket) b v blank-tail) (r .rows))) (l .weight)
-      (sends-kept r (n .fine) (n .time) (r .rows) c (r .slot + x .free) (w .near) (at r i) (p .leading .leads) b (p .last) (p .near) (p .segment)
+      subst (λ (v : ℕ). Sends r (at r i) false 0 (changed (at r i .ticket) (row (at r i .ticket) (b .0) v blank-tail) (r .rows))) (l .weight)
+      (sends-kept r (n .fine) (n .time) (r .rows) c (r .slot + x .free) (w .near) (at r i) (p .leading .leads) (b .0) (p .last) (p .near) (p .segment)
       (p .later) (p .from) (p .by) (λ y j u. absurd (not-found r (n .fine) (r .rows) c y j u j)) (at r (l .row))
       (getD-in (r .rows) (blank 0) (l .row) (l .below)) (l .by)
       (each-row (λ y. y .due ≤ p .last → at r (l .row) .weight ≤ y .weight) (blank 0) (r .rows) (l .least)))

@@ -127,9 +127,6 @@ module _ {t cs : List ℕ} {h : Head} {x : Reach} {b : Best} {e : ℕ} (p : Past
   pub past-by : {y : Stretch} {a : ℕ} → a ≡ b .due - h .slot .0 → Stretches cs (x .free) a y → e ≤ h .slot .0 + y .last
   past-by d s = omega (arith, p .past, d, s .by, past-from)
 
-  pub past-small : b .weight ≤ 16777216
-  past-small = p .best .small
-
 -- and the second pass is done
 module _ {t cs : List ℕ} {h : Head} {x : Reach} {b : Best} {e own : ℕ} {f : Found} (p : Past t cs h x b e) (l : Looks (round-in t) (h .used) e own f) where
   -- the first segment has a row

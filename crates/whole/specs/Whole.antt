@@ -72,4 +72,4 @@ pub record Picks-kept (r : Round) (z i first m : ℕ) : Type 0 where
 abbrev pub Picked : Round → (free : ℕ) → Whole → Type 0
 Picked r z (First i) = Picks-first r (r .slot + z) i
 Picked r z (Far i) = Picks-far r (r .slot + z) i
-Picked r z (Kept i b m) = Picks-kept r (r .slot + z) i b m
+Picked r z (Kept i b m) = Picks-kept r (r .slot + z) i (b .0) (m .0)

@@ -1,13 +1,10 @@
 // Which row goes where no row is left out: a blank stands in for every row past the first segment, so passes over the table tell it.
-ghost use mathlib.Core.Path.{_≡_};
-ghost use Prim.Native.Nat.{_≤_};
-ghost use Rattle.rules.specs.PlanM.{score};
 ghost use Rattle.rules.specs.Table.{round-in};
 ghost use Rattle.whole.specs.Look.{First-goes};
 ghost use Rattle.whole.specs.Whole.{Given, Past, Picked};
 
-pub mod best; // best.rt: the heavier of two rows
-pub mod look; // look.rt: the passes over the table
+mod best; // best.rt: the heavier of two rows
+mod look; // look.rt: the passes over the table
 
 use crate::best::Best;
 use crate::look::Found;
@@ -15,31 +12,35 @@ use crate::look::heaviest;
 use crate::look::look;
 use buckets::Reach;
 use buckets::stretch::stretch_of;
+use segments::score_of;
 use sorts::Round;
+use sorts::Slot;
+use sorts::Weight;
 
 // The row that goes, and how.
 pub enum Whole {
     // Ordinary: it is in the first segment.
-    First { row: usize },
+    First {
+        row: usize,
+    },
     // A leap from where the plan isn't full: nothing stays behind.
-    Far { row: usize },
+    Far {
+        row: usize,
+    },
     // A leap onto its segment's blank, which is kept: the slot where the segment begins, and its mark.
-    Kept { row: usize, first: u32, mark: u32 },
-}
-
-fn score_of(weight: u32, substitute: u32) -> u64
-    requires { ⌜ (weight ≤ 16777216) × (substitute ≤ 16777216) ⌝ }
-    ensures { λ r. ⌜ r ≡ score weight substitute ⌝ }
-{
-    weight as u64 * 39088169 + substitute as u64 * 63245986
+    Kept {
+        row: usize,
+        first: Slot,
+        mark: Weight,
+    },
 }
 
 // The first segment's heaviest row goes unless the heaviest of all, past it, has the greater score: its substitute weighs nothing.
 fn first_goes(best: Best, found: Found) -> bool
-    requires { ⌜ (best .weight ≤ 16777216) × (found .first .weight ≤ 16777216) × (found .lightest ≤ 16777216) ⌝ }
     ensures { λ r. ⌜ First-goes best found r ⌝ }
 {
-    if score_of(best.weight, 0) <= score_of(found.first.weight, found.lightest) {
+    let past = score_of(Weight(best.weight), Weight(0));
+    if past <= score_of(Weight(found.first.weight), Weight(found.lightest)) {
         return true;
     }
     false
@@ -77,8 +78,8 @@ fn choose_past(
     }
     Whole::Kept {
         row: best.row,
-        first: slot + own.first as u32,
-        mark: found.mark,
+        first: Slot(slot + own.first as u32),
+        mark: Weight(found.mark),
     }
 }
 

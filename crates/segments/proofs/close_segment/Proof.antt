@@ -52,8 +52,8 @@ slice-write-lows : tie.Need-slice-write-lows
 slice-write-lows c = search needs
 
 -- src/lib.rt:56:20
-add-t18 : tie.Need-add-t18
-add-t18 c = search needs
+add-t20 : tie.Need-add-t20
+add-t20 c = search needs
 
 -- src/lib.rt:55:9
 same-length : tie.Need-same-length
@@ -79,8 +79,8 @@ returns c =
     )
 
 -- src/lib.rt:64:16
-add-t13 : tie.Need-add-t13
-add-t13 c = search needs
+add-t15 : tie.Need-add-t15
+add-t15 c = search needs
 
 -- src/lib.rt:33:1
 same-length-4 : tie.Need-same-length-4
@@ -119,12 +119,12 @@ close-segment-spec =
     weight-of-requires-3
     mul-lows
     slice-write-lows
-    add-t18
+    add-t20
     same-length
     same-length-2
     same-length-3
     returns
-    add-t13
+    add-t15
     same-length-4
     same-length-5
     same-length-6

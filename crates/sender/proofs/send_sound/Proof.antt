@@ -4,6 +4,7 @@ use mathlib.Core.Path.{refl}
 use Rattle.sender.proofs.SenderLaws.{due-now, few-now, whole-given, whole-step}
 use native.Mathlib.Omega.{arith}
 use Rattle.buckets.proofs.ReachLaws.{multiples}
+use Rattle.step.proofs.SendLaws.{silence-says}
 use Rattle.sender.proofs.send_sound.Statement.{statement}
 use Rattle.sender.proofs.send_sound.Tie as tie
 
@@ -14,7 +15,7 @@ same-length : tie.Need-same-length
 same-length c = search needs
 
 returns : tie.Need-returns
-returns c = search needs
+returns c = silence-says (c .before .before .pre .0) (omega (arith, c .before .if1 .taken)) (c .send-silence .ensures)
 
 reach-of-requires : tie.Need-reach-of-requires
 reach-of-requires c κs =

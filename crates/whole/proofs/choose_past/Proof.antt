@@ -1,7 +1,7 @@
 -- `whole::choose_past` meets its contract: the second pass and the segment of the heaviest row tell the pick (`WholeLaws`).
 use borrow.Author.Needs.{needs}
 use native.Mathlib.Omega.{arith}
-use Rattle.whole.proofs.WholeLaws.{goes-first, goes-past, filled, slots-fit, past-from, past-by, past-small, past-first, past-far, past-kept}
+use Rattle.whole.proofs.WholeLaws.{goes-first, goes-past, filled, slots-fit, past-from, past-by, past-first, past-far, past-kept}
 use Rattle.whole.proofs.choose_past.Statement.{statement}
 use Rattle.whole.proofs.choose_past.Tie as tie
 
@@ -15,9 +15,7 @@ look-requires : tie.Need-look-requires
 look-requires c κs = (c .before .before .before .before .before .pre .given .ready, omega arith)
 
 first-goes-requires : tie.Need-first-goes-requires
-first-goes-requires c κs =
-    let pre = c .before .before .before .before .before .before .pre in
-    (past-small pre, c .look .ensures .first .small, c .look .ensures .lightest .small)
+first-goes-requires c κs = search needs
 
 returns : tie.Need-returns
 returns c =
@@ -46,9 +44,7 @@ look-requires-2 : tie.Need-look-requires-2
 look-requires-2 c κs = (c .before .before .before .before .before .before .before .pre .given .ready, past-by (c .before .before .before .before .before .before .before .pre) (omega arith) (c .before .stretch-of .ensures))
 
 first-goes-requires-2 : tie.Need-first-goes-requires-2
-first-goes-requires-2 c κs =
-    let pre = c .before .before .before .before .before .before .before .before .pre in
-    (past-small pre, c .look2 .ensures .first .small, c .look2 .ensures .lightest .small)
+first-goes-requires-2 c κs = search needs
 
 returns-3 : tie.Need-returns-3
 returns-3 c =

@@ -1,8 +1,8 @@
--- `marks::mark::mark_of` meets its contract.
+-- `marks::mark::mark_near` meets its contract.
 use Rattle.marks.proofs.NearLaws.{low-fine, mark-found}
 use borrow.Author.Needs.{needs}
-use Rattle.marks.proofs.mark.mark_of.Statement.{statement}
-use Rattle.marks.proofs.mark.mark_of.Tie as tie
+use Rattle.marks.proofs.mark.mark_near.Statement.{statement}
+use Rattle.marks.proofs.mark.mark_near.Tie as tie
 
 find-segment-requires : tie.Need-find-segment-requires
 find-segment-requires c κs = search needs
@@ -13,5 +13,5 @@ weight-of-requires c κs = let l = c .before .before .before .pre in low-fine _ 
 returns : tie.Need-returns
 returns c = λ r n a. mark-found r _ _ _ _ n _ a _ (c .before .find-segment .ensures r n a) _ (c .weight-of .ensures)
 
-pub mark-of-spec : {M : Type 1} → statement M
-mark-of-spec = tie.close (tie.spec find-segment-requires weight-of-requires returns)
+pub mark-near-spec : {M : Type 1} → statement M
+mark-near-spec = tie.close (tie.spec find-segment-requires weight-of-requires returns)

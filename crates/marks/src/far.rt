@@ -1,7 +1,7 @@
 // Far slots, from free on, and the substitute of a row due in one. The plan has every such row; the blank where its segment begins
 // stands in for it.
 ghost use mathlib.Core.Path.{_≡_};
-ghost use Prim.Native.Nat.{suc, _+_, _-_, _≤_, _<_};
+ghost use Prim.Native.Nat.{suc, _+_, _-_, _≤_, _<_, min};
 ghost use lib.Dec.{leb};
 ghost use lib.ListN.{length, replicate};
 ghost use Rattle.rules.specs.Table.{round-in};
@@ -10,7 +10,7 @@ ghost use Rattle.marks.specs.Far.{window-at, bucket-in, Counted-in, Room
 ghost use Rattle.marks.specs.Substitute.{Substitutes};
 use crate::sub::Sub;
 use buckets::Reach;
-use round::read::bucket_of;
+use round::read::cut;
 use round::read::due_at;
 use sorts::Round;
 use sorts::Slot;
@@ -21,6 +21,14 @@ pub fn is_far(round: Round, reach: Reach, slot: Slot) -> bool
     ensures { λ r. ⌜ r ≡ leb (reach .free) (slot .0 - round .slot .0) ⌝ }
 {
     reach.free <= (slot.0 - round.slot.0) as usize
+}
+
+// Slots from one to a due slot, at most top.
+fn bucket_of(due: u32, slot: u32, top: usize) -> usize
+    requires { ⌜ slot ≤ due ⌝ }
+    ensures { λ r. ⌜ r ≡ min (due - slot) top ⌝ }
+{
+    cut((due - slot) as usize, top)
 }
 
 // Buckets 0 to top: slots from low on; bucket mid is the slot where the row is due.

@@ -15,7 +15,7 @@ same-length : tie.Need-same-length
 same-length c = search needs
 
 returns : tie.Need-returns
-returns c = silence-says (c .before .before .pre .0) (omega (arith, c .before .if1 .taken)) (c .send-silence .ensures)
+returns c = silence-says (c .before .before .before .before .before .before .before .before .pre .0) (omega (arith, c .before .before .before .before .if1 .taken)) (c .before .before .send-silence .ensures)
 
 reach-of-requires : tie.Need-reach-of-requires
 reach-of-requires c κs =

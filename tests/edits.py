@@ -38,7 +38,7 @@ BREAKAGES = [
 
 KINDS = [
     ("a sender always silent", "sender/always_silent"),
-    ("the canonical first instead of the pick", "whole/canonical_first rules/canonical_first"),
+    ("the canonical first instead of the pick", "segments/canonical_first rules/canonical_first"),
     ("the heaviest instead of the pick", "segments/the_heaviest_goes rules/the_heaviest_goes"),
     ("φ by a smaller Fibonacci pair", "segments/smaller_fibonacci_pair rules/golden_ratio_near"),
     ("r raised without shifting the h frames", "step/links_not_shifted"),

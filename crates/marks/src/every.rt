@@ -55,13 +55,7 @@ fn least_by(table: &[u8], round: Round, by: u32) -> u32
 }
 
 // The mark of a slot before free: the least weight due by its segment's end.
-pub fn mark_every(
-    table: &[u8],
-    counts: &[u32],
-    round: Round,
-    reach: Reach,
-    slot: Slot,
-) -> Weight
+pub fn mark_every(table: &[u8], counts: &[u32], round: Round, reach: Reach, slot: Slot) -> Weight
     requires { ⌜ Whole (now table) (now counts) round reach × (round .slot .0 ≤ slot .0) × (slot .0 < round .slot .0 + reach .free) ⌝ }
     ensures { λ r. ⌜ r .0 ≡ mark (round-in (now (table .entry))) (slot .0) ⌝ }
 {

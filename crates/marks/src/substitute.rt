@@ -31,13 +31,7 @@ fn heaviest_out(keys: &[u64], flags: &[u8], many: usize, from: u32) -> u64
 
 // Who stands in for a row of the plan due then: of the first segment its lightest row; of a later one the heaviest row left out from
 // its first slot on, or else the blank due there.
-pub fn substitute_near(
-    keys: &[u64],
-    flags: &[u8],
-    many: usize,
-    slot: Slot,
-    due: Slot,
-) -> Sub
+pub fn substitute_near(keys: &[u64], flags: &[u8], many: usize, slot: Slot, due: Slot) -> Sub
     requires { ⌜ Lent-asked (now keys) (now flags) many (slot .0) (due .0) ⌝ }
     ensures { λ r. ⌜ Substitutes-say (now (keys .entry)) (now (flags .entry)) many (slot .0) (due .0) r ⌝ }
 {

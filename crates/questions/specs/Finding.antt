@@ -33,4 +33,4 @@ There r (Blank s) = Unit {0}
 
 abbrev pub Named : Round → Sub → Reply → Type 0
 Named r (Row j) a = a ≡ ticket (at r j .ticket)
-Named r (Blank s) a = a ≡ blank-due s
+Named r (Blank s) a = a ≡ blank-due (s .0)

@@ -15,6 +15,7 @@ use buckets::reach_of;
 use checks::refusals::marking_refusal;
 use marks::every::mark_every;
 use marks::far::is_far;
+use marks::mark::mark_near;
 use plan::plan_of;
 use replies::Marked;
 use round::sound::Judged;
@@ -63,19 +64,25 @@ fn mark_ahead(slot: Slot, table: &[u8], counts: &mut [u32], round: Round) -> Wei
     ensures { λ r. ⌜ r .0 ≡ mark (round-in (now (table .entry))) (slot .0) ⌝ }
 {
     let reach = reach_of(counts, round);
-    if is_far(round, reach, slot.0) {
+    if is_far(round, reach, slot) {
         return Weight(0);
     }
-    mark_near(slot, table, counts, round, reach)
+    mark_before_free(slot, table, counts, round, reach)
 }
 
 // A slot before free; where no row is left out the counts tell its segment.
-fn mark_near(slot: Slot, table: &[u8], counts: &mut [u32], round: Round, reach: Reach) -> Weight
+fn mark_before_free(
+    slot: Slot,
+    table: &[u8],
+    counts: &mut [u32],
+    round: Round,
+    reach: Reach,
+) -> Weight
     requires { ⌜ Seen (now table) (now counts) round reach × (round .slot .0 ≤ slot .0) × (slot .0 < round .slot .0 + reach .free) ⌝ }
     ensures { λ r. ⌜ r .0 ≡ mark (round-in (now (table .entry))) (slot .0) ⌝ }
 {
     if reach.over == 0 {
-        return Weight(mark_every(table, counts, round, reach, slot.0));
+        return mark_every(table, counts, round, reach, slot);
     }
     if round.used <= Round::FEW {
         return mark_few(slot, table, counts, round, reach);
@@ -142,5 +149,5 @@ fn mark_planned(
     ensures { λ r. ⌜ r .0 ≡ mark (round-in (now (table .entry))) (slot .0) ⌝ }
 {
     let planned = plan_of(table, counts, keys, flags, heap, round, reach, false);
-    Weight(marks::mark::mark_of(keys, flags, planned.many, round.slot.0, slot.0))
+    mark_near(keys, flags, planned.many, round.slot, slot)
 }

@@ -16,7 +16,7 @@ use marks::every::substitute_every;
 use marks::far::is_far;
 use marks::far::substitute_far;
 use marks::sub::Sub;
-use marks::substitute::substitute_of;
+use marks::substitute::substitute_near;
 use plan::Planned;
 use plan::plan_of;
 use replies::Substituted;
@@ -37,7 +37,7 @@ fn named(table: &[u8], round: Round, sub: Sub) -> Substituted
 {
     match sub {
         Sub::Row(row) => Substituted::Row(ticket_at(table, round, row)),
-        Sub::Blank(slot) => Substituted::Blank(Slot(slot)),
+        Sub::Blank(slot) => Substituted::Blank(slot),
     }
 }
 
@@ -48,10 +48,10 @@ pub fn substitute_row(table: &[u8], counts: &mut [u32], round: Round, row: usize
 {
     let reach = reach_of(counts, round);
     let due = due_at(table, round, row);
-    if is_far(round, reach, due) {
+    if is_far(round, reach, Slot(due)) {
         return named(table, round, substitute_away(table, round, reach, row));
     }
-    substitute_near(table, counts, round, reach, row)
+    substitute_before_free(table, counts, round, reach, row)
 }
 
 // A row due from free on: in small arrays, or in large ones.
@@ -69,7 +69,7 @@ fn substitute_away(table: &[u8], round: Round, reach: Reach, row: usize) -> Sub
 }
 
 // A row due before free; where no row is left out the counts tell its segment.
-fn substitute_near(
+fn substitute_before_free(
     table: &[u8],
     counts: &mut [u32],
     round: Round,
@@ -185,6 +185,6 @@ fn substitute_flagged(
         return Substituted::Refused(11);
     }
     let due = due_at(table, round, row);
-    let sub = substitute_of(keys, flags, planned.many, round.slot.0, due);
+    let sub = substitute_near(keys, flags, planned.many, round.slot, Slot(due));
     named(table, round, sub)
 }

@@ -28,8 +28,8 @@ returns c =
     (reached .ensures) .reaches) (s .pre .2) (s .pre .3)
     (c .before .is-far .ensures) (cc (c .if1 .taken)))
 
-mark-near-requires : tie.Need-mark-near-requires
-mark-near-requires c κs =
+mark-before-free-requires : tie.Need-mark-before-free-requires
+mark-before-free-requires c κs =
     let s = c .before .before .before .before .before .before .before in
     let reached = c .before .before .before .reach-of in
     let h = s .args .round in
@@ -54,6 +54,6 @@ mark-ahead-spec =
     is-far-requires
     same-length
     returns
-    mark-near-requires
+    mark-before-free-requires
     same-length-2
     returns-2)

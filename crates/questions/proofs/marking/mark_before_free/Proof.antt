@@ -1,9 +1,9 @@
--- `questions::marking::mark_near` meets its contract.
+-- `questions::marking::mark_before_free` meets its contract.
 use Rattle.questions.proofs.SeenLaws.{whole}
 use native.Mathlib.Omega.{arith}
 use borrow.Author.Needs.{needs}
-use Rattle.questions.proofs.marking.mark_near.Statement.{statement}
-use Rattle.questions.proofs.marking.mark_near.Tie as tie
+use Rattle.questions.proofs.marking.mark_before_free.Statement.{statement}
+use Rattle.questions.proofs.marking.mark_before_free.Tie as tie
 
 mark-every-requires : tie.Need-mark-every-requires
 mark-every-requires c κs = let s = c .before .before .before .before .before in
@@ -39,8 +39,8 @@ same-length-3 c = search needs
 returns-3 : tie.Need-returns-3
 returns-3 c = search needs
 
-pub mark-near-spec : {M : Type 1} → statement M
-mark-near-spec =
+pub mark-before-free-spec : {M : Type 1} → statement M
+mark-before-free-spec =
     tie.close
     (tie.spec
     mark-every-requires

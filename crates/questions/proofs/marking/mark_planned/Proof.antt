@@ -7,8 +7,8 @@ use Rattle.questions.proofs.marking.mark_planned.Tie as tie
 plan-of-requires : tie.Need-plan-of-requires
 plan-of-requires c κs = search needs
 
-mark-of-requires : tie.Need-mark-of-requires
-mark-of-requires c κs =
+mark-near-requires : tie.Need-mark-near-requires
+mark-near-requires c κs =
     let s = c .before .before .before .before .before .before .before .before .before .before .before .before .before .before .before .before .before .before .before .before in
     let plan = c .before .before .before .before .before .before .before .before .before .before .plan-of in
     plan-asked (s .args .table .now) (s .args .round) (s .args .reach) (s .pre .0 .ready) (s .pre .0 .reaches) _ _ (plan .result) (plan .ensures)
@@ -31,14 +31,14 @@ returns c =
     let s = c .before .before .before .before .before .before .before .before .before .before .before .before .before .before .before .before .before .before .before .before .before in
     let plan = c .before .before .before .before .before .before .before .before .before .before .before .plan-of in
     plan-mark (s .args .table .now) (s .args .round) (s .args .reach) (s .pre .0 .ready) (s .pre .0 .reaches) _ _ (plan .result) (plan .ensures)
-    (s .args .slot .0) (s .pre .1) (s .pre .2) _ (c .mark-of .ensures)
+    (s .args .slot .0) (s .pre .1) (s .pre .2) _ (c .mark-near .ensures)
 
 pub mark-planned-spec : {M : Type 1} → statement M
 mark-planned-spec =
     tie.close
     (tie.spec
     plan-of-requires
-    mark-of-requires
+    mark-near-requires
     same-length
     same-length-2
     same-length-3

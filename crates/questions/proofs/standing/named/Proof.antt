@@ -34,7 +34,7 @@ returns c =
 returns-2 : tie.Need-returns-2
 returns-2 c =
     let s = c .before .before .before .before in
-    subst (λ (v : Sub). Named (round-in (s .args .table .now)) v (blank-due (c .before .sub2 .given .0 .0))) (sym (c .before .sub2 .given .1)) refl
+    subst (λ (v : Sub). Named (round-in (s .args .table .now)) v (blank-due (c .before .sub2 .given .0 .0 .0))) (sym (c .before .sub2 .given .1)) refl
 
 pub named-spec : {M : Type 1} → statement M
 named-spec = tie.close (tie.spec enum-known-sub ticket-at-requires enum-known-sub-2 returns returns-2)

@@ -1,11 +1,11 @@
--- `questions::standing::substitute_near` meets its contract.
+-- `questions::standing::substitute_before_free` meets its contract.
 use native.Mathlib.Omega.{arith}
 use Rattle.rules.specs.Table.{round-in}
 use Rattle.questions.proofs.SeenLaws.{whole}
 use Rattle.questions.proofs.StandLaws.{every-in, stands, sub-there}
 use borrow.Author.Needs.{needs}
-use Rattle.questions.proofs.standing.substitute_near.Statement.{statement}
-use Rattle.questions.proofs.standing.substitute_near.Tie as tie
+use Rattle.questions.proofs.standing.substitute_before_free.Statement.{statement}
+use Rattle.questions.proofs.standing.substitute_before_free.Tie as tie
 
 substitute-every-requires : tie.Need-substitute-every-requires
 substitute-every-requires c κs = let s = c .before .before .before .before .before in
@@ -55,8 +55,8 @@ same-length-3 c = search needs
 returns-3 : tie.Need-returns-3
 returns-3 c = search needs
 
-pub substitute-near-spec : {M : Type 1} → statement M
-substitute-near-spec =
+pub substitute-before-free-spec : {M : Type 1} → statement M
+substitute-before-free-spec =
     tie.close
     (tie.spec
     substitute-every-requires

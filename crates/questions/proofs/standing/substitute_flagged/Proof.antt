@@ -20,8 +20,8 @@ returns c = let s = c .before .before .before .before .before in stands-outside 
 due-at-requires : tie.Need-due-at-requires
 due-at-requires c κs = let s = c .before .before .before .before .before in (s .pre .0, s .pre .3)
 
-substitute-of-requires : tie.Need-substitute-of-requires
-substitute-of-requires c κs =
+substitute-near-requires : tie.Need-substitute-near-requires
+substitute-near-requires c κs =
     let s = c .before .before .before .before .before .before in
     let due = c .due-at in
     let t = s .args .table .now in
@@ -33,7 +33,7 @@ named-requires : tie.Need-named-requires
 named-requires c κs =
     let s = c .before .before .before .before .before .before .before in
     let due = c .before .due-at in
-    let found = c .substitute-of in
+    let found = c .substitute-near in
     let t = s .args .table .now in
     let h = s .args .round in
     let i = s .args .row in
@@ -46,7 +46,7 @@ returns-2 : tie.Need-returns-2
 returns-2 c =
     let s = c .before .before .before .before .before .before .before .before in
     let due = c .before .before .due-at in
-    let found = c .before .substitute-of in
+    let found = c .before .substitute-near in
     let t = s .args .table .now in
     let h = s .args .round in
     let i = s .args .row in
@@ -63,6 +63,6 @@ substitute-flagged-spec =
     shared-slice-read-if1
     returns
     due-at-requires
-    substitute-of-requires
+    substitute-near-requires
     named-requires
     returns-2)

@@ -56,8 +56,8 @@ returns c =
     (seen t h (s .args .counts .now) (reached .result) (s .pre .0) (s .pre .1) (reached .ensures) .reaches) (omega (arith, d, due .ensures .is))) (found .ensures)
     (c .named .ensures)
 
-substitute-near-requires : tie.Need-substitute-near-requires
-substitute-near-requires c κs =
+substitute-before-free-requires : tie.Need-substitute-before-free-requires
+substitute-before-free-requires c κs =
     let s = c .before .before .before .before .before .before .before .before in
     let reached = c .before .before .before .before .reach-of in
     let due = c .before .before .before .due-at in
@@ -84,6 +84,6 @@ substitute-row-spec =
     named-requires
     same-length
     returns
-    substitute-near-requires
+    substitute-before-free-requires
     same-length-2
     returns-2)

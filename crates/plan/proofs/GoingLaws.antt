@@ -8,6 +8,7 @@ use native.Mathlib.Omega.{arith}
 use native.Mathlib.Numerals.{add-one}
 use lib.Dec.{eqb}
 use lib.ListN.{length, getD, set, replicate, length-set, length-replicate}
+use Rattle.keys.specs.Key.{weight-of, due-of, row-of, blank-key}
 use Rattle.theory.specs.Tests.{leb?, ltb?, eqb?}
 use Rattle.keys.specs.DueOrder.{each}
 use Rattle.heap.specs.Heap.{Heap, heaped, Grown, Replaced}
@@ -153,18 +154,18 @@ module _ (ks hs gs : List ℕ) (slot free over p count w : ℕ) (Q : Queue ks sl
       X : Leaver out
       X = leaver u out full L
 
-      pub out-row : out % 1024 < length gs
+      pub out-row : row-of out < length gs
       out-row =
-          omega (arith, ap (λ (v : ℕ). v % 1024) (X .is), G .swept .rows (X .place) (omega (arith, X .within, here)))
+          omega (arith, ap row-of (X .is), G .swept .rows (X .place) (omega (arith, X .within, here)))
 
-      pub out-most : out ≤ 281474993487872
+      pub out-most : out ≤ blank-key
       out-most = omega (arith, X .is, Q .most (X .place) (omega (arith, X .within, here)))
 
-      pub going-leaves : length u ≡ length hs → (i v : ℕ) → i ≡ out % 1024 → v ≡ 16777217 - out / 16777216 →
+      pub going-leaves : length u ≡ length hs → (i v : ℕ) → i ≡ row-of out → v ≡ weight-of out →
           Going ks u (set gs i 0) slot free over (p + 1) count (w + v)
       going-leaves g i v a b =
-          let ei : i ≡ row-on ks (X .place) = a ∙ ap (λ (y : ℕ). y % 1024) (X .is) in
-          let ev : v ≡ weight-on ks (X .place) = b ∙ ap (λ (y : ℕ). 16777217 - y / 16777216) (X .is) in
+          let ei : i ≡ row-on ks (X .place) = a ∙ ap row-of (X .is) in
+          let ev : v ≡ weight-on ks (X .place) = b ∙ ap weight-of (X .is) in
           rw (ei, ev, add-one) (record {
             swept = swept-leaves ks gs slot free (free + over) p count w Q (G .swept) here (X .place) (X .within) (X .kept) full (X .most);
             heaped = record {
@@ -273,12 +274,12 @@ module _ (ks : List ℕ) (slot p : ℕ) (L : Looking ks slot p) where
   pub looking-in : (p < length ks) × (p ≤ 1024)
   looking-in = (omega (arith, L .by, L .crowd .within), omega (arith, L .by, L .crowd .small))
 
-  pub looking-from : (k : ℕ) → k ≡ key-on ks p → slot ≤ k / 4096 % 4096
-  looking-from k e = omega (arith, ap (λ (v : ℕ). v / 4096 % 4096) e, L .crowd .from p (L .by))
+  pub looking-from : (k : ℕ) → k ≡ key-on ks p → slot ≤ due-of k
+  looking-from k e = omega (arith, ap due-of e, L .crowd .from p (L .by))
 
-  module _ (k a : ℕ) (e : k ≡ key-on ks p) (d : a ≡ k / 4096 % 4096 - slot) where
+  module _ (k a : ℕ) (e : k ≡ key-on ks p) (d : a ≡ due-of k - slot) where
     ahead : a ≡ ahead-on ks slot p
-    ahead = d ∙ ap (λ (v : ℕ). v / 4096 % 4096 - slot) e
+    ahead = d ∙ ap (λ (v : ℕ). due-of v - slot) e
 
     pub looking-more : p ≤ a → Looking ks slot (p + 1)
     looking-more h =
@@ -348,10 +349,10 @@ greatest-more ks n top k v G e d = elim (leb? k top) [
 ]
 
 -- as the code looks for it
-pub lightest-in : (ks : List ℕ) (slot p k a : ℕ) → Looking ks slot p → k ≡ key-on ks p → a ≡ k / 4096 % 4096 - slot → p ≤ a → (p + 1 < length ks) × (p + 1 ≤ 1024)
+pub lightest-in : (ks : List ℕ) (slot p k a : ℕ) → Looking ks slot p → k ≡ key-on ks p → a ≡ due-of k - slot → p ≤ a → (p + 1 < length ks) × (p + 1 ≤ 1024)
 lightest-in ks slot p k a L e d h = looking-in ks slot (p + 1) (looking-more ks slot p L k a e d h)
 
-pub lightest-end : (ks : List ℕ) (slot p top k a : ℕ) → Looking ks slot p → Greatest ks (p + 1) top → k ≡ key-on ks p → a ≡ k / 4096 % 4096 - slot → a < p →
+pub lightest-end : (ks : List ℕ) (slot p top k a : ℕ) → Looking ks slot p → Greatest ks (p + 1) top → k ≡ key-on ks p → a ≡ due-of k - slot → a < p →
     Lightest ks slot top
 lightest-end ks slot p top k a L G e d h = record { place = p; first = looking-end ks slot p L k a e d h; greatest = G }
 
@@ -374,16 +375,16 @@ module _ (ks gs : List ℕ) (slot free over top : ℕ) (C : Crowd ks gs slot fre
   in-z : G .place < free + over
   in-z = omega (arith, in-c, G .within)
 
-  pub one-row : top % 1024 < length gs
-  one-row = omega (arith, ap (λ (v : ℕ). v % 1024) (G .is), C .rows (G .place) in-z)
+  pub one-row : row-of top < length gs
+  one-row = omega (arith, ap row-of (G .is), C .rows (G .place) in-z)
 
-  pub one-most : top ≤ 281474993487872
+  pub one-most : top ≤ blank-key
   one-most = omega (arith, G .is, C .queue .most (G .place) in-z)
 
-  pub one-left : (i v : ℕ) → over ≡ 1 → i ≡ top % 1024 → v ≡ 16777217 - top / 16777216 → Parted ks (set gs i 0) slot free over v
+  pub one-left : (i v : ℕ) → over ≡ 1 → i ≡ row-of top → v ≡ weight-of top → Parted ks (set gs i 0) slot free over v
   one-left i v one a b =
-      let ei : i ≡ row-on ks (G .place) = a ∙ ap (λ (y : ℕ). y % 1024) (G .is) in
-      let ev : v ≡ 0 + weight-on ks (G .place) = b ∙ ap (λ (y : ℕ). 16777217 - y / 16777216) (G .is) ∙ omega arith in
+      let ei : i ≡ row-on ks (G .place) = a ∙ ap row-of (G .is) in
+      let ev : v ≡ 0 + weight-on ks (G .place) = b ∙ ap weight-of (G .is) ∙ omega arith in
       rw (ei, ev) (record {
         place = suc c;
         count = c;

@@ -4,12 +4,13 @@ use mathlib.Core.List.{List}
 use Prim.Native.Nat.{ℕ, suc, _+_, _*_, _-_, _/_, _%_, _≤_, _<_}
 use native.Mathlib.Omega.{arith}
 use lib.ListN.{length, getD, set, length-set}
+use Rattle.keys.specs.Key.{weight-of, due-of, row-of, blank-key}
 use Rattle.heap.specs.Heap.{Heap, Grown}
 use Rattle.plan.specs.Sweep.{Queue, Leaves, First-crowded, Filled, Lightest, Empty-heap, Crowd, Parted}
 use Rattle.plan.specs.Sweep.{key-on, ahead-on}
 use Rattle.plan.proofs.GoingLaws.{Going, going-count, place-more, lost-bound, going-end, going-joins, going-leaves, out-row, out-most, going-start, one-row}
 
-pub one-row-at : (ks gs : List ℕ) (slot free over top i : ℕ) → Crowd ks gs slot free over → Lightest ks slot top → i ≡ top % 1024 → i < length gs
+pub one-row-at : (ks gs : List ℕ) (slot free over top i : ℕ) → Crowd ks gs slot free over → Lightest ks slot top → i ≡ row-of top → i < length gs
 one-row-at ks gs slot free over top i C L e = omega (arith, e, one-row ks gs slot free over top C L)
 
 -- THE SWEEP beside the arrays it began with
@@ -41,8 +42,8 @@ module _ (ks gs hs fs us : List ℕ) (slot free over p count w : ℕ) (S : Sweep
         let h = place-more ks us fs slot free over p count w (S .queue) (S .going) l in (omega (arith, h, S .queue .long), h)
 
     module _ (k : ℕ) (e : k ≡ key-on ks p) where
-      pub sweeping-from : slot ≤ k / 4096 % 4096
-      sweeping-from = omega (arith, ap (λ (v : ℕ). v / 4096 % 4096) e, S .queue .from p (sweeping-in .1))
+      pub sweeping-from : slot ≤ due-of k
+      sweeping-from = omega (arith, ap due-of e, S .queue .from p (sweeping-in .1))
 
       pub sweeping-rise : (count + 2 ≤ length us) × (count ≤ 1024) × (1 ≤ k) × Heap count us
       sweeping-rise = (
@@ -52,9 +53,9 @@ module _ (ks gs hs fs us : List ℕ) (slot free over p count w : ℕ) (S : Sweep
         S .going .heaped .ordered,
       )
 
-      module _ (a : ℕ) (d : a ≡ k / 4096 % 4096 - slot) where
+      module _ (a : ℕ) (d : a ≡ due-of k - slot) where
         ahead : a ≡ ahead-on ks slot p
-        ahead = d ∙ ap (λ (v : ℕ). v / 4096 % 4096 - slot) e
+        ahead = d ∙ ap (λ (v : ℕ). due-of v - slot) e
 
         pub sweeping-joins : (vs : List ℕ) → count ≤ a → Grown count k us vs → Sweeping ks gs hs fs vs slot free over (p + 1) (count + 1) w
         sweeping-joins vs f R =
@@ -71,14 +72,14 @@ module _ (ks gs hs fs us : List ℕ) (slot free over p count w : ℕ) (S : Sweep
           sweeping-leaver = let r = sweeping-rise in (omega (arith, full), r .0, r .1, r .2, r .3)
 
           module _ (vs : List ℕ) (out : ℕ) (L : Leaves count k us vs out) where
-            pub sweeping-row : (i : ℕ) → i ≡ out % 1024 → i < length fs
+            pub sweeping-row : (i : ℕ) → i ≡ row-of out → i < length fs
             sweeping-row i q =
                 omega (arith, q, out-row ks us fs slot free over p count w (S .queue) (S .going) l k e vs out (omega (arith, full, ahead)) L)
 
-            pub sweeping-weight : out ≤ 281474993487872
+            pub sweeping-weight : out ≤ blank-key
             sweeping-weight = out-most ks us fs slot free over p count w (S .queue) (S .going) l k e vs out (omega (arith, full, ahead)) L
 
-            pub sweeping-leaves : (i v : ℕ) → length vs ≡ length us → i ≡ out % 1024 → v ≡ 16777217 - out / 16777216 →
+            pub sweeping-leaves : (i v : ℕ) → length vs ≡ length us → i ≡ row-of out → v ≡ weight-of out →
                 Sweeping ks gs hs (set fs i 0) vs slot free over (p + 1) count (w + v)
             sweeping-leaves i v g q r =
                 record {

@@ -98,7 +98,7 @@ module _ (t cs ks fs hs : List ℕ) (h : Head) (x : Reach) (L : Lent t cs ks fs 
       }
 
   -- NO ROW IS SORTED yet
-  pub unsorted : (asked : Bool) (ds : List ℕ) (m : ℕ) → Started cs ds (x .free) m → length ds ≡ length cs → Sorting (round-in t) (x .free) asked ds ks 0 281474993487872
+  pub unsorted : (asked : Bool) (ds : List ℕ) (m : ℕ) → Started cs ds (x .free) m → length ds ≡ length cs → Sorting (round-in t) (x .free) asked ds ks 0 blank-key
   unsorted asked ds m S l =
       record {
         few = few;

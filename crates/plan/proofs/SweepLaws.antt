@@ -8,6 +8,7 @@ use native.Mathlib.Omega.{arith}
 use lib.Dec.{eqb}
 use lib.ListN.{length, getD, set, replicate, length-set, getD-replicate}
 use lib.Seq.{getD-set-same, getD-set-other}
+use Rattle.keys.specs.Key.{row-of}
 use Rattle.theory.specs.Tests.{ltb?, eqb?}
 use Rattle.plan.specs.Sweep.{tally, before, Mid, Queue, Swept, First-crowded, Crowd}
 use Rattle.plan.specs.Sweep.{key-on, row-on, ahead-on, weight-on, kept?, kept-on, left-on}
@@ -26,7 +27,7 @@ off? gs i j h = elim (eqb? j i) [
 
 -- different places have different keys
 pub keys-differ : (ks : List ℕ) (slot n m : ℕ) → Queue ks slot n m → (p q : ℕ) → p < m → q < m → key-on ks p ≡ key-on ks q → p ≡ q
-keys-differ ks slot n m Q p q h k e = Q .apart p q h k (ap (λ (v : ℕ). v % 1024) e)
+keys-differ ks slot n m Q p q h k e = Q .apart p q h k (ap row-of e)
 
 -- no more rows are kept than slots are near
 pub count-few : (ks gs : List ℕ) (slot n m p count w : ℕ) → Queue ks slot n m → Swept ks gs slot m p count w → (count ≤ n) × (count ≤ p)

@@ -11,7 +11,7 @@ use Rattle.theory.specs.Flags.{Chosen, with-flag}
 use Rattle.sorts.specs.declared.Round.{Round as Head}
 use Rattle.round.specs.Rows.{Ready, at}
 use Rattle.round.specs.Buckets.{Counted}
-use Rattle.keys.specs.Key.{blank-key, key-at}
+use Rattle.keys.specs.Key.{blank-key, key-at, row-of}
 use Rattle.keys.specs.Sorted.{Sorted, many-due}
 use Rattle.buckets.specs.Reach.{Reaches}
 use Rattle.buckets.specs.declared.Reach.{Reach}
@@ -32,7 +32,7 @@ pub record Lent (t cs ks fs hs : List ℕ) (h : Head) (x : Reach) : Type 0 where
 pub record Heaviest-from (r : Round) (slot key : ℕ) : Type 0 where
   pub by : key ≤ blank-key
   pub least : (i : ℕ) → i < length (r .rows) → slot ≤ at r i .due → key ≤ key-at r i
-  pub named : key < blank-key → (key % 1024 < length (r .rows)) × (slot ≤ at r (key % 1024) .due) × (key-at r (key % 1024) ≡ key)
+  pub named : key < blank-key → (row-of key < length (r .rows)) × (slot ≤ at r (row-of key) .due) × (key-at r (row-of key) ≡ key)
 
 -- THE PLAN: the near rows' keys in due order, a flag for each row of the plan, how many near rows there are,
 -- the heaviest of the others where it is asked for, and the weight of all rows left out

@@ -6,6 +6,7 @@ use mathlib.Core.List.{List}
 use Prim.Native.Nat.{ℕ, zero, suc, _+_, _-_, _/_, _%_, _≤_, _<_}
 use lib.Dec.{ltb, eqb}
 use lib.ListN.{length, getD, replicate}
+use Rattle.keys.specs.Key.{weight-of, due-of, row-of, blank-key}
 use Rattle.heap.specs.Heap.{Heap, heaped}
 use Rattle.keys.specs.DueOrder.{each}
 
@@ -38,13 +39,13 @@ abbrev pub key-on : List ℕ → (place : ℕ) → ℕ
 key-on ks p = getD ks p 0
 
 abbrev pub row-on : List ℕ → (place : ℕ) → ℕ
-row-on ks p = getD ks p 0 % 1024
+row-on ks p = row-of (getD ks p 0)
 
 abbrev pub ahead-on : List ℕ → (slot place : ℕ) → ℕ
-ahead-on ks s p = getD ks p 0 / 4096 % 4096 - s
+ahead-on ks s p = due-of (getD ks p 0) - s
 
 abbrev pub weight-on : List ℕ → (place : ℕ) → ℕ
-weight-on ks p = 16777217 - getD ks p 0 / 16777216
+weight-on ks p = weight-of (getD ks p 0)
 
 -- whether a row has a flag, and the row at a place
 abbrev pub kept? : (flags : List ℕ) → (row : ℕ) → Bool
@@ -61,8 +62,8 @@ pub record Queue (ks : List ℕ) (slot n m : ℕ) : Type 0 where
   pub long : m ≤ length ks
   pub small : m ≤ 1024
   pub some : (p : ℕ) → p < m → 1 ≤ key-on ks p
-  pub most : (p : ℕ) → p < m → key-on ks p ≤ 281474993487872
-  pub from : (p : ℕ) → p < m → slot ≤ key-on ks p / 4096 % 4096
+  pub most : (p : ℕ) → p < m → key-on ks p ≤ blank-key
+  pub from : (p : ℕ) → p < m → slot ≤ due-of (key-on ks p)
   pub early : (p : ℕ) → p < m → ahead-on ks slot p < n
   pub rises : (p q : ℕ) → p ≤ q → q < m → ahead-on ks slot p ≤ ahead-on ks slot q
   pub apart : (p q : ℕ) → p < m → q < m → row-on ks p ≡ row-on ks q → p ≡ q
@@ -94,7 +95,7 @@ pub record Crowds (ks : List ℕ) (slot : ℕ) : Type 0 where
   pub at : ℕ
   pub within : at < length ks
   pub small : at ≤ 1024
-  pub from : (p : ℕ) → p ≤ at → slot ≤ key-on ks p / 4096 % 4096
+  pub from : (p : ℕ) → p ≤ at → slot ≤ due-of (key-on ks p)
   pub over : ahead-on ks slot at < at
 
 pub record First-crowded (ks : List ℕ) (slot c : ℕ) : Type 0 where

@@ -2,6 +2,7 @@
 ghost use mathlib.Core.Path.{_≡_};
 ghost use Prim.Native.Nat.{_+_, _-_, _/_, _%_, _≤_, _<_};
 ghost use lib.ListN.{length};
+ghost use Rattle.keys.specs.Key.{due-of};
 ghost use Rattle.heap.specs.Heap.{Heap};
 ghost use Rattle.plan.specs.Sweep.{Leaves, Crowds, First-crowded, Lightest, Empty-heap, Fills, Filled, Crowd, Parted};
 use buckets::Reach;
@@ -14,8 +15,8 @@ use keys::weight_of;
 
 // Slots from the current one to the due slot of a key's row.
 fn ahead_of(key: u64, slot: u32) -> usize
-    requires { ⌜ slot ≤ key / 4096 % 4096 ⌝ }
-    ensures { λ r. ⌜ r ≡ key / 4096 % 4096 - slot ⌝ }
+    requires { ⌜ slot ≤ due-of key ⌝ }
+    ensures { λ r. ⌜ r ≡ due-of key - slot ⌝ }
 {
     (due_of(key) - slot) as usize
 }

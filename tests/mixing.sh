@@ -12,7 +12,7 @@ trap 'rm -rf "$room"' EXIT
 passed=0 failed=0
 
 # One line each, with its whole path; <Sort> is a place where that sort is wanted, in the order of the parameters or fields.
-# table, bytes and round are there to be passed on.
+# Parameters of the call are there to be passed on: table, bytes, round, keys, counts, ends, tops, lows.
 signatures() {
     cat <<'EOF'
 sorts::Round { slot: <Slot>, last: <Slot>, next: <Ticket>, used: 0, room: 1 }
@@ -31,11 +31,22 @@ round::seen::see_row(bytes, <Slot>, round::seen::Seen { ticket: Ticket(0), ahead
 round::seen::row_follows(<Ticket>, round::seen::Seen { ticket: Ticket(0), ahead: 0, weights: 0, plain: 0 }, 0)
 round::seen::rows_pass(round::seen::Seen { ticket: Ticket(0), ahead: 0, weights: 0, plain: 0 }, <Ticket>)
 round::rows::write_row(table, 16, <Ticket>, <Slot>, <Weight>)
-closing::close::close_up(table, round, <Ticket>)
-closing::write::write_shift(table, 0, <Slot>, <Weight>)
-closing::write::write_weight(table, 0, <Weight>)
-closing::write::write_kept(table, 0, <Slot>, <Weight>)
-leap::send::Went { leap: false, ticket: <Ticket>, kind: 0 }
+round::entry::Numbers { ticket: <Ticket>, due: <Slot>, weight: <Weight> }
+round::write::write_shift(table, 0, <Slot>, <Weight>)
+round::write::write_weight(table, 0, <Weight>)
+round::write::write_kept(table, 0, <Slot>, <Weight>)
+keys::key_of(<Weight>, <Slot>, 0)
+keys::canonical::order_key_of(<Slot>, <Weight>, 0)
+segments::score_of(<Weight>, <Weight>)
+segments::segments_of(keys, bytes, 0, <Slot>, 0, ends, tops, lows)
+whole::Whole::Kept { row: 0, first: <Slot>, mark: <Weight> }
+step::send::Went { leap: false, ticket: <Ticket>, kind: 0 }
+step::send::send_kept(table, round, 0, <Slot>, <Weight>, 0)
+marks::sub::Sub::Blank(<Slot>)
+marks::far::is_far(round, buckets::Reach { free: 0, over: 0 }, <Slot>)
+marks::every::mark_every(bytes, counts, round, buckets::Reach { free: 0, over: 0 }, <Slot>)
+marks::mark::mark_near(keys, bytes, 0, <Slot>, <Slot>)
+marks::substitute::substitute_near(keys, bytes, 0, <Slot>, <Slot>)
 calls::opening::open_round(<Slot>, table)
 calls::taking::take_frame(<Slot>, <Weight>, table)
 questions::marking::mark_of(<Slot>, bytes)
@@ -47,9 +58,6 @@ lines::write_ticket_in_room(<Ticket>, table)
 lines::write_step_in_room(0, 0, <Ticket>, table)
 EOF
 }
-
-# Inner crates, whose signatures are not tried.
-inner='tally marks pick shifting'
 
 ok() { passed=$((passed + 1)); echo "mixing: $1: ok"; }
 no() { failed=$((failed + 1)); echo "mixing: $1: FAILED"; }
@@ -65,7 +73,7 @@ borrow_crates() {
 # The crates, a call to a line: mixing_nothing with all calls right, and for line K of the table mixing_K with its wrong ones, few enough
 # for the compiler to report each. Of each wrong one a case: crate, line, the call's name, the place, the sort wanted there, the one given.
 write_crates() {
-    signatures | awk -v crates="$room/crates" -v listed="$room/crates.txt" -v all="$(signatures | sed 's/::.*//' | sort -u | tr '\n' ' ')" '
+    signatures | awk -v crates="$room/crates" -v listed="$room/crates.txt" -v all="$(signatures | grep -oE '(^|[ (])[a-z]+::' | tr -d ' (:' | sort -u | tr '\n' ' ')" '
         function begin(crate, uses) {
             system("mkdir -p " crates "/" crate "/src")
             print crate ": " uses >>listed
@@ -76,7 +84,17 @@ write_crates() {
             print text >(crates "/" crate "/src/lib.rt")
         }
         function function_of(crate, call) {
-            write_in(crate, "pub fn call" lines[crate] "(table: &mut [u8], bytes: &[u8], round: Round) { " call "; }")
+            write_in(crate, "pub fn call" lines[crate] "(table: &mut [u8], bytes: &[u8], round: Round, keys: &[u64], counts: &[u32], ends: &mut [u32], tops: &mut [u64], lows: &mut [u32]) { " call "; }")
+        }
+        function crates_of(text,    found, over) {
+            found = "sorts"
+            while (match(text, /(^|[ (])[a-z]+::/)) {
+                over = substr(text, RSTART, RLENGTH - 2)
+                gsub(/[ (]/, "", over)
+                if (index(" " found " ", " " over " ") == 0) found = found " " over
+                text = "_" substr(text, RSTART + RLENGTH)
+            }
+            return found
         }
         function value(sort, as_limit) { return as_limit ? limit[sort] : sort "(1)" }
         function filled(place, given, as_limit,    i, text) {
@@ -90,9 +108,7 @@ write_crates() {
         }
         {
             crate = "mixing_" NR
-            over = $0
-            sub(/::.*/, "", over)
-            begin(crate, over == "sorts" ? over : "sorts " over)
+            begin(crate, crates_of($0))
             n = split($0, part, /[<>]/)
             name = part[1]
             sub(/[ (].*/, "", name)
@@ -108,13 +124,16 @@ write_crates() {
         }' >"$room/cases"
 }
 
+# A module that a crate keeps to itself: nothing of it is let out by name.
+is_private() { grep -q "^mod $2;" "$1" && ! grep -q "^pub use $2::" "$1"; }
+
 # 'CRATE NAME' and the sorts taken, in order, of each public function, struct and variant in the sources that takes one.
 takers() {
     local crate file
     for crate in $(cd crates && echo *); do
         [ -f "crates/$crate/src/lib.rt" ] || continue
-        case " $inner " in *" $crate "*) continue ;; esac
         for file in "crates/$crate"/src/*.rt; do
+            is_private "crates/$crate/src/lib.rt" "$(basename "$file" .rt)" && continue
             awk -v crate="$crate" '
                 function tell(name, text,    found) {
                     while (match(text, /[^A-Za-z0-9_](Slot|Weight|Ticket)[^A-Za-z0-9_]/)) {
@@ -127,7 +146,9 @@ takers() {
                 /^ *pub (fn|struct) / { name = named($0); whole = ""; inside = 1; struct = /pub struct/ }
                 /^pub enum / { in_enum = 1; next }
                 in_enum && /^}/ { in_enum = 0 }
-                in_enum && /\(/ { variant = $1; sub(/[^A-Za-z0-9_].*/, "", variant); tell(variant, $0 " ") }
+                in_enum && /^    [A-Z]/ { variant = $1; sub(/[^A-Za-z0-9_].*/, "", variant); fields = "" }
+                in_enum && variant { fields = fields $0 " " }
+                in_enum && /^    [A-Z}].*,/ { tell(variant, fields); variant = "" }
                 inside {
                     text = $0
                     sub(/\/\/.*/, "", text)

@@ -14,7 +14,8 @@ use Rattle.theory.specs.Outcomes.{says-accepted}
 use Rattle.sorts.specs.declared.Round.{Round}
 use Rattle.checks.proofs.Accepted.{take-accepted}
 use Rattle.round.specs.Head.{Head-of}
-use Rattle.round.specs.Numbers.{head-numbers, row-numbers}
+use Rattle.row.specs.Numbers.{row-numbers}
+use Rattle.round.specs.Numbers.{head-numbers}
 use Rattle.round.proofs.ByHead.{taking-number, taking-by}
 use Rattle.round.proofs.HeadLaws.{sound-head}
 use Rattle.round.proofs.TableLaws.{taken-table}

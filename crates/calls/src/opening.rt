@@ -7,9 +7,9 @@ use checks::refusals::opening_refusal;
 use replies::Opened;
 use round::head::rows_of;
 use round::head::write_head;
-use round::zeros::clear;
 use sorts::Round;
 use sorts::Slot;
+use zeros::clear;
 
 // Nothing that the table held is read.
 pub fn open_round(last: Slot, table: &mut [u8]) -> Opened

@@ -10,11 +10,11 @@ ghost use Rattle.round.specs.Head.{Head-of};
 ghost use Rattle.closing.specs.Close.{Due-now, gone-ticket, Next-due, Search, Next-leaving, Some-left, Left-behind, Closed-rows, closed-up};
 use crate::runs::move_run;
 use numbers::write2;
-use round::entry::due_in;
-use round::rows::row_at;
-use round::zeros::clear;
+use row::entry::due_in;
+use row::row_at;
 use sorts::Round;
 use sorts::Slot;
+use zeros::clear;
 
 // The first row due in a slot, from one up to another; the latter if none is.
 fn next_due(table: &[u8], from: usize, to: usize, slot: Slot) -> usize

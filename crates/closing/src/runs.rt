@@ -5,7 +5,7 @@ ghost use lib.ListN.{length, drop};
 ghost use lib.Seq.{paste};
 ghost use Rattle.rules.specs.Limits.{row-size, most-rows};
 ghost use Rattle.rules.specs.Conditions.{row-at};
-use round::rows::row_at;
+use row::row_at;
 use sorts::Round;
 
 // Eight bytes copied within the table: all are read before one is written.

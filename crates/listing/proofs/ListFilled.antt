@@ -5,11 +5,11 @@ use Prim.Native.Nat.{ℕ, zero, suc, _+_, _≤_, _<_}
 use native.Mathlib.Omega.{arith}
 use lib.ListN.{length, getD, set, take, drop, length-set, length-map}
 use lib.Seq.{take-suc, take-length, drop-cons, length-take-le}
-use Rattle.rules.specs.Rows.{Row, blank}
+use Rattle.rules.specs.Rows.{Row, row, blank}
 use Rattle.rules.specs.Looking.{View}
 use Rattle.theory.specs.Soundness.{row-in}
-use Rattle.round.specs.Entry.{Entry-in}
-use Rattle.round.specs.declared.entry.Numbers.{Numbers}
+use Rattle.row.specs.Entry.{Entry-in}
+use Rattle.row.specs.declared.entry.Numbers.{Numbers}
 use Rattle.listing.specs.declared.Entry.{Entry}
 use Rattle.listing.specs.declared.View.{View as Asked}
 use Rattle.listing.specs.declared.View.the-variants as asked
@@ -53,6 +53,7 @@ module _ (v : View) (t xs : List ℕ) (rows : List Row) (es : List Entry) (room 
 -- the entry of the numbers that are read
 pub entry-is : (v : Asked) (t : List ℕ) (i : ℕ) (n : Numbers) → Entry-in t i n →
     _≡_ {A = Entry} (record { ticket = n .ticket; due = n .due; weight = n .weight }) (entry-in (of-view v) t i)
+unfolding row
 entry-is asked.Plan t i n e =
     λ j. record {
       ticket = record { 0 = e .ticket j };

@@ -96,10 +96,7 @@ module _ (v : View) (t : List ℕ) (h : Round) (room : ℕ) (o : Order) (l : Lis
         reply = ap of-listed x ∙ rw (f, ← d .count);
         fits = omega (arith, y, fit);
         few = omega (arith, y, d .few);
-        row = λ i a. rw z (
-          omega (arith, y, a, d .within i (omega (arith, y, a)), n .small),
-          reads-within t h k (getD (o .at) i 0) (omega (arith, d .within i (omega (arith, y, a)), n .used)) .1,
-        );
+        row = λ i a. rw z (reads-within t h k (getD (o .at) i 0) (omega (arith, d .within i (omega (arith, y, a)), n .used)));
         left = λ es a.
             rw (y, z, a, f, d .count)
             (filled-all v t (o .at) (shows v (round-in t) .items) es (omega (arith, d .count))

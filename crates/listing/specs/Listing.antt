@@ -17,7 +17,7 @@ use Rattle.listing.specs.Entries.{entry, of-listed}
 
 -- a row's bytes are in the table; its entry
 abbrev pub Row-there : List ℕ → (row : ℕ) → Type 0
-Row-there t i = (i < most-rows) × (row-at i + row-size ≤ length t)
+Row-there t i = (i < most-rows) × (row-at (suc i) ≤ length t)
 
 abbrev pub entry-in : View → List ℕ → (row : ℕ) → Entry
 entry-in v t i = entry v (row-in t i)

@@ -20,7 +20,7 @@ use Rattle.theory.specs.Clauses.{rows-count}
 use Rattle.sorts.specs.declared.Round.{Round as Head}
 use Rattle.round.specs.Rows.{at, top-of, place}
 use Rattle.round.specs.Buckets.{Counted, Lent-counts}
-use Rattle.round.specs.Seen.{Rows-lent}
+use Rattle.round.specs.Scan.{Rows-lent}
 
 -- COUNTED SO FAR: 2,048 for each of the first i rows in its bucket
 pub record Counting (r : Round) (i : ℕ) (cs : List ℕ) : Type 0 where

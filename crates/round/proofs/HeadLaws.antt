@@ -16,7 +16,7 @@ use Rattle.theory.specs.Clauses.{rows-count}
 use Rattle.theory.specs.Sane.{sound}
 use Rattle.sorts.specs.declared.Round.{Round}
 use Rattle.round.specs.Head.{Head-of}
-use Rattle.round.proofs.ZeroLaws.{zeros-split, zeros-by-number}
+use Rattle.zeros.proofs.ZeroLaws.{zeros-split, zeros-by-number}
 
 -- THE JUDGE of a head
 pub head-is : (t : List ℕ) (h : Round) → Head-of t h →

@@ -6,19 +6,17 @@ use native.Mathlib.Omega.{arith}
 use lib.ListN.{length, getD, drop}
 use Rattle.rules.specs.Limits.{head-size}
 use Rattle.rules.specs.Rows.{Row, row, round, blank}
-use Rattle.rules.specs.Table.{field, rows-in, round-in}
-use Rattle.rules.specs.Conditions.{row-at, used-in, due-in}
+use Rattle.rules.specs.Table.{rows-in, round-in}
+use Rattle.rules.specs.Conditions.{row-at, used-in, ticket-in, due-in, weight-in, kind-in}
 use Rattle.theory.specs.All.{all-in}
 use Rattle.theory.specs.Bounds.{Row-fine}
 use Rattle.theory.specs.Full.{Fine}
 use Rattle.theory.specs.Same.{row-ticket}
-use Rattle.numbers.proofs.NumberLaws.{field-suc, field-zero}
 use Rattle.theory.specs.Keys.{getD-in}
 use Rattle.theory.specs.Sane.{sound}
 use Rattle.theory.specs.Clauses.{rows-count, length-long, accepted-length}
 use Rattle.theory.specs.Soundness.{row-in, row-there, row-next}
 use Rattle.sorts.specs.declared.Round.{Round as Head}
-use Rattle.round.specs.Entry.{Entry-in}
 use Rattle.round.specs.Rows.{Ready, Ticket-at, Due-at, Weight-at, Kind-at, at}
 
 -- WHAT A READY TABLE IS: its round is sound and small, and the head's numbers are the round's
@@ -71,14 +69,13 @@ at-fine t h k i l =
     all-in (Row-fine (round-in t)) (at (round-in t) i) (round-in t .rows) (n .fine .fine) (getD-in (round-in t .rows) (blank 0) i (omega (arith, l, n .used)))
 
 -- READING a due slot and a weight
-pub reads-within : (t : List ℕ) (h : Head) → Ready t h → (i : ℕ) → i < h .used → (i ≤ 1024) × (row-at i + 24 ≤ length t)
+pub reads-within : (t : List ℕ) (h : Head) → Ready t h → (i : ℕ) → i < h .used → (i < 1024) × (row-at (suc i) ≤ length t)
 reads-within t h k i l = let n = known t h k in (omega (arith, n .used, n .small, l), omega (arith, n .long, l))
 
-pub due-read : (t : List ℕ) (h : Head) (i a d : ℕ) → Ready t h → i < h .used → a ≡ row-at i → d ≡ field (a + 4) 2 t → Due-at (round-in t) i d
+pub due-read : (t : List ℕ) (h : Head) (i d : ℕ) → Ready t h → i < h .used → d ≡ due-in t i → Due-at (round-in t) i d
 unfolding row
-due-read t h i a d k l e q =
-    let p = ap (λ (x : Row). x .due) (at-is t h k i l) in
-    let is : d ≡ at (round-in t) i .due = q ∙ ap (λ (v : ℕ). field (v + 4) 2 t) e ∙ sym p in
+due-read t h i d k l e =
+    let is : d ≡ at (round-in t) i .due = e ∙ sym (ap (λ (x : Row). x .due) (at-is t h k i l)) in
     let f = at-fine t h k i l in
     let n = known t h k in
     record {
@@ -88,41 +85,23 @@ due-read t h i a d k l e q =
       small = omega (arith, is, f .due-by, n .cap);
     }
 
-pub weight-read : (t : List ℕ) (h : Head) (i a w : ℕ) → Ready t h → i < h .used → a ≡ row-at i → w ≡ field (a + 6) 4 t → Weight-at (round-in t) i w
+pub weight-read : (t : List ℕ) (h : Head) (i w : ℕ) → Ready t h → i < h .used → w ≡ weight-in t i → Weight-at (round-in t) i w
 unfolding row
-weight-read t h i a w k l e q =
-    let p = ap (λ (x : Row). x .weight) (at-is t h k i l) in
-    let is : w ≡ at (round-in t) i .weight = q ∙ ap (λ (v : ℕ). field (v + 6) 4 t) e ∙ sym p in
+weight-read t h i w k l e =
+    let is : w ≡ at (round-in t) i .weight = e ∙ sym (ap (λ (x : Row). x .weight) (at-is t h k i l)) in
     let f = at-fine t h k i l in
     record { is = is; some = omega (arith, is, f .some); most = omega (arith, is, f .most) }
 
 -- and a ticket and a kind
-pub ticket-read : (t : List ℕ) (h : Head) (i a k : ℕ) → Ready t h → i < h .used → a ≡ row-at i → k ≡ field (a + 0) 4 t → Ticket-at (round-in t) i k
+pub ticket-read : (t : List ℕ) (h : Head) (i k : ℕ) → Ready t h → i < h .used → k ≡ ticket-in t i → Ticket-at (round-in t) i k
 unfolding row
-ticket-read t h i a k r l e f =
+ticket-read t h i k r l e =
     let n = known t h r in
-    let is : k ≡ at (round-in t) i .ticket = f ∙ ap (λ (v : ℕ). field (v + 0) 4 t) e ∙ sym (ap (λ (x : Row). x .ticket) (at-is t h r i l)) in
+    let is : k ≡ at (round-in t) i .ticket = e ∙ sym (ap (λ (x : Row). x .ticket) (at-is t h r i l)) in
     let some = all-in (λ y. 1 ≤ y .ticket) (at (round-in t) i) (round-in t .rows) (row-ticket (round-in t) (n .fine))
     (getD-in (round-in t .rows) (blank 0) i (omega (arith, l, n .used))) in
     record { is = is; some = omega (arith, is, some) }
 
-pub kind-read : (t : List ℕ) (h : Head) (i a k : ℕ) → Ready t h → i < h .used → a ≡ row-at i → k ≡ getD t (a + 10) 0 → Kind-at (round-in t) i k
+pub kind-read : (t : List ℕ) (h : Head) (i k : ℕ) → Ready t h → i < h .used → k ≡ kind-in t i → Kind-at (round-in t) i k
 unfolding row
-kind-read t h i a k r l e g =
-    let p : getD t (row-at i + 10) 0 ≡ field (row-at i + 10) 1 t =
-    omega (arith, field-suc t (row-at i + 10) 0 (omega (arith, reads-within t h r i l .1)), field-zero t (row-at i + 10 + 1)) in
-    g ∙ ap (λ (v : ℕ). getD t (v + 10) 0) e ∙ p ∙ sym (ap (λ (x : Row). x .tail .kind) (at-is t h r i l))
-
--- a row's numbers by its bytes alone
-pub entry-read : (t : List ℕ) (i a k d w : ℕ) → a ≡ row-at i → k ≡ field (a + 0) 4 t → d ≡ field (a + 4) 2 t → w ≡ field (a + 6) 4 t →
-    Entry-in t i (record { ticket = record { 0 = k }; due = record { 0 = d }; weight = record { 0 = w } })
-unfolding row
-entry-read t i a k d w e x y z =
-    record {
-      ticket = x ∙ ap (λ (n : ℕ). field (n + 0) 4 t) e;
-      due = y ∙ ap (λ (n : ℕ). field (n + 4) 2 t) e;
-      weight = z ∙ ap (λ (n : ℕ). field (n + 6) 4 t) e;
-    }
-
-pub due-in-read : (t : List ℕ) (i at d : ℕ) → at ≡ row-at i → d ≡ field (at + 4) 2 t → d ≡ due-in t i
-due-in-read t i at d e f = f ∙ ap (λ (a : ℕ). field (a + 4) 2 t) e
+kind-read t h i k r l e = e ∙ sym (ap (λ (x : Row). x .tail .kind) (at-is t h r i l))

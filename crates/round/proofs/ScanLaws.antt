@@ -18,10 +18,11 @@ use Rattle.theory.specs.Count.{bucket}
 use Rattle.theory.specs.Fields.{field-drop, field-take}
 use Rattle.theory.specs.Judge.{zeros, row-judged, rows-judged}
 use Rattle.sorts.specs.declared.Round.{Round as Head}
-use Rattle.round.specs.declared.seen.Seen.{Seen}
+use Rattle.row.specs.declared.seen.Seen.{Seen}
+use Rattle.row.specs.Seen.{Sees, fair}
 use Rattle.round.specs.Rows.{at, top-of, place}
-use Rattle.round.specs.Seen.{Sees, fair, Rows-lent, all-judged, Rows-say}
-use Rattle.round.proofs.RowLaws.{row-parts, in-time}
+use Rattle.round.specs.Scan.{Rows-lent, all-judged, Rows-say}
+use Rattle.row.proofs.RowLaws.{row-parts, in-time}
 use Rattle.round.proofs.ReadLaws.{at-held}
 use Rattle.round.proofs.CountLaws.{Counting, count-bound, count-more, counting-end, round-is}
 

@@ -19,7 +19,8 @@ use Rattle.theory.specs.Sender.{table-parts}
 use Rattle.theory.specs.Clauses.{rows-count}
 use Rattle.sorts.specs.declared.Round.{Round}
 use Rattle.round.specs.Head.{Head-of}
-use Rattle.round.specs.Numbers.{head-numbers, row-numbers}
+use Rattle.row.specs.Numbers.{row-numbers}
+use Rattle.round.specs.Numbers.{head-numbers}
 use Rattle.round.proofs.WriteLaws.{head-over}
 use Rattle.round.proofs.JudgeLaws.{good-long}
 

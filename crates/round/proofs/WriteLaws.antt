@@ -1,25 +1,14 @@
--- Head and rows written.
+-- The head written.
 use mathlib.Core.Path.{_≡_, refl, ap, _∙_}
 use mathlib.Core.List.{List, [], _∷_, _++_}
-use Prim.Native.Nat.{ℕ, zero, suc, _+_, _≤_}
+use Prim.Native.Nat.{ℕ, zero, suc, _≤_}
 use native.Mathlib.Omega.{arith}
-use lib.ListN.{length, getD, set, drop}
+use lib.ListN.{length, getD, drop}
 use lib.Seq.{sets}
-use Rattle.rules.specs.Limits.{slot-at, last-at, next-at, used-at, head-zeros-at, ticket-at, due-at, weight-at, kind-at, slot-bytes, wide-bytes}
-use Rattle.rules.specs.Rows.{Head-tail, framed, row}
+use Rattle.rules.specs.Limits.{slot-at, last-at, next-at, used-at, head-zeros-at, slot-bytes, wide-bytes}
+use Rattle.rules.specs.Rows.{Head-tail}
 use Rattle.rules.specs.Table.{low, put, head-bytes}
-use Rattle.round.specs.Numbers.{head-numbers, row-numbers}
-
--- A ROW's four stores are one
-pub row-stored : (t u v w : List ℕ) (a k d m : ℕ) → u ≡ sets t (a + ticket-at) (low wide-bytes k) → v ≡ sets u (a + due-at) (low slot-bytes d) →
-    w ≡ sets v (a + weight-at) (low wide-bytes m) → set w (a + kind-at) 0 ≡ sets t a (row-numbers k (framed d m))
-unfolding low put row row-numbers
-row-stored t u v w a k d m e f g =
-    let o : a + 0 ≡ a = omega arith in
-    let p : a + 4 ≡ suc (suc (suc (suc a))) = omega arith in
-    let q : a + 6 ≡ suc (suc (suc (suc (suc (suc a))))) = omega arith in
-    let r : a + 10 ≡ suc (suc (suc (suc (suc (suc (suc (suc (suc (suc a))))))))) = omega arith in
-    rw (g, f, e, o, p, q, r)
+use Rattle.round.specs.Numbers.{head-numbers}
 
 -- the first bytes of a list, spelt out
 firsts : ℕ → List ℕ → List ℕ

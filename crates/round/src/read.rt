@@ -3,9 +3,10 @@ ghost use mathlib.Core.Path.{_≡_};
 ghost use Prim.Native.Nat.{_-_, _≤_, _<_, min};
 ghost use Rattle.rules.specs.Table.{round-in};
 ghost use Rattle.round.specs.Rows.{Ready, Ticket-at, Due-at, Weight-at, Kind-at};
-use crate::rows::row_at;
-use numbers::read2;
-use numbers::read4;
+use row::entry::due_in;
+use row::entry::kind_in;
+use row::entry::ticket_in;
+use row::entry::weight_in;
 use sorts::Round;
 use sorts::Ticket;
 
@@ -25,21 +26,21 @@ pub fn ticket_at(table: &[u8], round: Round, row: usize) -> Ticket
     requires { ⌜ Ready (now table) round × (row < round .used) ⌝ }
     ensures { λ r. ⌜ Ticket-at (round-in (now (table .entry))) row (r .0) ⌝ }
 {
-    Ticket(read4(table, row_at(row) + Round::TICKET_AT))
+    Ticket(ticket_in(table, row))
 }
 
 pub fn due_at(table: &[u8], round: Round, row: usize) -> u32
     requires { ⌜ Ready (now table) round × (row < round .used) ⌝ }
     ensures { λ r. ⌜ Due-at (round-in (now (table .entry))) row r ⌝ }
 {
-    read2(table, row_at(row) + Round::DUE_AT)
+    due_in(table, row)
 }
 
 pub fn weight_at(table: &[u8], round: Round, row: usize) -> u32
     requires { ⌜ Ready (now table) round × (row < round .used) ⌝ }
     ensures { λ r. ⌜ Weight-at (round-in (now (table .entry))) row r ⌝ }
 {
-    read4(table, row_at(row) + Round::WEIGHT_AT)
+    weight_in(table, row)
 }
 
 // 1 for a kept blank, 0 for a frame.
@@ -47,7 +48,7 @@ pub fn kind_at(table: &[u8], round: Round, row: usize) -> u8
     requires { ⌜ Ready (now table) round × (row < round .used) ⌝ }
     ensures { λ r. ⌜ Kind-at (round-in (now (table .entry))) row r ⌝ }
 {
-    table[row_at(row) + Round::KIND_AT]
+    kind_in(table, row)
 }
 
 // Slots from the current one to a due slot, at most top.

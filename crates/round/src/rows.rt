@@ -1,34 +1,16 @@
-// The used rows in turn: judged, and counted by bucket; and a row's bytes written.
+// The used rows in turn: judged, and counted by bucket.
 ghost use mathlib.Core.Path.{_≡_};
-ghost use Prim.Native.Nat.{_+_, _≤_};
-ghost use lib.ListN.{length};
-ghost use lib.Seq.{sets};
-ghost use Rattle.rules.specs.Limits.{row-size, most-rows};
-ghost use Rattle.rules.specs.Rows.{framed};
-ghost use Rattle.rules.specs.Conditions.{row-at};
-ghost use Rattle.round.specs.Numbers.{row-numbers};
 ghost use Rattle.round.specs.Buckets.{Lent-counts};
-ghost use Rattle.round.specs.Seen.{Rows-lent, all-judged, Rows-say};
+ghost use Rattle.round.specs.Scan.{Rows-lent, all-judged, Rows-say};
 use crate::read::cut;
 use crate::read::top_of;
-use crate::seen::Seen;
-use crate::seen::row_follows;
-use crate::seen::rows_pass;
-use crate::seen::see_row;
-use numbers::write2;
-use numbers::write4;
+use row::row_at;
+use row::seen::Seen;
+use row::seen::row_follows;
+use row::seen::rows_pass;
+use row::seen::see_row;
 use sorts::Round;
-use sorts::Slot;
 use sorts::Ticket;
-use sorts::Weight;
-
-// Where a row begins; the place behind the last row, too.
-pub fn row_at(row: usize) -> usize
-    requires { ⌜ row ≤ most-rows ⌝ }
-    ensures { λ r. ⌜ r ≡ row-at row ⌝ }
-{
-    Round::HEAD_SIZE + Round::ROW_SIZE * row
-}
 
 // The judge of every used row, in turn.
 pub fn rows_are_sound(table: &[u8], round: Round) -> bool
@@ -91,15 +73,4 @@ pub fn rows_are_counted(table: &[u8], counts: &mut [u32], round: Round) -> bool
         i += 1;
     }
     rows_pass(seen, round.next)
-}
-
-// The numbers of a frame's row written; its zero bytes stay as they are.
-pub fn write_row(table: &mut [u8], at: usize, ticket: Ticket, due: Slot, weight: Weight)
-    requires { ⌜ at + row-size ≤ length (now table) ⌝ }
-    ensures { λ _. ⌜ now (table .exit) ≡ sets (now (table .entry)) at (row-numbers (ticket .0) (framed (due .0) (weight .0))) ⌝ }
-{
-    write4(table, at + Round::TICKET_AT, ticket.0);
-    write2(table, at + Round::DUE_AT, due.0);
-    write4(table, at + Round::WEIGHT_AT, weight.0);
-    table[at + Round::KIND_AT] = 0;
 }

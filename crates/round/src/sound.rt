@@ -2,12 +2,12 @@
 ghost use Rattle.round.specs.Judge.{Judge-says, Scan-asks, Scan-says};
 use crate::head::head_is_sound;
 use crate::head::read_head;
-use crate::rows::row_at;
 use crate::rows::rows_are_counted;
 use crate::rows::rows_are_sound;
-use crate::zeros::zeros_from;
 use checks::head::length_is_good;
+use row::row_at;
 use sorts::Round;
+use zeros::zeros_from;
 
 // A sound table's head as a value, or the number of the refusal: 2 or 3.
 pub enum Judged {

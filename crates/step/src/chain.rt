@@ -7,7 +7,7 @@ ghost use Rattle.keys.specs.Key.{weight-of, blank-key};
 ghost use Rattle.step.specs.Chain.{Lies-in, Lowered, Named, linked, passed, Chained, Shifts};
 use keys::row_of;
 use keys::weight_of;
-use round::write::write_shift;
+use row::write::write_shift;
 use sorts::Slot;
 use sorts::Weight;
 

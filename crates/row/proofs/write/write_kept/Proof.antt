@@ -1,0 +1,28 @@
+-- `row::write::write_kept` meets its contract.
+use borrow.Author.Needs.{needs}
+use Rattle.row.proofs.StoreLaws.{kept-stored}
+use Rattle.row.proofs.write.write_kept.Statement.{statement}
+use Rattle.row.proofs.write.write_kept.Tie as tie
+
+write-shift-requires : tie.Need-write-shift-requires
+write-shift-requires c κs = search needs
+
+row-at-requires : tie.Need-row-at-requires
+row-at-requires c κs = search needs
+
+add-kind : tie.Need-add-kind
+add-kind c = search needs
+
+slice-write-table : tie.Need-slice-write-table
+slice-write-table c = search needs
+
+same-length : tie.Need-same-length
+same-length c = search needs
+
+returns : tie.Need-returns
+returns c = search (kept-stored, needs)
+
+pub write-kept-spec : {M : Type 1} → statement M
+write-kept-spec =
+    tie.close
+    (tie.spec write-shift-requires row-at-requires add-kind slice-write-table same-length returns)

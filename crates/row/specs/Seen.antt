@@ -1,0 +1,27 @@
+-- What the rows so far have shown.
+use mathlib.Core.Path.{_≡_}
+use mathlib.Core.Bool.{Bool, _&&_}
+use mathlib.Core.List.{List}
+use Prim.Native.Nat.{ℕ, _+_, _-_, _≤_, _<_}
+use lib.Dec.{ltb, leb}
+use lib.ListN.{drop}
+use Rattle.rules.specs.Limits.{most-weight, ticket-at, due-at, weight-at, kind-at, row-zeros-at, slot-bytes, wide-bytes, kind-bytes}
+use Rattle.rules.specs.Table.{field}
+use Rattle.theory.specs.Judge.{zeros}
+use Rattle.row.specs.declared.seen.Seen.{Seen}
+
+-- a difference in 32 bits
+pub record Differs (a b r : ℕ) : Type 0 where
+  pub up : b ≤ a → r ≡ a - b
+  pub down : a < b → r + b ≡ 4294967296 + a
+
+-- no weight or plain word so far is out of bounds
+abbrev pub fair : Seen → Bool
+fair s = ltb (s .weights) most-weight && leb (s .plain) 1
+
+-- ONE ROW MORE: its ticket, its due slot, and whether weight, kind and zeros keep it fair
+pub record Sees (slot : ℕ) (before : Seen) (row : List ℕ) (s : Seen) : Type 0 where
+  pub ticket : s .ticket .0 ≡ field ticket-at wide-bytes row
+  pub due : Differs (field due-at slot-bytes row) slot (s .ahead)
+  pub rest : fair s ≡ fair before && ((leb 1 (field weight-at wide-bytes row) && leb (field weight-at wide-bytes row) most-weight)
+      && (leb (field kind-at kind-bytes row) 1 && zeros (drop row-zeros-at row)))

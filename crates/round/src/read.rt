@@ -51,15 +51,7 @@ pub fn kind_at(table: &[u8], round: Round, row: usize) -> u8
     kind_in(table, row)
 }
 
-// Slots from the current one to a due slot, at most top.
-pub fn bucket_of(due: u32, slot: u32, top: usize) -> usize
-    requires { ⌜ slot ≤ due ⌝ }
-    ensures { λ r. ⌜ r ≡ min (due - slot) top ⌝ }
-{
-    cut((due - slot) as usize, top)
-}
-
-// The same, by the slots ahead.
+// The bucket of a slot so far ahead.
 pub fn cut(ahead: usize, top: usize) -> usize
     ensures { λ r. ⌜ r ≡ min ahead top ⌝ }
 {

@@ -1,3 +1,4 @@
 pub mod Seen
 pub mod Entry
 pub mod Numbers
+pub mod Written

@@ -1,14 +1,13 @@
 // A row's numbers written.
 ghost use mathlib.Core.Path.{_≡_};
-ghost use mathlib.Core.List.{[], _∷_, _++_};
 ghost use Prim.Native.Nat.{suc, _+_, _≤_, _<_};
 ghost use lib.ListN.{length};
 ghost use lib.Seq.{sets};
 ghost use Rattle.rules.specs.Limits.{row-size, most-rows};
 ghost use Rattle.rules.specs.Rows.{framed};
 ghost use Rattle.rules.specs.Conditions.{row-at};
-ghost use Rattle.rules.specs.Table.{low};
 ghost use Rattle.row.specs.Numbers.{row-numbers};
+ghost use Rattle.row.specs.Written.{with-shift, with-weight, with-kept};
 use crate::row_at;
 use numbers::write2;
 use numbers::write4;
@@ -30,8 +29,8 @@ pub fn write_row(table: &mut [u8], at: usize, ticket: Ticket, due: Slot, weight:
 
 // A shifted row in place: its due slot and weight; the rest stays.
 pub fn write_shift(table: &mut [u8], row: usize, due: Slot, weight: Weight)
-    requires { ⌜ (row < 1024) × (row-at (suc row) ≤ length (now table)) ⌝ }
-    ensures { λ _. ⌜ now (table .exit) ≡ sets (now (table .entry)) (row-at row + 4) (low 2 (due .0) ++ low 4 (weight .0)) ⌝ }
+    requires { ⌜ (row < most-rows) × (row-at (suc row) ≤ length (now table)) ⌝ }
+    ensures { λ _. ⌜ now (table .exit) ≡ with-shift (now (table .entry)) row (due .0) (weight .0) ⌝ }
 {
     let at = row_at(row);
     write2(table, at + Round::DUE_AT, due.0);
@@ -40,16 +39,16 @@ pub fn write_shift(table: &mut [u8], row: usize, due: Slot, weight: Weight)
 
 // The substitute, likewise: its weight.
 pub fn write_weight(table: &mut [u8], row: usize, weight: Weight)
-    requires { ⌜ (row < 1024) × (row-at (suc row) ≤ length (now table)) ⌝ }
-    ensures { λ _. ⌜ now (table .exit) ≡ sets (now (table .entry)) (row-at row + 6) (low 4 (weight .0)) ⌝ }
+    requires { ⌜ (row < most-rows) × (row-at (suc row) ≤ length (now table)) ⌝ }
+    ensures { λ _. ⌜ now (table .exit) ≡ with-weight (now (table .entry)) row (weight .0) ⌝ }
 {
     write4(table, row_at(row) + Round::WEIGHT_AT, weight.0);
 }
 
 // A kept blank, likewise: its due slot, weight and kind.
 pub fn write_kept(table: &mut [u8], row: usize, due: Slot, weight: Weight)
-    requires { ⌜ (row < 1024) × (row-at (suc row) ≤ length (now table)) ⌝ }
-    ensures { λ _. ⌜ now (table .exit) ≡ sets (now (table .entry)) (row-at row + 4) ((low 2 (due .0) ++ low 4 (weight .0)) ++ (1 ∷ [])) ⌝ }
+    requires { ⌜ (row < most-rows) × (row-at (suc row) ≤ length (now table)) ⌝ }
+    ensures { λ _. ⌜ now (table .exit) ≡ with-kept (now (table .entry)) row (due .0) (weight .0) ⌝ }
 {
     write_shift(table, row, due, weight);
     let kind = row_at(row) + Round::KIND_AT;

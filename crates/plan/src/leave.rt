@@ -103,17 +103,17 @@ fn leave_some(
     let mut place = first;
     let mut left = reach.over;
     while 0 < left {
-        let key = keys[place];
-        place += 1;
-        if size <= ahead_of(key, slot) {
-            rise(heap, size, key);
+        // A row finds no slot while one has to leave, so the end needs no test.
+        while size <= ahead_of(keys[place], slot) {
+            rise(heap, size, keys[place]);
             size += 1;
-        } else {
-            let out = leaver(heap, size, key);
-            flags[row_of(out)] = 0;
-            light += lack_of(out);
-            left -= 1;
+            place += 1;
         }
+        let out = leaver(heap, size, keys[place]);
+        place += 1;
+        flags[row_of(out)] = 0;
+        light += lack_of(out);
+        left -= 1;
     }
     weight_of_all(reach.over, light)
 }

@@ -1,6 +1,7 @@
 -- One number for a row: greater for the lighter one; of equal weights for the later due slot, then for the later row. So no key is
 -- greater than a heavier row's, and that of a blank, which weighs nothing, is greater than any row's.
-use Prim.Native.Nat.{ℕ, _+_, _*_, _-_, _/_, _%_}
+use mathlib.Core.Path.{_≡_}
+use Prim.Native.Nat.{ℕ, _+_, _*_, _-_, _/_, _%_, _≤_}
 use Rattle.rules.specs.Rows.{Round}
 use Rattle.round.specs.Rows.{at}
 
@@ -8,9 +9,12 @@ use Rattle.round.specs.Rows.{at}
 unfoldable pub key : (weight due row : ℕ) → ℕ
 key w d i = (16777217 - w) * 16777216 + d * 4096 + i
 
--- the weight that a key tells, 0 of a blank
+-- what the weight that a key tells lacks to a number one above the heaviest; and that weight, 0 of a blank
+abbrev pub lack-of : (key : ℕ) → ℕ
+lack-of k = k / 16777216
+
 abbrev pub weight-of : (key : ℕ) → ℕ
-weight-of k = 16777217 - k / 16777216
+weight-of k = 16777217 - lack-of k
 
 -- the due slot that it tells
 abbrev pub due-of : (key : ℕ) → ℕ
@@ -26,3 +30,10 @@ blank-key = 281474993487872
 
 abbrev pub key-at : Round → (row : ℕ) → ℕ
 key-at r i = key (at r i .weight) (at r i .due) i
+
+-- MANY ROWS: what they lack together, at most; and what they weigh then
+abbrev pub May-lack : (many lacks : ℕ) → Type 0
+May-lack n l = (n ≤ 1024) × (l ≤ n * 16777217)
+
+abbrev pub Lacks : (many lacks weight : ℕ) → Type 0
+Lacks n l w = w + l ≡ n * 16777217

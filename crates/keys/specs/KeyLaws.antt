@@ -1,4 +1,4 @@
--- What a key tells, and that keys are the order heavier: key-weight, key-due, key-row, key-some, heavier-key, keys-apart.
+-- What a key tells, and that keys are the order heavier: key-weight, key-due, key-row, key-some, lacks-more, heavier-key, keys-apart.
 use mathlib.Core.Path.{_≡_, sym, ap, _∙_}
 use mathlib.Core.Logic.{inl, inr}
 use mathlib.Core.Bool.{true, false}
@@ -14,7 +14,7 @@ use Rattle.theory.specs.Full.{Fine}
 use Rattle.theory.specs.Order.{Not-over, heavier?}
 use Rattle.theory.specs.Keys.{getD-in, tickets-rise}
 use Rattle.round.specs.Rows.{at}
-use Rattle.keys.specs.Key.{key, weight-of, due-of, row-of, blank-key, key-at}
+use Rattle.keys.specs.Key.{key, weight-of, lack-of, due-of, row-of, blank-key, key-at, May-lack, Lacks}
 
 -- WHAT A KEY TELLS
 pub key-weight : (w d i : ℕ) → w ≤ 16777216 → d ≤ 4095 → i < 1024 → weight-of (key w d i) ≡ w
@@ -37,6 +37,24 @@ key-some w d i a = omega arith
 pub key-most : (w d i : ℕ) → 1 ≤ w → d ≤ 4095 → i < 1024 → key w d i < blank-key
 unfolding key
 key-most w d i a b c = omega arith
+
+-- MANY ROWS, one by one
+pub lacks-none : Lacks 0 0 0
+lacks-none = omega arith
+
+pub lacks-more : (n l w k : ℕ) → k ≤ blank-key → Lacks n l w → Lacks (n + 1) (l + lack-of k) (w + weight-of k)
+lacks-more n l w k h e = omega arith
+
+pub may-lack : (n l w : ℕ) → n ≤ 1024 → Lacks n l w → May-lack n l
+may-lack n l w h e = (h, omega arith)
+
+-- one more does not overflow
+pub lack-fits : (n l w k : ℕ) → n ≤ 1024 → k ≤ blank-key → Lacks n l w → l + lack-of k < 18446744073709551616
+lack-fits n l w k h b e = omega arith
+
+-- what they lack tells what they weigh
+pub lacks-once : (n l v w : ℕ) → Lacks n l v → Lacks n l w → v ≡ w
+lacks-once n l v w d e = omega arith
 
 -- A LESSER KEY IS A HEAVIER ROW, where indices rise as tickets do
 pub heavier-by-key : (a b : Row) (i j : ℕ) → i < 1024 → j < 1024 → a .due ≤ 4095 → b .due ≤ 4095 → a .weight ≤ 16777216 → b .weight ≤ 16777216 →

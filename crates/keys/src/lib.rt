@@ -1,7 +1,7 @@
 // One number for a row, by which rows are compared, and the laws of that number: the only place that knows how a key is made.
 ghost use mathlib.Core.Path.{_≡_};
 ghost use Prim.Native.Nat.{_≤_, _<_, max, min};
-ghost use Rattle.keys.specs.Key.{key, weight-of, due-of, row-of, blank-key};
+ghost use Rattle.keys.specs.Key.{key, weight-of, lack-of, due-of, row-of, blank-key, May-lack, Lacks};
 use sorts::Slot;
 use sorts::Weight;
 
@@ -23,6 +23,21 @@ pub fn weight_of(key: u64) -> u32
     ensures { λ r. ⌜ r ≡ weight-of key ⌝ }
 {
     (16777217 - key / 16777216) as u32
+}
+
+// What the weight lacks to a number one above the heaviest.
+pub fn lack_of(key: u64) -> u64
+    ensures { λ r. ⌜ r ≡ lack-of key ⌝ }
+{
+    key / 16777216
+}
+
+// The weight of so many rows, by what they lack together: one subtraction for all of them.
+pub fn weight_of_all(many: usize, lacks: u64) -> u64
+    requires { ⌜ May-lack many lacks ⌝ }
+    ensures { λ r. ⌜ Lacks many lacks r ⌝ }
+{
+    many as u64 * 16777217 - lacks
 }
 
 pub fn due_of(key: u64) -> u32

@@ -15,7 +15,7 @@ use Rattle.heap.specs.Heap.{Heap, heaped, Grown, Replaced}
 use Rattle.heap.proofs.HeapLaws.{heaped-at, heaped-some, top-most}
 use Rattle.plan.specs.Sweep.{tally, Queue, Swept, Heaped, Leaves, Crowds, First-crowded, Filled, Greatest, Lightest, Empty-heap, Fills, Crowd, Parted}
 use Rattle.plan.specs.Sweep.{key-on, row-on, ahead-on, weight-on, kept-on, left-on}
-use Rattle.plan.proofs.TallyLaws.{tally-yes, tally-at, tally-some, tally-all, tally-most}
+use Rattle.plan.proofs.TallyLaws.{tally-yes, tally-at, tally-some, tally-all}
 use Rattle.plan.proofs.SweepLaws.{keys-differ, count-few, kept-less, swept-joins, swept-leaves, swept-none, swept-front, crowded-in}
 
 -- 1 for one number alone
@@ -68,26 +68,12 @@ pub record Going (ks hs gs : List ℕ) (slot free over p count w : ℕ) : Type 0
   pub swept : Swept ks gs slot (free + over) p count w
   pub heaped : Heaped ks hs gs p count
   pub room : free + over + 2 ≤ length hs
-  pub few : p ≤ count + over
 
 module _ (ks hs gs : List ℕ) (slot free over p count w : ℕ) (Q : Queue ks slot free (free + over)) (G : Going ks hs gs slot free over p count w) where
   pub going-count : (count ≤ free) × (count ≤ p)
   going-count = count-few ks gs slot free (free + over) p count w Q (G .swept)
 
-  -- while not all have left there is a place more
-  pub place-more : p < count + over → p < free + over
-  place-more l = omega (arith, l, going-count .0)
-
-  pub lost-bound : w ≤ p * 16777217
-  lost-bound = omega (arith, G .swept .lost, tally-most (weight-on ks) (left-on ks gs) p (λ j. omega arith))
-
-  pub going-end : count + over ≤ p → Parted ks gs slot free over w
-  going-end l = record { place = p; count = count; swept = G .swept; left = omega (arith, l, G .few) }
-
-  module _ (l : p < count + over) (k : ℕ) (e : k ≡ key-on ks p) where
-    here : p < free + over
-    here = place-more l
-
+  module _ (here : p < free + over) (k : ℕ) (e : k ≡ key-on ks p) where
     pub going-joins : (u : List ℕ) → count ≤ ahead-on ks slot p → Grown count k hs u → Going ks u gs slot free over (p + 1) (count + 1) w
     going-joins u f R =
         rw (add-one, add-one) (record {
@@ -103,7 +89,6 @@ module _ (ks hs gs : List ℕ) (slot free over p count w : ℕ) (Q : Queue ks sl
             );
           };
           room = omega (arith, R .long, G .room);
-          few = omega (arith, l);
         })
 
     -- who leaves has a place, and is lighter than all others kept
@@ -180,7 +165,6 @@ module _ (ks hs gs : List ℕ) (slot free over p count w : ℕ) (Q : Queue ks sl
               );
             };
             room = omega (arith, g, G .room);
-            few = omega (arith, l);
           })
 
 -- THE FIRST KEYS into an empty heap
@@ -310,7 +294,6 @@ going-start ks gs hs us slot free over c C F E X l =
         keys = λ μ. X .keys μ ∙ sym (tally-all (λ q. μ (key-on ks q)) (kept-on ks gs) c all-on);
       };
       room = omega (arith, l, E .room);
-      few = omega arith;
     }
   where
     all-on : (q : ℕ) → q < c → kept-on ks gs q ≡ true

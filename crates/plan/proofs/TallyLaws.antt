@@ -88,14 +88,6 @@ tally-nothing f κ (suc n) h = elim (either (κ n)) [
   | inr a ↦ omega (arith, part-no f κ n a, tally-nothing f κ n (λ j k. h j (omega (arith, k))))
 ]
 
-pub tally-most : (f : ℕ → ℕ) (κ : ℕ → Bool) (n : ℕ) → ((j : ℕ) → f j ≤ 16777217) → tally f κ n ≤ n * 16777217
-unfolding tally
-tally-most f κ zero h = omega arith
-tally-most f κ (suc n) h = elim (either (κ n)) [
-  | inl a ↦ omega (arith, h n, part-yes f κ n a, tally-most f κ n h)
-  | inr a ↦ omega (arith, part-no f κ n a, tally-most f κ n h)
-]
-
 pub tally-few : (f : ℕ → ℕ) (κ : ℕ → Bool) (n : ℕ) → ((j : ℕ) → f j ≤ 1) → tally f κ n ≤ n
 unfolding tally
 tally-few f κ zero h = omega arith

@@ -9,9 +9,11 @@ use buckets::Reach;
 use heap::rise;
 use heap::sink;
 use keys::due_of;
+use keys::lack_of;
 use keys::larger;
 use keys::row_of;
 use keys::weight_of;
+use keys::weight_of_all;
 
 // Slots from the current one to the due slot of a key's row.
 fn ahead_of(key: u64, slot: u32) -> usize
@@ -82,7 +84,7 @@ fn leaver(heap: &mut [u64], size: usize, key: u64) -> u64
     key
 }
 
-// Over rows leave: as many places are passed as are kept, and over more.
+// Over rows leave. What their weights lack is summed up: one step less for each than to sum up the weights.
 fn leave_some(
     keys: &[u64],
     flags: &mut [u8],
@@ -96,22 +98,24 @@ fn leave_some(
     ensures { λ r. ⌜ Parted (now (keys .entry)) (now (flags .exit)) slot (reach .free) (reach .over) r ⌝ }
 {
     fill(heap, keys, first);
-    let mut lost: u64 = 0;
+    let mut light: u64 = 0;
     let mut size = first;
     let mut place = first;
-    while place < size + reach.over {
-        let key = keys[place];
-        place += 1;
-        if size <= ahead_of(key, slot) {
-            rise(heap, size, key);
+    let mut left = reach.over;
+    while 0 < left {
+        // A row finds no slot while one has to leave, so the end needs no test.
+        while size <= ahead_of(keys[place], slot) {
+            rise(heap, size, keys[place]);
             size += 1;
-        } else {
-            let out = leaver(heap, size, key);
-            flags[row_of(out)] = 0;
-            lost += weight_of(out) as u64;
+            place += 1;
         }
+        let out = leaver(heap, size, keys[place]);
+        place += 1;
+        flags[row_of(out)] = 0;
+        light += lack_of(out);
+        left -= 1;
     }
-    lost
+    weight_of_all(reach.over, light)
 }
 
 // Answers the weight of all rows left out.

@@ -1,4 +1,4 @@
--- The pass over the plan's keys that finds the segment of a slot.
+-- The passes over the plan's keys that find the segment of a slot, or its end.
 use mathlib.Core.Path.{_≡_, refl, sym, ap, _∙_, subst}
 use mathlib.Core.Logic.{inl, inr}
 use mathlib.Core.List.{List}
@@ -15,7 +15,7 @@ use Rattle.keys.specs.Key.{due-of, row-of, key-at}
 use Rattle.keys.specs.Sorted.{placed}
 use Rattle.keys.specs.DueOrder.{each, each-more, placed-all, placed-rises}
 use Rattle.marks.specs.Given.{Asked, Lent-asked}
-use Rattle.marks.specs.Near.{Finds}
+use Rattle.marks.specs.Near.{Finds, Ends}
 use Rattle.marks.proofs.KeptLaws.{flagged, flagged-yes, flagged-no, kept, kept-all, filled, fits, At, at-place, Read, key-read, from-slot}
 
 -- a row of the plan among the first p places, by its key
@@ -25,13 +25,12 @@ pub record Kept-at (r : Round) (fs : List ℕ) (n p k : ℕ) : Type 0 where
   pub flag : getD fs (placed r n place) 0 ≡ 1
   pub is : key-at r (placed r n place) ≡ k
 
--- PASSING place p: the plan's rows before it would fill the slots before edge; first is the last beginning up to the slot asked about
+-- PASSING place p: the plan's rows before it would fill the slots before edge, and no segment ends between first and edge
 pub record Passing (r : Round) (fs : List ℕ) (n asked first edge low p : ℕ) : Type 0 where
   pub level : edge ≡ r .slot + kept r fs n p
   pub from : r .slot ≤ first
   pub early : first ≤ asked
   pub under : first ≤ edge
-  pub begun : num 0 first (with-flag r fs) ≡ first - r .slot
   pub gap : (v : ℕ) → first < v → v ≤ edge → num 0 v (with-flag r fs) ≡ v - r .slot → ⊥
   pub most : (q : ℕ) → q < p → getD fs (placed r n q) 0 ≡ 1 → key-at r (placed r n q) ≤ low
   pub some : 1 ≤ low → Kept-at r fs n p low
@@ -50,19 +49,21 @@ kept-more r fs n p k x = record { place = x .place; below = omega (arith, x .bel
 module _ (r : Round) (ks fs : List ℕ) (many slot n asked : ℕ) (a : Asked r ks fs many slot n asked) where
   pub pass-start : (first edge : ℕ) → first ≡ slot → edge ≡ slot → Passing r fs n asked first edge 0 0
   pass-start first edge e d =
-      let g = a .given in
-      let f = fits r ks fs many slot n g in
-      let w : first ≡ r .slot = e ∙ g .now in
       record {
-        level = omega (arith, kept-none r fs n, d, g .now);
-        from = omega (arith, w);
+        level = omega (arith, kept-none r fs n, d, a .given .now);
+        from = omega (arith, e, a .given .now);
         early = omega (arith, e, a .from);
         under = omega (arith, d, e);
-        begun = omega (arith, w, ap (λ (v : ℕ). num 0 v (with-flag r fs)) w, f (r .slot) (omega arith) (omega arith));
         gap = λ v h l. absurd (omega (arith, h, l, d, e));
         most = λ q h. absurd (omega (arith, h));
         some = λ h. absurd (omega (arith, h));
       }
+
+  pub begun-start : (first : ℕ) → first ≡ slot → num 0 first (with-flag r fs) ≡ first - r .slot
+  begun-start first e =
+      let f = fits r ks fs many slot n (a .given) in
+      let w : first ≡ r .slot = e ∙ a .given .now in
+      omega (arith, w, ap (λ (v : ℕ). num 0 v (with-flag r fs)) w, f (r .slot) (omega arith) (omega arith))
 
   -- the edge stays among small numbers
   pub edge-small : (first edge low p : ℕ) → p ≤ many → Passing r fs n asked first edge low p → edge ≤ 8192
@@ -97,13 +98,30 @@ module _ (r : Round) (ks fs : List ℕ) (many slot n asked : ℕ) (a : Asked r k
           from = w .from;
           early = w .early;
           under = w .under;
-          begun = w .begun;
           gap = w .gap;
           most = λ q l f. elim (eqb? q p) [
             | inl y ↦ absurd (v (ap (λ (b : ℕ). getD fs (placed r n b) 0) (sym (y .1)) ∙ f))
             | inr y ↦ let z = y .1 in w .most q (omega (arith, l)) f
           ];
           some = λ l. kept-more r fs n p low (w .some l);
+        }
+
+    -- the segment of an end, if it begins at first
+    pub finds : (low2 : ℕ) → num 0 first (with-flag r fs) ≡ first - r .slot → Ends r fs n first asked low2 →
+        Finds r fs n asked (record { first = first; low = low2 })
+    finds low2 b v =
+        record {
+          end = v .end;
+          near = v .near;
+          from = w .early;
+          by = v .by;
+          segment = record { low = w .from; by = omega (arith, w .early, v .by); edge = b; end = v .full; none = v .none };
+          row = v .row;
+          there = v .there;
+          kept = v .kept;
+          due = v .due;
+          low = v .low;
+          most = v .most;
         }
 
     -- a row of the plan fills one more
@@ -136,7 +154,6 @@ module _ (r : Round) (ks fs : List ℕ) (many slot n asked : ℕ) (a : Asked r k
             from = w .from;
             early = w .early;
             under = omega (arith, w .under);
-            begun = w .begun;
             gap = λ v j z y. elim (leb? v edge) [
               | inl b ↦ w .gap v j (b .1) y
               | inr b ↦
@@ -172,16 +189,15 @@ module _ (r : Round) (ks fs : List ℕ) (many slot n asked : ℕ) (a : Asked r k
             ),
           )
 
-      pub pass-cut : (x low2 : ℕ) → x ≡ due-of k → x < edge + 1 → edge + 1 ≤ asked → low2 ≡ max low k →
-          Passing r fs n asked (edge + 1) (edge + 1) low2 (p + 1)
-      pass-cut x low2 c l b m =
+      -- an end before the slot asked about does not count
+      pub pass-cut : (low2 : ℕ) → edge + 1 ≤ asked → low2 ≡ max low k → Passing r fs n asked (edge + 1) (edge + 1) low2 (p + 1)
+      pass-cut low2 b m =
           let s = add-one p in
           record {
             level = rw s edge-next;
             from = omega (arith, w .level);
             early = b;
             under = omega arith;
-            begun = tight x c l .1;
             gap = λ v j z. absurd (omega (arith, j, z));
             most = most-next low2 m;
             some = λ y. some-next low2 m;
@@ -209,8 +225,7 @@ module _ (r : Round) (ks fs : List ℕ) (many slot n asked : ℕ) (a : Asked r k
             ))
       ]
 
-      pub pass-found : (x low2 : ℕ) → x ≡ due-of k → x < edge + 1 → asked < edge + 1 → low2 ≡ max low k →
-          Finds r fs n asked (record { first = first; low = low2 })
+      pub pass-found : (x low2 : ℕ) → x ≡ due-of k → x < edge + 1 → asked < edge + 1 → low2 ≡ max low k → Ends r fs n first asked low2
       pass-found x low2 c l b m =
           let t = tight x c l in
           let s : suc edge ≡ edge + 1 = omega arith in
@@ -220,15 +235,9 @@ module _ (r : Round) (ks fs : List ℕ) (many slot n asked : ℕ) (a : Asked r k
           record {
             end = edge;
             near = omega (arith, t .0, here .by);
-            from = w .early;
             by = omega (arith, b);
-            segment = record {
-              low = w .from;
-              by = w .under;
-              edge = w .begun;
-              end = ap (λ (c : ℕ). num 0 c (with-flag r fs)) s ∙ t .1 ∙ omega arith;
-              none = λ z j o q. w .gap (suc z) (omega (arith, j)) (omega (arith, o)) q;
-            };
+            full = ap (λ (c : ℕ). num 0 c (with-flag r fs)) s ∙ t .1 ∙ omega arith;
+            none = λ z j o q. w .gap (suc z) (omega (arith, j)) (omega (arith, o)) q;
             row = placed r n (v .place);
             there = y .row;
             kept = v .flag;
@@ -243,23 +252,47 @@ module _ (r : Round) (ks fs : List ℕ) (many slot n asked : ℕ) (a : Asked r k
           due-by : (q : ℕ) → q ≤ p → p < many → due ≤ edge → at r (placed r n q) .due ≤ edge
           due-by q u l z = omega (arith, placed-rises r n q p u (omega (arith, l, a .given .all)), z)
 
-  -- it is found before the keys end
+  -- the plan's rows at all places fill the n slots
+  edge-last : (first edge low p : ℕ) → many ≤ p → p ≤ many → Passing r fs n asked first edge low p → edge ≡ r .slot + n
+  edge-last first edge low p h l w =
+      let e : p ≡ many = omega (arith, h, l) in
+      omega (arith, w .level, ap (λ (q : ℕ). kept r fs n q) e, kept-all r ks fs many slot n (a .given))
+
+  -- so keys are left before the slot asked about
+  pub keys-left : (first edge low p : ℕ) → edge ≤ asked → p ≤ many → Passing r fs n asked first edge low p → p < many
+  keys-left first edge low p h l w = elim (ltb? p many) [
+    | inl b ↦ b .1
+    | inr b ↦ absurd (omega (arith, h, edge-last first edge low p (b .1) l w, a .by, a .given .now))
+  ]
+
+  -- and its segment's end is found before they end
   pub pass-end : (first edge low p : ℕ) → many ≤ p → p ≤ many → Passing r fs n asked first edge low p → ⊥
   pass-end first edge low p h l w =
       let g = a .given in
-      let e : p ≡ many = omega (arith, h, l) in
-      let d : edge ≡ r .slot + n = omega (arith, w .level, ap (λ (q : ℕ). kept r fs n q) e, kept-all r ks fs many slot n g) in
+      let d = edge-last first edge low p h l w in
       w .gap edge (omega (arith, d, w .early, a .by, g .now)) (omega arith)
       (ap (λ (v : ℕ). num 0 v (with-flag r fs)) d ∙ filled r ks fs many slot n g ∙ omega (arith, d))
+
+  -- once the rows fill each slot before the one asked about, ends count from there on
+  pub pass-asked : (edge low p : ℕ) → asked ≤ edge → Passing r fs n asked edge edge low p → Passing r fs n asked asked edge low p
+  pass-asked edge low p h w =
+      let e : edge ≡ asked = omega (arith, h, w .early) in subst (λ (v : ℕ). Passing r fs n asked v edge low p) e w
 
 -- THE PASS of whatever round is given
 abbrev pub Pass : (ks fs : List ℕ) (many slot asked first edge low p : ℕ) → Type 0
 Pass ks fs many slot asked first edge low p = (r : Round) (n : ℕ) → Asked r ks fs many slot n asked → Passing r fs n asked first edge low p
 
+-- and that a segment begins in a slot
+abbrev pub Begun : (ks fs : List ℕ) (many slot asked first : ℕ) → Type 0
+Begun ks fs many slot asked first = (r : Round) (n : ℕ) → Asked r ks fs many slot n asked → num 0 first (with-flag r fs) ≡ first - r .slot
+
 -- what reading asks for
 module _ (ks fs : List ℕ) (many slot asked : ℕ) (l : Lent-asked ks fs many slot asked) where
   pub flag-there : (p k i : ℕ) → p < many → k ≡ getD ks p 0 → i ≡ row-of k → i < length fs
   flag-there p k i h e d = omega (arith, d, key-read (l .of) ks fs many slot (l .n) (l .given .given) p k h e .fits)
+
+  pub key-there : (first edge low p : ℕ) → edge ≤ asked → p ≤ many → Pass ks fs many slot asked first edge low p → p < many
+  key-there first edge low p h k w = keys-left (l .of) ks fs many slot (l .n) asked (l .given) first edge low p h k (w (l .of) (l .n) (l .given))
 
   pub edge-fits : (first edge low p : ℕ) → p ≤ many → Pass ks fs many slot asked first edge low p → edge ≤ 8192
   edge-fits first edge low p h w = edge-small (l .of) ks fs many slot (l .n) asked (l .given) first edge low p h (w (l .of) (l .n) (l .given))

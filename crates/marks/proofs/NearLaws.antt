@@ -7,31 +7,27 @@ use Prim.Native.Nat.{ℕ, suc, _+_, _-_, _≤_, _<_, min}
 use native.Mathlib.Omega.{arith}
 use lib.ListN.{length, getD}
 use Rattle.rules.specs.Rows.{Row, Round, blank, heavier, In}
-use Rattle.rules.specs.Plan.{plan, in-plan, mark, first-end}
+use Rattle.rules.specs.Plan.{plan, in-plan, tight-after, mark, first-end}
 use Rattle.theory.specs.Tests.{ltb?, eqb?}
+use Rattle.theory.specs.Order.{not-over-weight, heavier-no}
 use Rattle.theory.specs.Keys.{getD-in}
 use Rattle.theory.specs.Index.{flag-in, each-row, each-chosen, at-flag}
 use Rattle.theory.specs.Members.{found-member}
-use Rattle.theory.specs.Near.{near-out}
-use Rattle.theory.specs.Segments.{segment-mark, segment-row, segment-none, first-segment}
+use Rattle.theory.specs.Near.{near-out, near-next, near-mark-least}
+use Rattle.theory.specs.Segments.{segment-row, segment-none, first-segment}
 use Rattle.theory.specs.Substitute.{first-row}
 use Rattle.theory.specs.Flags.{raised, with-flag}
 use Rattle.round.specs.Rows.{at}
-use Rattle.keys.specs.Key.{key, weight-of, due-of, row-of, blank-key, key-at}
-use Rattle.keys.specs.KeyLaws.{row-fine, row-is, weight-is, some-key, greater-key}
+use Rattle.keys.specs.Key.{weight-of, due-of, row-of, blank-key, key-at}
+use Rattle.keys.specs.KeyLaws.{row-is, weight-is, some-key, greater-key}
 use Rattle.keys.specs.Sorted.{placed}
 use Rattle.keys.specs.DueOrder.{placed-all, placed-rises}
 use Rattle.marks.specs.Given.{Given, Asked, Lent}
-use Rattle.marks.specs.Near.{Finds, Left-row, Left}
+use Rattle.marks.specs.Near.{Finds, Ends, Left-row, Left}
 use Rattle.marks.specs.Substitute.{Substitutes}
 use Rattle.marks.specs.declared.find.Found.{Found}
 use Rattle.marks.specs.declared.sub.Sub.the-variants.{Row as Row-at, Blank}
 use Rattle.marks.proofs.KeptLaws.{flag-on, flag-off, plan-rows, from-slot, at-place, Read, key-read}
-
--- a greater key is no heavier row's
-pub key-weighs : (u d i v e j : ℕ) → u ≤ 16777216 → v ≤ 16777216 → d ≤ 4095 → e ≤ 4095 → i < 1024 → j < 1024 → key v e j ≤ key u d i → u ≤ v
-unfolding key
-key-weighs u d i v e j a b c f g h l = omega arith
 
 module _ (r : Round) (ks fs : List ℕ) (many slot n : ℕ) (g : Given r ks fs many slot n) where
   abbrev pub ours : List Row
@@ -53,6 +49,10 @@ module _ (r : Round) (ks fs : List ℕ) (many slot n : ℕ) (g : Given r ks fs m
 
   pub flag-out : (i : ℕ) → i < length (r .rows) → (getD fs i 0 ≡ 1 → ⊥) → in-plan (at r i) ours ≡ false
   flag-out i h n = at-flag r (g .fine) (raised fs) (g .chosen .certified) (g .small) (g .cap) (blank 0) i h ∙ flag-off r fs i (g .chosen) h n
+
+  -- a greater key is no heavier row's
+  key-weighs : (i j : ℕ) → i < length (r .rows) → j < length (r .rows) → key-at r j ≤ key-at r i → at r i .weight ≤ at r j .weight
+  key-weighs i j h k l = not-over-weight (at r i) (at r j) (heavier-no (at r i) (at r j) (greater-key r (g .fine) (g .small) (g .cap) i j h k l))
 
   -- BACK over the places: the heaviest row left out of those from place p on, all due from a slot on
   pub record Backing (from k p : ℕ) : Type 0 where
@@ -141,27 +141,30 @@ module _ (r : Round) (ks fs : List ℕ) (many slot n : ℕ) (g : Given r ks fs m
             ];
           }
 
--- THE ANSWERS
+-- THE MARK, by the end found from the slot on
+module _ (r : Round) (ks fs : List ℕ) (many slot n asked : ℕ) (a : Asked r ks fs many slot n asked) (low : ℕ) (w : Ends r fs n asked asked low) where
+  pub low-fine : low ≤ blank-key
+  low-fine = let g = a .given in omega (arith, w .low, some-key r (g .fine) (g .small) (g .cap) (w .row) (w .there) .1)
+
+  pub mark-found : (m : ℕ) → m ≡ weight-of low → m ≡ mark r asked
+  mark-found m e =
+      let g = a .given in
+      let c = plan-rows r ks fs many slot n g in
+      let t : tight-after r (plan r) asked ≡ w .end =
+      near-next r (g .fine) (with-flag r fs) c (r .slot + n) (g .near) asked (w .end) (omega (arith, a .from, g .now)) (w .by) (w .near) (w .full) (w .none) in
+      e ∙ ap weight-of (sym (w .low)) ∙ weight-is r (g .fine) (g .small) (g .cap) (w .row) (w .there)
+      ∙ sym (near-mark-least r (g .fine) (with-flag r fs) c (r .slot + n) (g .near) asked (omega (arith, a .from, g .now)) (omega (arith, a .by, g .now))
+      (at r (w .row)) (kept-in r ks fs many slot n g (w .row) (w .there) (w .kept)) (omega (arith, t, w .due))
+      (each-chosen (λ y. y .due ≤ tight-after r (plan r) asked → at r (w .row) .weight ≤ y .weight) (blank 0) (raised fs) (r .rows)
+      (λ j l b d. key-weighs r ks fs many slot n g (w .row) j (w .there) l
+      (omega (arith, w .low, w .most j l (flag-kept r ks fs many slot n g j l b) (omega (arith, t, d)))))))
+
+-- THE SUBSTITUTE, by the segment found
 module _ (r : Round) (ks fs : List ℕ) (many slot n asked : ℕ) (a : Asked r ks fs many slot n asked) (x : Found) (w : Finds r fs n asked x) where
   abbrev pub g : Given r ks fs many slot n
   g = a .given
 
-  pub low-fine : x .low ≤ blank-key
-  low-fine = omega (arith, w .low, some-key r (g .fine) (g .small) (g .cap) (w .row) (w .there) .1)
-
-  -- the mark
-  pub mark-found : (m : ℕ) → m ≡ weight-of (x .low) → m ≡ mark r asked
-  mark-found m e =
-      let f = row-fine r (g .fine) (g .small) (g .cap) in
-      e ∙ ap weight-of (sym (w .low)) ∙ weight-is r (g .fine) (g .small) (g .cap) (w .row) (w .there)
-      ∙ sym (segment-mark r (g .fine) (g .time) (with-flag r fs) (plan-rows r ks fs many slot n g) (r .slot + n) (g .near) (x .first) (w .end) (w .near)
-      (w .segment) asked (w .from) (w .by) (at r (w .row)) (kept-in r ks fs many slot n g (w .row) (w .there) (w .kept)) (w .due)
-      (each-chosen (λ y. y .due ≤ w .end → at r (w .row) .weight ≤ y .weight) (blank 0) (raised fs) (r .rows)
-      (λ j l b d. key-weighs (at r (w .row) .weight) (at r (w .row) .due) (w .row) (at r j .weight) (at r j .due) j (f (w .row) (w .there) .most)
-      (f j l .most) (omega (arith, f (w .row) (w .there) .due-by, g .cap)) (omega (arith, f j l .due-by, g .cap)) (omega (arith, w .there, g .small))
-      (omega (arith, l, g .small)) (omega (arith, w .low, w .most j l (flag-kept r ks fs many slot n g j l b) d)))))
-
-  -- the substitute of a row of the plan that is due then
+  -- of a row of the plan that is due then
   module _ (i : ℕ) (h : i < length (r .rows)) (on : getD fs i 0 ≡ 1) (d : at r i .due ≡ asked) where
     -- of the first segment
     pub row-first : (j : ℕ) → x .first ≡ slot → j ≡ row-of (x .low) → Substitutes r i (Row-at j)

@@ -1,10 +1,11 @@
 -- What the passes over the plan's keys find.
 use mathlib.Core.Path.{_≡_}
 use mathlib.Core.List.{List}
-use Prim.Native.Nat.{ℕ, _+_, _≤_, _<_}
+use Prim.Native.Nat.{ℕ, suc, _+_, _-_, _≤_, _<_}
 use lib.ListN.{length, getD}
 use Rattle.rules.specs.Rows.{Round}
 use Rattle.rules.specs.Plan.{mark}
+use Rattle.theory.specs.Feas.{num}
 use Rattle.theory.specs.Segments.{Segment}
 use Rattle.theory.specs.Flags.{with-flag}
 use Rattle.round.specs.Rows.{at}
@@ -30,6 +31,23 @@ pub record Finds (r : Round) (fs : List ℕ) (n asked : ℕ) (x : Found) : Type 
 
 abbrev pub Finds-say : (ks fs : List ℕ) (many slot asked : ℕ) → Found → Type 0
 Finds-say ks fs many slot asked x = (r : Round) (n : ℕ) → Asked r ks fs many slot n asked → Finds r fs n asked x
+
+-- THE FIRST END from a slot on, not before the slot asked about; of the plan's rows due by it the lightest, by its key
+pub record Ends (r : Round) (fs : List ℕ) (n first asked k : ℕ) : Type 0 where
+  pub end : ℕ
+  pub near : end < r .slot + n
+  pub by : asked ≤ end
+  pub full : num 0 (suc end) (with-flag r fs) ≡ suc end - r .slot
+  pub none : (u : ℕ) → first ≤ u → u < end → num 0 (suc u) (with-flag r fs) ≡ suc u - r .slot → ⊥
+  pub row : ℕ
+  pub there : row < length (r .rows)
+  pub kept : getD fs row 0 ≡ 1
+  pub due : at r row .due ≤ end
+  pub low : key-at r row ≡ k
+  pub most : (i : ℕ) → i < length (r .rows) → getD fs i 0 ≡ 1 → at r i .due ≤ end → key-at r i ≤ k
+
+abbrev pub Lightest-say : (ks fs : List ℕ) (many slot asked : ℕ) → (key : ℕ) → Type 0
+Lightest-say ks fs many slot asked k = (r : Round) (n : ℕ) → Asked r ks fs many slot n asked → Ends r fs n asked asked k
 
 -- THE MARK of whatever round is given
 abbrev pub Marks-say : (ks fs : List ℕ) (many slot asked : ℕ) → (mark : ℕ) → Type 0

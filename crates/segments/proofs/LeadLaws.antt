@@ -2,7 +2,7 @@
 use mathlib.Core.Path.{_≡_, ap, _∙_}
 use mathlib.Core.Logic.{inl, inr}
 use mathlib.Core.Bool.{false}
-use Prim.Native.Nat.{ℕ, suc, _+_, _-_, _≤_, _<_}
+use Prim.Native.Nat.{ℕ, suc, _+_, _≤_, _<_}
 use native.Mathlib.Omega.{arith}
 use lib.Dec.{ltb}
 use Rattle.rules.specs.PlanM.{score}
@@ -36,8 +36,8 @@ module _ (l : Lead) (h o a b s : ℕ) (p : a ≡ weight-of h) (q : b ≡ weight-
       ]
 
 -- where a segment ends
-pub ends-not : (d s k e : ℕ) → d ≡ e → false ≡ ends-here d s k e
-ends-not d s k e q = elim (eqb? d e) [ inl a ↦ rw (a .0) | inr a ↦ absurd (a .1 q) ]
+pub ends-not : (d s e : ℕ) → d ≡ e → false ≡ ends-here d s e
+ends-not d s e q = elim (eqb? d e) [ inl a ↦ rw (a .0) | inr a ↦ absurd (a .1 q) ]
 
-pub ends-by : (d s k e : ℕ) → (d ≡ e → ⊥) → ltb (d - s) k ≡ ends-here d s k e
-ends-by d s k e n = elim (eqb? d e) [ inl a ↦ absurd (n (a .1)) | inr a ↦ rw (a .0) ]
+pub ends-by : (d s e : ℕ) → (d ≡ e → ⊥) → ltb d s ≡ ends-here d s e
+ends-by d s e n = elim (eqb? d e) [ inl a ↦ absurd (n (a .1)) | inr a ↦ rw (a .0) ]

@@ -42,8 +42,8 @@ pub record Made (r : Round) (b end heavy light other : ℕ) : Type 0 where
   pub low : Keyed r (of .low) light
   pub out : Named r b (of .out) other
 
-module _ (r : Round) (ks fs : List ℕ) (many slot n : ℕ) (g : Given r ks fs many slot n) (end heavy light out kept i b : ℕ)
-    (o : Open r n fs end heavy light out kept i) (w : Begins r n fs end i b) where
+module _ (r : Round) (ks fs : List ℕ) (many slot n : ℕ) (g : Given r ks fs many slot n) (end heavy light out edge i b : ℕ)
+    (o : Open r n fs end heavy light out edge i) (w : Begins r n fs end i b) where
   abbrev rs : List Row
   rs = with-flag r fs
 

@@ -30,25 +30,25 @@ key-of r n q = key-at r (placed r n q)
 
 -- THE OPEN SEGMENT with i places to come: its end is full, no slot seen before it is; the heaviest and the lightest of its members so far,
 -- and the heaviest row left out so far
-pub record Open (r : Round) (n : ℕ) (fs : List ℕ) (end heavy light out kept i : ℕ) : Type 0 where
+pub record Open (r : Round) (n : ℕ) (fs : List ℕ) (end heavy light out edge i : ℕ) : Type 0 where
   pub seen : i ≤ many-due r n
   pub from : r .slot ≤ end
   pub near : end < r .slot + n
   pub full : Full-by r fs end
   pub behind : (q : ℕ) → q < i → due-at r n q ≤ end
   pub none : (q : ℕ) → i ≤ q → q < many-due r n → due-at r n q < end → Full-by r fs (due-at r n q) → ⊥
-  pub count : kept ≡ kept-to r n fs i
+  pub count : edge ≡ r .slot + kept-to r n fs i
   pub top : Least (key-of r n) (Inside r n fs i end) heavy
   pub low : Greatest (key-of r n) (Inside r n fs i end) light
   pub left : Least (key-of r n) (Left r n fs i) out
 
 -- no segment ends at a place but the open one
-abbrev pub Settled : Round → (n end kept place : ℕ) → Type 0
-Settled r n e k p = (due-at r n p ≡ e) ⊎ (k ≤ due-at r n p - r .slot)
+abbrev pub Settled : Round → (n end edge place : ℕ) → Type 0
+Settled r n e k p = (due-at r n p ≡ e) ⊎ (k ≤ due-at r n p)
 
 module _ (r : Round) (ks fs : List ℕ) (many slot n : ℕ) (g : Given r ks fs many slot n) where
   -- AT FIRST all places are to come
-  pub open-start : Open r n fs (r .slot + n - 1) blank-key 0 blank-key n (many-due r n)
+  pub open-start : Open r n fs (r .slot + n - 1) blank-key 0 blank-key (r .slot + n) (many-due r n)
   open-start =
       let d : suc (r .slot + n - 1) ≡ r .slot + n = omega (arith, g .some) in
       record {
@@ -63,18 +63,18 @@ module _ (r : Round) (ks fs : List ℕ) (many slot n : ℕ) (g : Given r ks fs m
         );
         behind = λ q h. omega (arith, placed-row r n q h .2);
         none = λ q h k l f. omega (arith, h, k);
-        count = sym (kept-all r ks fs many slot n g);
+        count = omega (arith, kept-all r ks fs many slot n g);
         top = least-none (key-of r n) (Inside r n fs (many-due r n) (r .slot + n - 1)) (λ q c. omega (arith, c .0, c .1));
         low = greatest-none (key-of r n) (Inside r n fs (many-due r n) (r .slot + n - 1)) (λ q c. omega (arith, c .0, c .1));
         left = least-none (key-of r n) (Left r n fs (many-due r n)) (λ q c. omega (arith, c .0, c .1));
       }
 
-  module _ (end heavy light out kept p : ℕ) (o : Open r n fs end heavy light out kept (suc p)) where
+  module _ (end heavy light out edge p : ℕ) (o : Open r n fs end heavy light out edge (suc p)) where
     -- A NEW SEGMENT opens where one ends
-    pub ends-full : due-at r n p - r .slot < kept → Full-by r fs (due-at r n p)
+    pub ends-full : due-at r n p < edge → Full-by r fs (due-at r n p)
     ends-full t = full-here r ks fs many slot n g p (o .seen) (omega (arith, t, o .count))
 
-    pub later-due : due-at r n p - r .slot < kept → (due-at r n p ≡ end → ⊥) → (q : ℕ) → suc p ≤ q → q < many-due r n → due-at r n p < due-at r n q
+    pub later-due : due-at r n p < edge → (due-at r n p ≡ end → ⊥) → (q : ℕ) → suc p ≤ q → q < many-due r n → due-at r n p < due-at r n q
     later-due t m q h k =
         let u = placed-rises r n p q (omega (arith, h)) k in
         let b = o .behind p (omega arith) in
@@ -85,7 +85,7 @@ module _ (r : Round) (ks fs : List ℕ) (many slot n : ℕ) (g : Given r ks fs m
               absurd (o .none q h k (omega (arith, e, b)) (subst (Full-by r fs) e (ends-full t)))
         ]
 
-    pub open-next : due-at r n p - r .slot < kept → (due-at r n p ≡ end → ⊥) → Open r n fs (due-at r n p) blank-key 0 out kept (suc p)
+    pub open-next : due-at r n p < edge → (due-at r n p ≡ end → ⊥) → Open r n fs (due-at r n p) blank-key 0 out edge (suc p)
     open-next t m =
         let d = placed-row r n p (o .seen) in
         record {
@@ -102,7 +102,7 @@ module _ (r : Round) (ks fs : List ℕ) (many slot n : ℕ) (g : Given r ks fs m
         }
 
     -- ONE PLACE FURTHER: what holds of every place from here on
-    none-here : Settled r n end kept p → (q : ℕ) → p ≤ q → q < many-due r n → due-at r n q < end → Full-by r fs (due-at r n q) → ⊥
+    none-here : Settled r n end edge p → (q : ℕ) → p ≤ q → q < many-due r n → due-at r n q < end → Full-by r fs (due-at r n q) → ⊥
     none-here s q h k l f = elim (ltb? p q) [
       | inl a ↦ o .none q (a .1) k l f
       | inr a ↦
@@ -117,8 +117,8 @@ module _ (r : Round) (ks fs : List ℕ) (many slot n : ℕ) (g : Given r ks fs m
               (λ k e. o .none (suc p) (omega arith) k (omega (arith, e, l)) (subst (Full-by r fs) (sym e) f)) f
         ]
 
-    pub open-kept : Settled r n end kept p → getD fs (placed r n p) 0 ≡ 1 →
-        Open r n fs end (min heavy (key-of r n p)) (max light (key-of r n p)) out (kept - 1) p
+    pub open-kept : Settled r n end edge p → getD fs (placed r n p) 0 ≡ 1 →
+        Open r n fs end (min heavy (key-of r n p)) (max light (key-of r n p)) out (edge - 1) p
     open-kept s y =
         let b = o .behind p (omega arith) in
         record {
@@ -146,7 +146,7 @@ module _ (r : Round) (ks fs : List ℕ) (many slot n : ℕ) (g : Given r ks fs m
           | inr a ↦ let e : p ≡ q = omega (arith, c .0, a .1) in absurd (c .2 (subst (λ v. getD fs (placed r n v) 0 ≡ 1) e y))
         ]
 
-    pub open-left : Settled r n end kept p → (getD fs (placed r n p) 0 ≡ 1 → ⊥) → Open r n fs end heavy light (min out (key-of r n p)) kept p
+    pub open-left : Settled r n end edge p → (getD fs (placed r n p) 0 ≡ 1 → ⊥) → Open r n fs end heavy light (min out (key-of r n p)) edge p
     open-left s m =
         record {
           seen = omega (arith, o .seen);

@@ -141,13 +141,13 @@ module _ (r : Round) (ks fs : List ℕ) (many slot n : ℕ) (g : Given r ks fs m
       ]
 
   -- THE TEST for a segment's end, at a place
-  pub full-here : (p : ℕ) → p < many-due r n → due-at r n p - r .slot < kept-to r n fs (suc p) → Full-by r fs (due-at r n p)
+  pub full-here : (p : ℕ) → p < many-due r n → due-at r n p < r .slot + kept-to r n fs (suc p) → Full-by r fs (due-at r n p)
   full-here p h t =
       let x = place r n p h in
       let e : r .slot + suc (x .ahead) ≡ suc (due-at r n p) = omega (arith, x .due) in
       omega (arith, t, kept-under p h, rows-fit (suc (x .ahead)) (x .early), e, x .due, ap (λ v. num 0 v (with-flag r fs)) e)
 
-  pub not-full-here : (p : ℕ) → p < many-due r n → kept-to r n fs (suc p) ≤ due-at r n p - r .slot →
+  pub not-full-here : (p : ℕ) → p < many-due r n → r .slot + kept-to r n fs (suc p) ≤ due-at r n p →
       (suc p < many-due r n → due-at r n (suc p) ≡ due-at r n p → ⊥) → Full-by r fs (due-at r n p) → ⊥
   not-full-here p h t last f = omega (arith, t, kept-last p h last, f, placed-row r n p h .1)
 

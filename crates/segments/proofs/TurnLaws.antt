@@ -11,7 +11,7 @@ use Rattle.keys.specs.DueOrder.{placed-row}
 use Rattle.segments.specs.Given.{Lent}
 use Rattle.segments.specs.Segmented.{Segments-say, ends-here, closed}
 use Rattle.segments.specs.declared.Lead.{Lead}
-use Rattle.segments.proofs.PlaceLaws.{due-told, row-told}
+use Rattle.segments.proofs.PlaceLaws.{row-told}
 use Rattle.segments.proofs.PassLaws.{Pass, Passing, Meeting, pass-first, pass-last, room, fair-keys, passing-on, passing-new, passing-kept, passing-left, passing-some}
 
 -- numbers are small
@@ -29,13 +29,13 @@ bounds w =
       there = omega (arith, g .all, g .sorted .enough);
     }
 
-pub passing-first : {ks fs : List ℕ} {many slot n : ℕ} {es ts ls : List ℕ} {l : Lead} {end kept : ℕ} → l .count ≡ 0 → l .score ≡ 0 →
-    end ≡ slot + n - 1 → kept ≡ n → Passing ks fs many slot n es ts ls l end blank-key 0 blank-key kept many
+pub passing-first : {ks fs : List ℕ} {many slot n : ℕ} {es ts ls : List ℕ} {l : Lead} {end edge : ℕ} → l .count ≡ 0 → l .score ≡ 0 →
+    end ≡ slot + n - 1 → edge ≡ slot + n → Passing ks fs many slot n es ts ls l end blank-key 0 blank-key edge many
 passing-first c s e k r g = rw (e, k) (pass-first r _ _ _ _ _ g _ _ _ _ c s)
 
 -- WHERE THE WAYS MEET: no new segment at the next place, and the arrays are as long as at first
-pub record Goes (ks fs : List ℕ) (many slot n : ℕ) (es₀ ts₀ ls₀ es ts ls : List ℕ) (l : Lead) (end heavy light out kept p : ℕ) : Type 0 where
-  pub meeting : Meeting ks fs many slot n es ts ls l end heavy light out kept p
+pub record Goes (ks fs : List ℕ) (many slot n : ℕ) (es₀ ts₀ ls₀ es ts ls : List ℕ) (l : Lead) (end heavy light out edge p : ℕ) : Type 0 where
+  pub meeting : Meeting ks fs many slot n es ts ls l end heavy light out edge p
   pub ends : length es ≡ length es₀
   pub tops : length ts ≡ length ts₀
   pub lows : length ls ≡ length ls₀
@@ -50,9 +50,9 @@ pub record Room (es ts ls : List ℕ) (l : Lead) (heavy light out : ℕ) : Type 
   pub outs : out ≤ blank-key
 
 module _ {ks fs : List ℕ} {many slot n : ℕ} {es₀ ts₀ ls₀ : List ℕ} (given : Lent ks fs many slot n es₀ ts₀ ls₀) {es ts ls : List ℕ} {l : Lead}
-    {end heavy light out kept i : ℕ}
-    (w : Passing ks fs many slot n es ts ls l end heavy light out kept i × (length es ≡ length es₀) × (length ts ≡ length ts₀) × (length ls ≡ length ls₀)) where
-  it : Pass (given .of) fs n es ts ls l end heavy light out kept i
+    {end heavy light out edge i : ℕ}
+    (w : Passing ks fs many slot n es ts ls l end heavy light out edge i × (length es ≡ length es₀) × (length ts ≡ length ts₀) × (length ls ≡ length ls₀)) where
+  it : Pass (given .of) fs n es ts ls l end heavy light out edge i
   it = w .0 (given .of) (given .given)
 
   pub read-there : i ≤ many
@@ -60,8 +60,8 @@ module _ {ks fs : List ℕ} {many slot n : ℕ} {es₀ ts₀ ls₀ : List ℕ} (
 
   pub roomy : Room es ts ls l heavy light out
   roomy =
-      let k = room (given .of) ks fs many slot n (given .given) es ts ls l end heavy light out kept i it in
-      let f = fair-keys (given .of) ks fs many slot n (given .given) es ts ls l end heavy light out kept i it in
+      let k = room (given .of) ks fs many slot n (given .given) es ts ls l end heavy light out edge i it in
+      let f = fair-keys (given .of) ks fs many slot n (given .given) es ts ls l end heavy light out edge i it in
       record {
         ends = omega (arith, k, w .1, given .ends);
         tops = omega (arith, k, w .2, given .tops);
@@ -71,18 +71,7 @@ module _ {ks fs : List ℕ} {many slot n : ℕ} {es₀ ts₀ ls₀ : List ℕ} (
         outs = f .2;
       }
 
-  -- a key's due slot and its row's flag
-  pub due-late : 0 < i → {due : ℕ} → due ≡ due-of (getD ks (i - 1) 0) → slot ≤ due
-  due-late h d =
-      let k : i - 1 < many-due (given .of) n = omega (arith, h, it .now .seen) in
-      omega (
-        arith,
-        d,
-        due-told (given .of) ks fs many slot n (given .given) (i - 1) k,
-        placed-row (given .of) n (i - 1) k .1,
-        given .given .now,
-      )
-
+  -- a key's row has a flag
   pub row-there : 0 < i → {key row : ℕ} → key ≡ getD ks (i - 1) 0 → row ≡ row-of key → row < length fs
   row-there h e d =
       let k : i - 1 < many-due (given .of) n = omega (arith, h, it .now .seen) in
@@ -95,19 +84,19 @@ module _ {ks fs : List ℕ} {many slot n : ℕ} {es₀ ts₀ ls₀ : List ℕ} (
       )
 
   module _ (h : 0 < i) {due : ℕ} (d : due ≡ due-of (getD ks (i - 1) 0)) {es' ts' ls' : List ℕ} {l' : Lead} {end' heavy' light' : ℕ} where
-    pub goes-on : ends-here due slot kept end ≡ false → es' ≡ es → ts' ≡ ts → ls' ≡ ls → l' ≡ l → end' ≡ end → heavy' ≡ heavy → light' ≡ light →
-        Goes ks fs many slot n es₀ ts₀ ls₀ es' ts' ls' l' end' heavy' light' out kept (i - 1)
+    pub goes-on : ends-here due edge end ≡ false → es' ≡ es → ts' ≡ ts → ls' ≡ ls → l' ≡ l → end' ≡ end → heavy' ≡ heavy → light' ≡ light →
+        Goes ks fs many slot n es₀ ts₀ ls₀ es' ts' ls' l' end' heavy' light' out edge (i - 1)
     goes-on t e₁ e₂ e₃ e₄ e₅ e₆ e₇ =
         rw (e₁, e₂, e₃, e₄, e₅, e₆, e₇)
-        (record { meeting = passing-on ks fs many slot n es ts ls l end heavy light out kept i (w .0) h due d t; ends = w .1; tops = w .2; lows = w .3 })
+        (record { meeting = passing-on ks fs many slot n es ts ls l end heavy light out edge i (w .0) h due d t; ends = w .1; tops = w .2; lows = w .3 })
 
-    pub goes-new : ends-here due slot kept end ≡ true → es' ≡ set es (l .count) end → ts' ≡ set ts (l .count) heavy →
+    pub goes-new : ends-here due edge end ≡ true → es' ≡ set es (l .count) end → ts' ≡ set ts (l .count) heavy →
         ls' ≡ set ls (l .count) (weight-of light) → l' ≡ closed l heavy out → end' ≡ due → heavy' ≡ blank-key → light' ≡ 0 →
-        Goes ks fs many slot n es₀ ts₀ ls₀ es' ts' ls' l' end' heavy' light' out kept (i - 1)
+        Goes ks fs many slot n es₀ ts₀ ls₀ es' ts' ls' l' end' heavy' light' out edge (i - 1)
     goes-new t e₁ e₂ e₃ e₄ e₅ e₆ e₇ =
         rw (e₁, e₂, e₃, e₄, e₅, e₆, e₇)
         (record {
-          meeting = passing-new ks fs many slot n es ts ls l end heavy light out kept i (w .0) h due d t (roomy .ends) (roomy .tops) (roomy .lows);
+          meeting = passing-new ks fs many slot n es ts ls l end heavy light out edge i (w .0) h due d t (roomy .ends) (roomy .tops) (roomy .lows);
           ends = length-set es (l .count) end ∙ w .1;
           tops = length-set ts (l .count) heavy ∙ w .2;
           lows = length-set ls (l .count) (weight-of light) ∙ w .3;
@@ -118,21 +107,21 @@ module _ {ks fs : List ℕ} {many slot n : ℕ} {es₀ ts₀ ls₀ : List ℕ} (
       ls' ≡ set ls (l .count) (weight-of light) → Segments-say ks fs many slot n es' ts' ls' l'
   says z e₁ e₂ e₃ e₄ r g =
       rw (e₁, e₂, e₃, e₄)
-      (pass-last r ks fs many slot n g es ts ls l end heavy light out kept (subst (Pass r fs n es ts ls l end heavy light out kept) z (w .0 r g))
+      (pass-last r ks fs many slot n g es ts ls l end heavy light out edge (subst (Pass r fs n es ts ls l end heavy light out edge) z (w .0 r g))
       (roomy .ends) (roomy .tops) (roomy .lows))
 
 -- ONE PLACE FURTHER
-module _ {ks fs : List ℕ} {many slot n : ℕ} {es₀ ts₀ ls₀ es ts ls : List ℕ} {l : Lead} {end heavy light out kept p : ℕ}
-    (w : Goes ks fs many slot n es₀ ts₀ ls₀ es ts ls l end heavy light out kept p) {key row : ℕ} (k : key ≡ getD ks p 0)
+module _ {ks fs : List ℕ} {many slot n : ℕ} {es₀ ts₀ ls₀ es ts ls : List ℕ} {l : Lead} {end heavy light out edge p : ℕ}
+    (w : Goes ks fs many slot n es₀ ts₀ ls₀ es ts ls l end heavy light out edge p) {key row : ℕ} (k : key ≡ getD ks p 0)
     (j : row ≡ row-of key) where
-  pub kept-further : getD fs row 0 ≡ 1 → {heavy' light' kept' : ℕ} → heavy' ≡ min heavy key → light' ≡ max light key → kept' ≡ kept - 1 →
-      Passing ks fs many slot n es ts ls l end heavy' light' out kept' p
+  pub kept-further : getD fs row 0 ≡ 1 → {heavy' light' edge' : ℕ} → heavy' ≡ min heavy key → light' ≡ max light key → edge' ≡ edge - 1 →
+      Passing ks fs many slot n es ts ls l end heavy' light' out edge' p
   kept-further y e₁ e₂ e₃ =
-      rw (e₁, e₂, e₃) (passing-kept ks fs many slot n es ts ls l end heavy light out kept p (w .meeting) key row (getD fs row 0) k j refl y)
+      rw (e₁, e₂, e₃) (passing-kept ks fs many slot n es ts ls l end heavy light out edge p (w .meeting) key row (getD fs row 0) k j refl y)
 
-  pub left-further : (getD fs row 0 ≡ 1 → ⊥) → {out' : ℕ} → out' ≡ min out key → Passing ks fs many slot n es ts ls l end heavy light out' kept p
-  left-further y e = rw (e) (passing-left ks fs many slot n es ts ls l end heavy light out kept p (w .meeting) key row (getD fs row 0) k j refl y)
+  pub left-further : (getD fs row 0 ≡ 1 → ⊥) → {out' : ℕ} → out' ≡ min out key → Passing ks fs many slot n es ts ls l end heavy light out' edge p
+  left-further y e = rw (e) (passing-left ks fs many slot n es ts ls l end heavy light out edge p (w .meeting) key row (getD fs row 0) k j refl y)
 
-  pub some-further : Lent ks fs many slot n es₀ ts₀ ls₀ → getD fs row 0 ≡ 1 → 1 ≤ kept
+  pub some-further : Lent ks fs many slot n es₀ ts₀ ls₀ → getD fs row 0 ≡ 1 → 1 ≤ edge
   some-further g y =
-      passing-some ks fs many slot n es ts ls l end heavy light out kept p (w .meeting) key row (getD fs row 0) k j refl (g .of) (g .given) y
+      passing-some ks fs many slot n es ts ls l end heavy light out edge p (w .meeting) key row (getD fs row 0) k j refl (g .of) (g .given) y

@@ -3,7 +3,7 @@ use mathlib.Core.Path.{_≡_}
 use mathlib.Core.Logic.{_⊎_}
 use mathlib.Core.Bool.{Bool, false, cond}
 use mathlib.Core.List.{List, [], _∷_}
-use Prim.Native.Nat.{ℕ, suc, _+_, _-_, _≤_, _<_}
+use Prim.Native.Nat.{ℕ, suc, _+_, _≤_, _<_}
 use lib.Dec.{leb, ltb, eqb}
 use lib.ListN.{length, getD}
 use Rattle.rules.specs.Rows.{Row, Round, blank}
@@ -63,8 +63,8 @@ abbrev pub Segments-say : (ks fs : List ℕ) (many slot n : ℕ) (es ts ls : Lis
 Segments-say ks fs many slot n es ts ls l = (r : Round) → Given r ks fs many slot n → Segmented r n es ts ls l
 
 -- A NEW SEGMENT ENDS in a due slot: the plan's rows so far fill every slot by it, and it is not the open one's end
-abbrev pub ends-here : (due slot kept end : ℕ) → Bool
-ends-here d s k e = cond (eqb d e) false (ltb (d - s) k)
+abbrev pub ends-here : (due edge end : ℕ) → Bool
+ends-here d s e = cond (eqb d e) false (ltb d s)
 
 -- ONE SEGMENT CLOSED: the lead after it
 abbrev pub closed : Lead → (heavy other : ℕ) → Lead

@@ -72,14 +72,13 @@ fn close_segment(
 }
 
 // The plan's rows so far fill every slot by this one: a segment ends here, unless it is the open one's end.
-fn ends_here(due: u32, slot: u32, kept: usize, end: u32) -> bool
-    requires { ⌜ slot ≤ due ⌝ }
-    ensures { λ r. ⌜ r ≡ ends-here due slot kept end ⌝ }
+fn ends_here(due: u32, edge: usize, end: u32) -> bool
+    ensures { λ r. ⌜ r ≡ ends-here due edge end ⌝ }
 {
     if due == end {
         return false;
     }
-    ((due - slot) as usize) < kept
+    (due as usize) < edge
 }
 
 // From the last key back: a segment opens at its end and closes where an earlier one ends.
@@ -103,17 +102,19 @@ pub fn segments_of(
         segment: 0,
         other: BLANK,
     };
-    let mut end = slot.0 + free as u32 - 1;
+    let current = slot.0;
+    let mut end = current + free as u32 - 1;
     let mut heavy = BLANK;
     let mut light: u64 = 0;
     let mut out = BLANK;
-    let mut kept = free;
+    // the plan's rows still to come would fill each slot before it
+    let mut edge = current as usize + free;
     let mut i = many;
     while 0 < i {
         i -= 1;
         let key = keys[i];
         let due = due_of(key);
-        if ends_here(due, slot.0, kept, end) {
+        if ends_here(due, edge, end) {
             lead = close_segment(ends, tops, lows, lead, end, heavy, light, out);
             end = due;
             heavy = BLANK;
@@ -122,7 +123,7 @@ pub fn segments_of(
         if flags[row_of(key)] == 1 {
             heavy = lesser(heavy, key);
             light = larger(light, key);
-            kept -= 1;
+            edge -= 1;
         } else {
             out = lesser(out, key);
         }

@@ -5,16 +5,10 @@ use Rattle.segments.proofs.ends_here.Statement.{statement}
 use Rattle.segments.proofs.ends_here.Tie as tie
 
 returns : tie.Need-returns
-returns c = let s = c .before .args in ends-not (s .due) (s .slot) (s .kept) (s .end) (search needs)
-
-sub-result : tie.Need-sub-result
-sub-result c = search needs
-
-cast-result : tie.Need-cast-result
-cast-result c = search needs
+returns c = let s = c .before .args in ends-not (s .due) (s .edge) (s .end) (search needs)
 
 returns-2 : tie.Need-returns-2
-returns-2 c = let s = c .before .args in cc (ends-by (s .due) (s .slot) (s .kept) (s .end) (search needs))
+returns-2 c = let s = c .before .args in cc (ends-by (s .due) (s .edge) (s .end) (search needs))
 
 pub ends-here-spec : {M : Type 1} → statement M
-ends-here-spec = tie.close (tie.spec returns sub-result cast-result returns-2)
+ends-here-spec = tie.close (tie.spec returns returns-2)

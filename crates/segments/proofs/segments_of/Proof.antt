@@ -6,27 +6,27 @@ use Prim.Native.Nat.{_-_}
 use native.Mathlib.Omega.{arith}
 use lib.ListN.{length}
 use Rattle.segments.proofs.PassLaws.{Passing}
-use Rattle.segments.proofs.TurnLaws.{bounds, passing-first, Goes, read-there, roomy, due-late, row-there, goes-on, goes-new, says, kept-further, left-further, some-further}
+use Rattle.segments.proofs.TurnLaws.{bounds, passing-first, Goes, read-there, roomy, row-there, goes-on, goes-new, says, kept-further, left-further, some-further}
 use Rattle.segments.proofs.segments_of.Statement.{statement}
 use Rattle.segments.proofs.segments_of.Tie as tie
 
 abbrev Inv-loop : tie.InvT-loop
-Inv-loop keys flags many slot free ends₀ tops₀ lows₀ lead₀ end₀ heavy₀ light₀ out₀ kept₀ i₀ ends tops lows lead end heavy light out kept i =
-    Passing keys flags many (slot .0) free ends tops lows lead end heavy light out kept i × (length ends ≡ length ends₀) × (length tops ≡ length tops₀)
+Inv-loop keys flags many free ends₀ tops₀ lows₀ lead₀ current end₀ heavy₀ light₀ out₀ edge₀ i₀ ends tops lows lead end heavy light out edge i =
+    Passing keys flags many current free ends tops lows lead end heavy light out edge i × (length ends ≡ length ends₀) × (length tops ≡ length tops₀)
     × (length lows ≡ length lows₀)
 
 abbrev μ-loop : tie.MeasureT-loop
-μ-loop keys flags many slot free ends₀ tops₀ lows₀ lead₀ end₀ heavy₀ light₀ out₀ kept₀ i₀ ends tops lows lead end heavy light out kept i = i
+μ-loop keys flags many free ends₀ tops₀ lows₀ lead₀ current end₀ heavy₀ light₀ out₀ edge₀ i₀ ends tops lows lead end heavy light out edge i = i
 
 -- where the ways meet after a segment may have closed
 goes : (c : tie.Joined1 Inv-loop μ-loop) →
-    let s = c .before .before .before .before .before .before .before .before .before .before .before .before .args in
+    let s = c .before .before .before .before .before .before .before .before .before .before .before .args in
     let v = c .before .before .before .before .before .loop in
     let u = c .if1 in
     Goes (s .keys .now) (s .flags .now) (s .many) (s .slot .0) (s .free) (s .ends .now) (s .tops .now) (s .lows .now) (u .ends) (u .tops) (u .lows)
-    (u .lead) (u .end) (u .heavy) (u .light) (v .out) (v .kept) (v .i - 1)
+    (u .lead) (u .end) (u .heavy) (u .light) (v .out) (v .edge) (v .i - 1)
 goes c =
-    let p = c .before .before .before .before .before .before .before .before .before .before .before .before .pre in
+    let p = c .before .before .before .before .before .before .before .before .before .before .before .pre in
     let v = c .before .before .before .before .before .loop in
     let u = c .if1 in
     let d = c .before .before .due-of in
@@ -45,13 +45,21 @@ cast-end c =
 
 add-end : tie.Need-add-end Inv-loop μ-loop
 add-end c =
-    let k = bounds (c .before .before .before .before .before .before .pre) in
+    let k = bounds (c .before .before .before .before .before .pre) in
     omega (arith, k .some, k .early)
 
 sub-end : tie.Need-sub-end Inv-loop μ-loop
 sub-end c =
-    let k = bounds (c .before .before .before .before .before .before .pre) in
+    let k = bounds (c .before .before .before .before .before .pre) in
     omega (arith, k .some, k .early)
+
+cast-edge : tie.Need-cast-edge Inv-loop μ-loop
+cast-edge c = search needs
+
+add-edge : tie.Need-add-edge Inv-loop μ-loop
+add-edge c =
+    let k = bounds (c .before .before .before .before .before .pre) in
+    omega (arith, k .early)
 
 loop-holds : tie.Need-loop-holds Inv-loop μ-loop
 loop-holds c =
@@ -62,11 +70,11 @@ sub-i c = search needs
 
 mul-key : tie.Need-mul-key Inv-loop μ-loop
 mul-key c =
-    let p = c .before .before .before .before .before .before .before .before .pre in
+    let p = c .before .before .before .before .before .before .before .pre in
     let v = c .before .loop in
     omega (
       arith,
-      c .before .before .before .before .before .before .before .before .good .0 .1,
+      c .before .before .before .before .before .before .before .good .0 .1,
       bounds p .there,
       read-there p (v .inv),
       c .loop-test .taken,
@@ -74,7 +82,7 @@ mul-key c =
 
 shared-slice-read-key : tie.Need-shared-slice-read-key Inv-loop μ-loop
 shared-slice-read-key c =
-    let p = c .before .before .before .before .before .before .before .before .before .pre in
+    let p = c .before .before .before .before .before .before .before .before .pre in
     let v = c .before .before .loop in
     omega (arith, bounds p .there, read-there p (v .inv), c .before .loop-test .taken)
 
@@ -82,14 +90,11 @@ due-of-requires : tie.Need-due-of-requires Inv-loop μ-loop
 due-of-requires c κs = search needs
 
 ends-here-requires : tie.Need-ends-here-requires Inv-loop μ-loop
-ends-here-requires c κs =
-    let p = c .before .before .before .before .before .before .before .before .before .before .pre in
-    let v = c .before .before .before .loop in
-    due-late p (v .inv) (c .before .before .loop-test .taken) (c .due-of .ensures)
+ends-here-requires c κs = search needs
 
 close-segment-requires : tie.Need-close-segment-requires Inv-loop μ-loop
 close-segment-requires c κs =
-    let p = c .before .before .before .before .before .before .before .before .before .before .before .before .before .before .before .pre in
+    let p = c .before .before .before .before .before .before .before .before .before .before .before .before .before .before .pre in
     let v = c .before .before .before .before .before .before .before .before .loop in
     let k = roomy p (v .inv) in (
       k .ends,
@@ -105,7 +110,7 @@ row-of-requires c κs = search needs
 
 shared-slice-read-if2 : tie.Need-shared-slice-read-if2 Inv-loop μ-loop
 shared-slice-read-if2 c =
-    let p = c .before .before .before .before .before .before .before .before .before .before .before .before .before .before .pre in
+    let p = c .before .before .before .before .before .before .before .before .before .before .before .before .before .pre in
     let v = c .before .before .before .before .before .before .before .loop in
     row-there p (v .inv) (c .before .before .before .before .before .before .loop-test .taken) refl (c .before .row-of .ensures)
 
@@ -115,10 +120,10 @@ lesser-requires c κs = search needs
 larger-requires : tie.Need-larger-requires Inv-loop μ-loop
 larger-requires c κs = search needs
 
-sub-kept : tie.Need-sub-kept Inv-loop μ-loop
-sub-kept c =
+sub-edge : tie.Need-sub-edge Inv-loop μ-loop
+sub-edge c =
     let g = goes (c .before .before .before .before .before) in
-    let p = c .before .before .before .before .before .before .before .before .before .before .before .before .before .before .before .before .before .pre in
+    let p = c .before .before .before .before .before .before .before .before .before .before .before .before .before .before .before .before .pre in
     omega (arith, some-further g refl (c .before .before .before .before .row-of .ensures) p (c .before .before .if2 .taken))
 
 loop-less : tie.Need-loop-less Inv-loop μ-loop
@@ -153,7 +158,7 @@ loop-again-2 c =
 
 close-segment-requires-2 : tie.Need-close-segment-requires-2 Inv-loop μ-loop
 close-segment-requires-2 c κs =
-    let p = c .before .before .before .before .before .before .before .before .before .before .before .pre in
+    let p = c .before .before .before .before .before .before .before .before .before .before .pre in
     let v = c .before .before .before .before .loop in
     let k = roomy p (v .inv) in (
       k .ends,
@@ -175,7 +180,7 @@ same-length-3 c = search (needs, c .before .before .before .before .before .befo
 
 returns : tie.Need-returns Inv-loop μ-loop
 returns c =
-    let p = c .before .before .before .before .before .before .before .before .before .before .before .before .before .before .before .before .before .before .pre in
+    let p = c .before .before .before .before .before .before .before .before .before .before .before .before .before .before .before .before .before .pre in
     let v = c .before .before .before .before .before .before .before .before .before .before .before .loop in
     let d = c .before .before .before .before .before .before .close-segment2 in
     let t = c .before .before .before .before .before .before .before .before .before .before .loop-test .left in
@@ -191,6 +196,8 @@ segments-of-spec =
     cast-end
     add-end
     sub-end
+    cast-edge
+    add-edge
     loop-holds
     sub-i
     mul-key
@@ -202,7 +209,7 @@ segments-of-spec =
     shared-slice-read-if2
     lesser-requires
     larger-requires
-    sub-kept
+    sub-edge
     loop-less
     loop-again
     lesser-requires-2

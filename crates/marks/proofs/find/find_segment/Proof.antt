@@ -2,19 +2,20 @@
 use mathlib.Core.Path.{refl}
 use Prim.Native.Nat.{_-_, _≤_}
 use native.Mathlib.Omega.{arith}
-use Rattle.marks.proofs.FindLaws.{Pass, pass-start, pass-out, pass-on, pass-cut, pass-found, pass-end, flag-there, edge-fits}
+use Rattle.marks.proofs.FindLaws.{Pass, Begun, pass-start, begun-start, pass-out, pass-on, tight, pass-cut, pass-found, finds, pass-end, flag-there, edge-fits}
 use borrow.Author.Needs.{needs}
 use Rattle.marks.proofs.find.find_segment.Statement.{statement}
 use Rattle.marks.proofs.find.find_segment.Tie as tie
 
 abbrev Inv-loop : tie.InvT-loop
-Inv-loop keys flags many slot asked first₀ edge₀ low₀ p₀ first edge low p = (p ≤ many) × Pass keys flags many slot asked first edge low p
+Inv-loop keys flags many slot asked first₀ edge₀ low₀ p₀ first edge low p =
+    (p ≤ many) × Pass keys flags many slot asked first edge low p × Begun keys flags many slot asked first
 
 abbrev μ-loop : tie.MeasureT-loop
 μ-loop keys flags many slot asked first₀ edge₀ low₀ p₀ first edge low p = many - p
 
 loop-holds : tie.Need-loop-holds Inv-loop μ-loop
-loop-holds c = (search needs, λ r n a. pass-start r _ _ _ _ n _ a _ _ refl refl)
+loop-holds c = (search needs, λ r n a. pass-start r _ _ _ _ n _ a _ _ refl refl, λ r n a. begun-start r _ _ _ _ n _ a _ refl)
 
 mul-key : tie.Need-mul-key Inv-loop μ-loop
 mul-key c = search needs
@@ -45,9 +46,10 @@ returns c =
     let turn = c .before .before .before .before .before .before .before .before in
     let kept = c .before .before .before .before in
     λ r n a.
-    pass-found r _ _ _ _ n _ a _ _ _ _ _ (turn .loop-test .taken) refl (turn .before .loop .inv .1 r n a) _ (kept .before .before .row-of .ensures)
+    finds r _ _ _ _ n _ a _ _ _ _ _ (turn .loop-test .taken) refl (turn .before .loop .inv .1 r n a) _ (turn .before .loop .inv .2 r n a)
+    (pass-found r _ _ _ _ n _ a _ _ _ _ _ (turn .loop-test .taken) refl (turn .before .loop .inv .1 r n a) _ (kept .before .before .row-of .ensures)
     (kept .if1 .taken) _ _ (c .before .before .due-of .ensures) (omega (arith, c .before .if2 .taken)) (omega (arith, c .if3 .taken))
-    (omega (arith, c .before .before .before .larger .ensures))
+    (omega (arith, c .before .before .before .larger .ensures)))
 
 loop-less : tie.Need-loop-less Inv-loop μ-loop
 loop-less c = search needs
@@ -59,8 +61,10 @@ loop-again c =
       omega (arith, turn .loop-test .taken),
       λ r n a.
           pass-cut r _ _ _ _ n _ a _ _ _ _ _ (turn .loop-test .taken) refl (turn .before .loop .inv .1 r n a) _ (kept .before .before .row-of .ensures)
-          (kept .if1 .taken) _ _ (c .before .before .due-of .ensures) (omega (arith, c .before .if2 .taken)) (omega (arith, c .if3 .left))
-          (omega (arith, c .before .before .before .larger .ensures)),
+          (kept .if1 .taken) _ (omega (arith, c .if3 .left)) (omega (arith, c .before .before .before .larger .ensures)),
+      λ r n a.
+          tight r _ _ _ _ n _ a _ _ _ _ _ (turn .loop-test .taken) refl (turn .before .loop .inv .1 r n a) _ (kept .before .before .row-of .ensures)
+          (kept .if1 .taken) _ (c .before .before .due-of .ensures) (omega (arith, c .before .if2 .taken)) .1,
     )
 
 loop-less-2 : tie.Need-loop-less-2 Inv-loop μ-loop
@@ -74,6 +78,7 @@ loop-again-2 c =
       λ r n a.
           pass-on r _ _ _ _ n _ a _ _ _ _ _ (turn .loop-test .taken) refl (turn .before .loop .inv .1 r n a) _ (kept .before .before .row-of .ensures)
           (kept .if1 .taken) _ _ (c .before .due-of .ensures) (omega (arith, c .if2 .left)) (omega (arith, c .before .before .larger .ensures)),
+      turn .before .loop .inv .2,
     )
 
 loop-less-3 : tie.Need-loop-less-3 Inv-loop μ-loop
@@ -85,6 +90,7 @@ loop-again-3 c =
       omega (arith, turn .loop-test .taken),
       λ r n a.
           pass-out r _ _ _ _ n _ a _ _ _ _ _ (turn .loop-test .taken) refl (turn .before .loop .inv .1 r n a) _ (c .before .before .row-of .ensures) (c .if1 .left),
+      turn .before .loop .inv .2,
     )
 
 returns-2 : tie.Need-returns-2 Inv-loop μ-loop

@@ -92,7 +92,7 @@ CONTRACTS = {
     "round": "`judge` and `scan` (`Judge-says`, `Scan-says`): a table is sound, or refused with 2 or 3, and its rows by bucket",
     "picture": "the laws of the segments as a value, held to small rounds by hand",
     "keys": "`key_of` and `order_key_of` (`heavier-key`, `canonical-key`): one number for a row, in either order",
-    "buckets": "`reach_of` (`Reaches`): how far rows fill every slot, and how many are left out",
+    "buckets": "`reach_of` (`Reaches`): how far rows fill every slot, and how many are left out; `stretch_of` (`Stretches`): a bucket's segment",
     "heap": "`rise` and `sink` (`Grown`, `Replaced`): the lightest row's key on top",
     "plan": "`plan_of` (`Plans`): the near rows' keys in due order, the flags of the plan's rows, what is lost, the heaviest far row",
     "segments": "`segments_of` (`Segments-say`): each near segment's end, heaviest and lightest, and the one whose heaviest row goes",

@@ -1,14 +1,13 @@
 -- The level, bucket by bucket: its greatest so far tells the sweep over the buckets so far.
-use mathlib.Core.Path.{_≡_, refl, ap}
+use mathlib.Core.Path.{_≡_, refl, ap, _∙_}
 use mathlib.Core.Logic.{inl, inr}
 use mathlib.Core.List.{List}
 use Prim.Native.Nat.{ℕ, zero, suc, _+_, _*_, _-_, _/_, _%_, _≤_, _<_, max}
 use native.Mathlib.Omega.{arith}
-use native.Mathlib.Numerals.{add-one}
 use lib.ListN.{getD}
 use Rattle.theory.specs.Tests.{leb?, eqb?}
 use Rattle.theory.specs.Count.{Sweep}
-use Rattle.buckets.specs.Reach.{upto, Multiples, Reach-says}
+use Rattle.buckets.specs.Reach.{upto, passed, Levels, Multiples, Reach-says}
 use Rattle.buckets.specs.declared.Reach.{Reach}
 
 -- THE SWEEP FORWARD: one more bucket brings more rows too many, or as many as ever
@@ -54,22 +53,13 @@ upto-by cs a (suc b) h = elim (leb? a b) [
   | inr d ↦ let e : a ≡ suc b = omega (arith, d .1, h) in omega (arith, ap (λ (y : ℕ). upto y cs) e)
 ]
 
--- THE LEVEL after s buckets, and the greatest so far
-pub record Levels (cs : List ℕ) (top s l m : ℕ) : Type 0 where
-  pub counts : Multiples cs top
-  pub by : s ≤ suc top
-  pub level : l + 2048 * s ≡ 4194304 + 2048 * upto s cs + s
-  pub over : ℕ
-  pub free : ℕ
-  pub most : m ≡ 4194304 + 2048 * over + free
-  pub sweep : Sweep (λ v. upto v cs) s 0 over free
-
-pub level-start : (cs : List ℕ) (top x : ℕ) → Multiples cs x → top ≡ x → Levels cs top 0 4194304 4194304
-level-start cs top x m e =
+-- SO FAR
+pub level-start : (cs : List ℕ) (top : ℕ) → Multiples cs top → Levels cs top 0 0 0
+level-start cs top m =
     record {
-      counts = rw e m;
+      counts = m;
       by = omega arith;
-      level = refl;
+      sum = refl;
       over = 0;
       free = 0;
       most = refl;
@@ -83,51 +73,78 @@ level-start cs top x m e =
     }
 
 module _ (cs : List ℕ) (top s l m : ℕ) (w : Levels cs top s l m) where
-  pub most-from : (4194304 ≤ m) × (m ≤ 8388608)
-  most-from = (
+  -- nothing overflows
+  pub most-fits : (2047 * s ≤ m) × (m ≤ 2097152 + 2048 * s)
+  most-fits = (
     omega (arith, w .most),
-    omega (arith, w .most, w .sweep .level, w .sweep .high, w .by, w .counts .few, w .counts .small, upto-by cs (w .free) (suc top) (omega (arith, w .sweep .high, w .by))),
+    omega (arith, w .most, w .sweep .level, w .sweep .high, w .by, w .counts .few, upto-by cs (w .free) (suc top) (omega (arith, w .sweep .high, w .by))),
   )
 
-  -- it neither overflows nor falls below 0
-  pub level-fits : s ≤ top → (l + getD cs s 0 ≤ 8388608) × (2047 ≤ l + getD cs s 0)
-  level-fits h = (
-    omega (arith, w .level, w .counts .count s h, w .counts .few, upto-by cs (suc s) (suc top) (omega (arith, h))),
-    omega (arith, w .level, w .counts .small, h),
-  )
+  pub sum-fits : s ≤ top → l + getD cs s 0 ≤ 2097152
+  sum-fits h = omega (arith, w .sum, w .counts .count s h, w .counts .few, upto-by cs (suc s) (suc top) (omega (arith, h)))
 
-  pub level-step : s ≤ top → {l2 n : ℕ} → l2 ≡ l + getD cs s 0 - 2047 → n ≡ max m l2 → Levels cs top (s + 1) l2 n
-  level-step h {l2} {n} q e =
+  -- one bucket
+  pub level-step : s ≤ top → {t l2 n : ℕ} → t ≡ suc s → l2 ≡ l + getD cs s 0 → n ≡ passed m l2 → Levels cs top t l2 n
+  level-step h {t} {l2} {n} p q e =
       let z = w .sweep .level in
       let c = w .counts .count s h in
-      let a = level-fits h .1 in
-      let b = w .counts .small in
-      let p = add-one s in
       rw p (elim (leb? (suc s + w .over) (upto (suc s) cs)) [
         | inl d ↦ record {
           counts = w .counts;
           by = omega (arith, h);
-          level = omega (arith, q, w .level, c, a);
+          sum = omega (arith, q, w .sum, c);
           over = upto (suc s) cs - suc s;
           free = suc s;
-          most = omega (arith, e, q, w .level, w .most, c, a, d .1, w .sweep .high);
+          most = omega (arith, e, q, w .sum, w .most, c, d .1, w .sweep .high);
           sweep = sweep-rises (λ v. upto v cs) s (w .over) (w .free) (w .sweep) refl (omega (arith, z)) (d .1);
         }
         | inr d ↦ record {
           counts = w .counts;
           by = omega (arith, h);
-          level = omega (arith, q, w .level, c, a);
+          sum = omega (arith, q, w .sum, c);
           over = w .over;
           free = w .free;
-          most = omega (arith, e, q, w .level, w .most, c, a, d .1, h, b);
+          most = omega (arith, e, q, w .sum, w .most, c, d .1);
           sweep = sweep-falls (λ v. upto v cs) s (w .over) (w .free) (w .sweep) (omega (arith, z)) (d .1);
         }
       ])
 
   -- THE END: quotient and remainder
-  pub level-end : {x : ℕ} → top ≡ x → top < s → {y : Reach} → y .free ≡ (m - 4194304) % 2048 → y .over ≡ (m - 4194304) / 2048 → Reach-says cs x y
+  pub level-end : {x : ℕ} → top ≡ x → top < s → {y : Reach} → y .free ≡ (m - 2047 * s) % 2048 → y .over ≡ (m - 2047 * s) / 2048 → Reach-says cs x y
   level-end {x} e h {y} f o =
       let a : y .free ≡ w .free = omega (arith, f, w .most, w .sweep .high, w .by, w .counts .small) in
       let b : y .over ≡ w .over = omega (arith, o, w .most, w .sweep .high, w .by, w .counts .small) in
       let d : s ≡ suc x = omega (arith, e, h, w .by) in
       record { sweep = rw (a, b) (rw d at (w .sweep)) }
+
+-- FOUR BUCKETS at once
+pass-two : (m a b : ℕ) → passed (passed m a) (a + b) ≡ max (m + 4094) (a + max b 2047)
+pass-two m a b = omega arith
+
+pub pass-four : (m a b c d : ℕ) →
+    passed (passed (passed (passed m a) (a + b)) c) (c + d) ≡ max (m + 8188) (max (a + max b 2047 + 4094) (c + max d 2047))
+pass-four m a b c d =
+    pass-two (passed (passed m a) (a + b)) c d
+    ∙ ap (λ (x : ℕ). max (x + 4094) (c + max d 2047)) (pass-two m a b)
+    ∙ raised (a + max b 2047) (c + max d 2047)
+  where
+    raised : (x y : ℕ) → max (max (m + 4094) x + 4094) y ≡ max (m + 8188) (max (x + 4094) y)
+    raised x y = omega arith
+
+-- one after the other
+module _ (cs : List ℕ) (top s l m : ℕ) (w : Levels cs top s l m) (h : s + 2 < top) where
+  three : {a b c : ℕ} → a ≡ l + getD cs s 0 → b ≡ getD cs (s + 1) 0 → c ≡ a + b + getD cs (s + 2) 0 →
+      Levels cs top (s + 3) c (passed (passed (passed m a) (a + b)) c)
+  three {a} {b} {c} p q r =
+      let one : Levels cs top (s + 1) a (passed m a) = level-step _ _ _ _ _ w (omega (arith, h)) (omega arith) p refl in
+      let two : Levels cs top (s + 2) (a + b) (passed (passed m a) (a + b)) =
+      level-step _ _ _ _ _ one (omega (arith, h)) (omega arith) (omega (arith, q)) refl in
+      level-step _ _ _ _ _ two (omega (arith, h)) (omega arith) r refl
+
+  pub turn-fits : l + getD cs s 0 + getD cs (s + 1) 0 + getD cs (s + 2) 0 + getD cs (s + 3) 0 ≤ 2097152
+  turn-fits = sum-fits _ _ _ _ _ (three refl refl refl) (omega (arith, h))
+
+  pub level-turn : {a b c d n : ℕ} → a ≡ l + getD cs s 0 → b ≡ getD cs (s + 1) 0 → c ≡ a + b + getD cs (s + 2) 0 → d ≡ getD cs (s + 3) 0 →
+      n ≡ passed (passed (passed (passed m a) (a + b)) c) (c + d) → Levels cs top (s + 4) (c + d) n
+  level-turn {a} {b} {c} {d} p q r t e =
+      level-step _ _ _ _ _ (three p q r) (omega (arith, h)) (omega arith) (omega (arith, t)) e

@@ -2,7 +2,7 @@
 use mathlib.Core.Path.{_≡_}
 use mathlib.Core.Bool.{true}
 use mathlib.Core.List.{List}
-use Prim.Native.Nat.{ℕ, zero, suc, _+_, _*_, _-_, _/_, _≤_, _<_, min}
+use Prim.Native.Nat.{ℕ, zero, suc, _+_, _*_, _-_, _/_, _≤_, _<_, min, max}
 use lib.ListN.{length, getD}
 use Rattle.rules.specs.Rows.{Row, Round}
 use Rattle.rules.specs.Plan.{feasible}
@@ -32,6 +32,20 @@ pub record Multiples (cs : List ℕ) (top : ℕ) : Type 0 where
   pub small : top ≤ 1024
   pub count : (v : ℕ) → v ≤ top → getD cs v 0 ≡ 2048 * (getD cs v 0 / 2048)
   pub few : upto (suc top) cs ≤ 1024
+
+-- a bucket takes 2,047 from the greatest level, unless the level behind it is greater
+abbrev pub passed : (most level : ℕ) → ℕ
+passed m l = max (m + 2047) l
+
+-- SO FAR: 2,048 for each row in the first s buckets, and the greatest level, raised by what they took
+pub record Levels (cs : List ℕ) (top s l m : ℕ) : Type 0 where
+  pub counts : Multiples cs top
+  pub by : s ≤ suc top
+  pub sum : l ≡ 2048 * upto s cs
+  pub over : ℕ
+  pub free : ℕ
+  pub most : m ≡ 2048 * over + free + 2047 * s
+  pub sweep : Sweep (λ v. upto v cs) s 0 over free
 
 -- what the counts alone say
 pub record Reach-says (cs : List ℕ) (top : ℕ) (x : Reach) : Type 0 where

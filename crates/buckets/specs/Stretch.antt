@@ -18,6 +18,18 @@ pub record Full (cs : List ℕ) (free : ℕ) : Type 0 where
   pub fits : (v : ℕ) → v ≤ free → upto v cs ≤ 2048 * v
   pub full : upto free cs ≡ 2048 * free
 
+-- by no bucket up to b more rows than buckets
+pub record Fits (cs : List ℕ) (b : ℕ) : Type 0 where
+  pub enough : b ≤ length cs
+  pub small : b ≤ 1025
+  pub fits : (v : ℕ) → v ≤ b → upto v cs ≤ 2048 * v
+
+-- the last beginning up to bucket b
+pub record Begins (cs : List ℕ) (b x : ℕ) : Type 0 where
+  pub from : x ≤ b
+  pub edge : upto x cs ≡ 2048 * x
+  pub none : (v : ℕ) → x < v → v ≤ b → upto v cs ≢ 2048 * v
+
 -- THE SEGMENT of bucket b, before free
 pub record Stretches (cs : List ℕ) (free b : ℕ) (x : Stretch) : Type 0 where
   pub from : x .first ≤ b

@@ -1,34 +1,39 @@
 -- `buckets::reach_of` meets its contract: the loop is `Levels`.
+use mathlib.Core.Path.{refl}
 use Prim.Native.Nat.{suc, _-_}
 use borrow.Author.Needs.{needs}
 use native.Mathlib.Omega.{arith}
-use Rattle.buckets.proofs.LevelLaws.{Levels, level-start, level-fits, level-step, level-end, most-from}
+use Rattle.buckets.specs.Reach.{Levels}
+use Rattle.buckets.proofs.LevelLaws.{most-fits, sum-fits, level-step, level-end}
 use Rattle.buckets.proofs.reach_of.Statement.{statement}
 use Rattle.buckets.proofs.reach_of.Tie as tie
 
 abbrev Inv-loop : tie.InvT-loop
-Inv-loop counts top level₀ most₀ s₀ level most s = Levels counts top s level most
+Inv-loop counts top sum₀ most₀ s₀ sum most s = Levels counts top s sum most
 
 abbrev μ-loop : tie.MeasureT-loop
-μ-loop counts top level₀ most₀ s₀ level most s = suc top - s
+μ-loop counts top sum₀ most₀ s₀ sum most s = suc top - s
 
 top-of-requires : tie.Need-top-of-requires Inv-loop μ-loop
 top-of-requires c κs = search needs
 
+by-fours-requires : tie.Need-by-fours-requires Inv-loop μ-loop
+by-fours-requires c κs = rw (c .top-of .ensures) (c .before .before .pre .1)
+
 loop-holds : tie.Need-loop-holds Inv-loop μ-loop
-loop-holds c = level-start _ _ _ (c .before .before .pre .1) (c .top-of .ensures)
+loop-holds c = c .by-fours .ensures
 
-mul-level : tie.Need-mul-level Inv-loop μ-loop
-mul-level c = search needs
+mul-sum : tie.Need-mul-sum Inv-loop μ-loop
+mul-sum c = search needs
 
-shared-slice-read-level : tie.Need-shared-slice-read-level Inv-loop μ-loop
-shared-slice-read-level c = search needs
+shared-slice-read-sum : tie.Need-shared-slice-read-sum Inv-loop μ-loop
+shared-slice-read-sum c = search needs
 
-add-level : tie.Need-add-level Inv-loop μ-loop
-add-level c = omega (arith, level-fits _ _ _ _ _ (c .before .before .loop .inv) (c .before .loop-test .taken) .0)
+add-sum : tie.Need-add-sum Inv-loop μ-loop
+add-sum c = omega (arith, sum-fits _ _ _ _ _ (c .before .before .loop .inv) (c .before .loop-test .taken))
 
-sub-level : tie.Need-sub-level Inv-loop μ-loop
-sub-level c = omega (arith, level-fits _ _ _ _ _ (c .before .before .loop .inv) (c .before .loop-test .taken) .1)
+add-more : tie.Need-add-more Inv-loop μ-loop
+add-more c = omega (arith, most-fits _ _ _ _ _ (c .before .before .loop .inv) .1)
 
 more-requires : tie.Need-more-requires Inv-loop μ-loop
 more-requires c κs = search needs
@@ -40,22 +45,27 @@ loop-less : tie.Need-loop-less Inv-loop μ-loop
 loop-less c = omega (arith, c .before .before .loop-test .taken)
 
 loop-again : tie.Need-loop-again Inv-loop μ-loop
-loop-again c = level-step _ _ _ _ _ (c .before .before .before .loop .inv) (c .before .before .loop-test .taken) (omega arith) (c .more .ensures)
+loop-again c =
+    level-step _ _ _ _ _ (c .before .before .before .loop .inv) (c .before .before .loop-test .taken) (omega arith) refl (omega (arith, c .more .ensures))
 
-sub-t12 : tie.Need-sub-t12 Inv-loop μ-loop
-sub-t12 c = search needs
+cast-level : tie.Need-cast-level Inv-loop μ-loop
+cast-level c = search needs
 
-cast-t14 : tie.Need-cast-t14 Inv-loop μ-loop
-cast-t14 c = search needs
+mul-level : tie.Need-mul-level Inv-loop μ-loop
+mul-level c = search needs
 
-sub-t15 : tie.Need-sub-t15 Inv-loop μ-loop
-sub-t15 c = search needs
+sub-level : tie.Need-sub-level Inv-loop μ-loop
+sub-level c = search needs
 
-cast-t17 : tie.Need-cast-t17 Inv-loop μ-loop
-cast-t17 c = omega (arith, most-from _ _ _ _ _ (c .before .loop .inv) .1)
+cast-t15 : tie.Need-cast-t15 Inv-loop μ-loop
+cast-t15 c = search needs
+
+cast-t16 : tie.Need-cast-t16 Inv-loop μ-loop
+cast-t16 c = omega (arith, most-fits _ _ _ _ _ (c .before .loop .inv) .1)
 
 returns : tie.Need-returns Inv-loop μ-loop
-returns c = level-end _ _ _ _ _ (c .before .loop .inv) (c .before .before .top-of .ensures) (omega (arith, c .loop-test .left)) (omega arith) (omega arith)
+returns c =
+    level-end _ _ _ _ _ (c .before .loop .inv) (c .before .before .before .top-of .ensures) (omega (arith, c .loop-test .left)) (omega arith) (omega arith)
 
 pub reach-of-spec : {M : Type 1} → statement M
 reach-of-spec =
@@ -64,17 +74,19 @@ reach-of-spec =
     Inv-loop
     μ-loop
     top-of-requires
+    by-fours-requires
     loop-holds
-    mul-level
-    shared-slice-read-level
-    add-level
-    sub-level
+    mul-sum
+    shared-slice-read-sum
+    add-sum
+    add-more
     more-requires
     add-s
     loop-less
     loop-again
-    sub-t12
-    cast-t14
-    sub-t15
-    cast-t17
+    cast-level
+    mul-level
+    sub-level
+    cast-t15
+    cast-t16
     returns)

@@ -1,101 +1,71 @@
--- `buckets::stretch::stretch_of` meets its contract: both loops are `Walking`.
-use Prim.Native.Nat.{suc, _-_, _≤_, _<_}
-use native.Mathlib.Omega.{arith}
-use Rattle.buckets.proofs.StretchLaws.{Walking, walk-start, covered, walk-to, walk-left, walk-past, walk-end}
+-- `buckets::stretch::stretch_of` meets its contract: the loop is `On`.
+use Prim.Native.Nat.{_-_}
 use borrow.Author.Needs.{needs}
+use native.Mathlib.Omega.{arith}
+use Rattle.buckets.proofs.StretchLaws.{On, full-fits, covered, on-start, on-left, on-covered, on-step, on-end}
 use Rattle.buckets.proofs.stretch.stretch_of.Statement.{statement}
 use Rattle.buckets.proofs.stretch.stretch_of.Tie as tie
 
 abbrev Inv-loop : tie.InvT-loop
-Inv-loop counts free bucket first₀ lack₀ s₀ first lack s = (s ≤ suc bucket) × Walking counts free bucket first lack s
+Inv-loop counts free bucket before first lack₀ last₀ lack last = On counts free bucket lack last
 
 abbrev μ-loop : tie.MeasureT-loop
-μ-loop counts free bucket first₀ lack₀ s₀ first lack s = suc bucket - s
+μ-loop counts free bucket before first lack₀ last₀ lack last = free - last
 
-abbrev Inv-loop2 : tie.InvT-loop2
-Inv-loop2 counts free bucket first lack₀ s₀ lack s = (bucket < s) × Walking counts free bucket first lack s
+lack-before-requires : tie.Need-lack-before-requires Inv-loop μ-loop
+lack-before-requires c κs = full-fits _ _ _ (c .before .pre .0) (c .before .pre .1)
 
-abbrev μ-loop2 : tie.MeasureT-loop2
-μ-loop2 counts free bucket first lack₀ s₀ lack s = free - s
+first-of-requires : tie.Need-first-of-requires Inv-loop μ-loop
+first-of-requires c κs = (full-fits _ _ _ (c .before .before .pre .0) (c .before .before .pre .1), c .lack-before .ensures)
 
-loop-holds : tie.Need-loop-holds Inv-loop μ-loop Inv-loop2 μ-loop2
-loop-holds c = (search needs, walk-start _ _ _)
+add-lack : tie.Need-add-lack Inv-loop μ-loop
+add-lack c = omega (arith, c .before .lack-before .ensures, c .before .before .before .pre .0 .small, c .before .before .before .pre .1)
 
-begun-requires : tie.Need-begun-requires Inv-loop μ-loop Inv-loop2 μ-loop2
-begun-requires c κs = search needs
-
-add-lack : tie.Need-add-lack Inv-loop μ-loop Inv-loop2 μ-loop2
-add-lack c = search needs
-
-mul-lack : tie.Need-mul-lack Inv-loop μ-loop Inv-loop2 μ-loop2
+mul-lack : tie.Need-mul-lack Inv-loop μ-loop
 mul-lack c = search needs
 
-shared-slice-read-lack : tie.Need-shared-slice-read-lack Inv-loop μ-loop Inv-loop2 μ-loop2
+shared-slice-read-lack : tie.Need-shared-slice-read-lack Inv-loop μ-loop
 shared-slice-read-lack c = search needs
 
-sub-lack : tie.Need-sub-lack Inv-loop μ-loop Inv-loop2 μ-loop2
-sub-lack c = omega (
-  arith,
-  covered _ _ _ _ _ _ (c .before .before .before .before .before .pre .0) (c .before .before .before .loop .inv .1) (omega arith),
-)
+sub-lack : tie.Need-sub-lack Inv-loop μ-loop
+sub-lack c = covered _ _ _ _ (c .before .before .before .before .pre .0) (c .before .before .before .before .pre .1) (c .before .before .lack-before .ensures)
 
-add-s : tie.Need-add-s Inv-loop μ-loop Inv-loop2 μ-loop2
-add-s c = search needs
+loop-holds : tie.Need-loop-holds Inv-loop μ-loop
+loop-holds c = on-start _ _ _ (c .before .before .before .before .pre .0) _ (c .before .before .before .before .pre .1) (c .before .before .lack-before .ensures)
 
-loop-less : tie.Need-loop-less Inv-loop μ-loop Inv-loop2 μ-loop2
-loop-less c = search needs
+add-last : tie.Need-add-last Inv-loop μ-loop
+add-last c = search needs
 
-loop-again : tie.Need-loop-again Inv-loop μ-loop Inv-loop2 μ-loop2
-loop-again c = (
-  search needs,
-  walk-to _ _ _ _ _ _ (c .before .before .before .before .before .pre .0) (c .before .before .before .loop .inv .1) _ (omega arith)
-      (c .before .before .before .before .before .pre .1) (c .before .begun .ensures),
-)
-
-loop2-holds : tie.Need-loop2-holds Inv-loop μ-loop Inv-loop2 μ-loop2
-loop2-holds c = search needs
-
-add-lack-2 : tie.Need-add-lack-2 Inv-loop μ-loop Inv-loop2 μ-loop2
+add-lack-2 : tie.Need-add-lack-2 Inv-loop μ-loop
 add-lack-2 c = search needs
 
-mul-lack-2 : tie.Need-mul-lack-2 Inv-loop μ-loop Inv-loop2 μ-loop2
+mul-lack-2 : tie.Need-mul-lack-2 Inv-loop μ-loop
 mul-lack-2 c = search needs
 
-shared-slice-read-lack-2 : tie.Need-shared-slice-read-lack-2 Inv-loop μ-loop Inv-loop2 μ-loop2
-shared-slice-read-lack-2 c = omega (
-  arith,
-  c .before .before .before .before .before .before .pre .0 .enough,
-  walk-left _ _ _ _ _ _ (c .before .before .before .before .before .before .pre .0) (c .before .before .loop2 .inv .1) (c .before .loop2-test .taken),
-)
+shared-slice-read-lack-2 : tie.Need-shared-slice-read-lack-2 Inv-loop μ-loop
+shared-slice-read-lack-2 c =
+    let f = c .before .before .before .before .before .before .before .pre .0 in
+    omega (arith, f .enough, on-left _ _ _ f _ _ (c .before .before .loop .inv) (omega (arith, c .before .loop-test .taken)))
 
-sub-lack-2 : tie.Need-sub-lack-2 Inv-loop μ-loop Inv-loop2 μ-loop2
-sub-lack-2 c = omega (
-  arith,
-  covered _ _ _ _ _ _ (c .before .before .before .before .before .before .pre .0) (c .before .before .loop2 .inv .1)
-      (walk-left _ _ _ _ _ _ (c .before .before .before .before .before .before .pre .0) (c .before .before .loop2 .inv .1) (c .before .loop2-test .taken)),
-)
+sub-lack-2 : tie.Need-sub-lack-2 Inv-loop μ-loop
+sub-lack-2 c =
+    let f = c .before .before .before .before .before .before .before .pre .0 in
+    on-covered _ _ _ f _ _ (c .before .before .loop .inv) (omega (arith, c .before .loop-test .taken))
 
-add-s-2 : tie.Need-add-s-2 Inv-loop μ-loop Inv-loop2 μ-loop2
-add-s-2 c = search needs
+loop-less : tie.Need-loop-less Inv-loop μ-loop
+loop-less c =
+    let f = c .before .before .before .before .before .before .before .pre .0 in
+    omega (arith, on-left _ _ _ f _ _ (c .before .before .loop .inv) (omega (arith, c .before .loop-test .taken)))
 
-loop2-less : tie.Need-loop2-less Inv-loop μ-loop Inv-loop2 μ-loop2
-loop2-less c = omega (
-  arith,
-  walk-left _ _ _ _ _ _ (c .before .before .before .before .before .before .pre .0) (c .before .before .loop2 .inv .1) (c .before .loop2-test .taken),
-)
+loop-again : tie.Need-loop-again Inv-loop μ-loop
+loop-again c =
+    let f = c .before .before .before .before .before .before .before .pre .0 in
+    on-step _ _ _ f _ _ (c .before .before .loop .inv) (omega (arith, c .before .loop-test .taken))
 
-loop2-again : tie.Need-loop2-again Inv-loop μ-loop Inv-loop2 μ-loop2
-loop2-again c = (
-  omega (arith, c .before .before .loop2 .inv .0),
-  walk-past _ _ _ _ _ _ (c .before .before .before .before .before .before .pre .0) (c .before .before .loop2 .inv .1) (c .before .loop2-test .taken)
-      (c .before .before .loop2 .inv .0),
-)
-
-sub-t17 : tie.Need-sub-t17 Inv-loop μ-loop Inv-loop2 μ-loop2
-sub-t17 c = search needs
-
-returns : tie.Need-returns Inv-loop μ-loop Inv-loop2 μ-loop2
-returns c = walk-end _ _ _ _ _ _ (c .before .before .before .before .before .pre .0) (c .before .loop2 .inv .1) (c .loop2-test .left) (c .before .loop2 .inv .0)
+returns : tie.Need-returns Inv-loop μ-loop
+returns c =
+    let f = c .before .before .before .before .before .before .pre .0 in
+    on-end _ _ _ f _ _ (c .before .loop .inv) _ (c .before .before .before .first-of .ensures) (omega (arith, c .loop-test .left))
 
 pub stretch-of-spec : {M : Type 1} → statement M
 stretch-of-spec =
@@ -103,24 +73,18 @@ stretch-of-spec =
     (tie.spec
     Inv-loop
     μ-loop
-    Inv-loop2
-    μ-loop2
-    loop-holds
-    begun-requires
+    lack-before-requires
+    first-of-requires
     add-lack
     mul-lack
     shared-slice-read-lack
     sub-lack
-    add-s
-    loop-less
-    loop-again
-    loop2-holds
+    loop-holds
+    add-last
     add-lack-2
     mul-lack-2
     shared-slice-read-lack-2
     sub-lack-2
-    add-s-2
-    loop2-less
-    loop2-again
-    sub-t17
+    loop-less
+    loop-again
     returns)

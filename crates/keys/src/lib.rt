@@ -1,6 +1,6 @@
 // One number for a row, by which rows are compared, and the laws of that number: the only place that knows how a key is made.
 ghost use mathlib.Core.Path.{_≡_};
-ghost use Prim.Native.Nat.{_≤_, _<_, max, min};
+ghost use Prim.Native.Nat.{_*_, _≤_, _<_, max, min};
 ghost use Rattle.keys.specs.Key.{key, weight-of, lack-of, due-of, row-of, blank-key, May-lack, Lacks};
 use sorts::Slot;
 use sorts::Weight;
@@ -38,6 +38,14 @@ pub fn weight_of_all(many: usize, lacks: u64) -> u64
     ensures { λ r. ⌜ Lacks many lacks r ⌝ }
 {
     many as u64 * 16777217 - lacks
+}
+
+// The key of a row with a flag, else 0: without a branch, since flags cannot be foreseen.
+pub fn flagged(key: u64, flag: u8) -> u64
+    requires { ⌜ (key ≤ blank-key) × (flag ≤ 1) ⌝ }
+    ensures { λ r. ⌜ r ≡ key * flag ⌝ }
+{
+    key * flag as u64
 }
 
 pub fn due_of(key: u64) -> u32

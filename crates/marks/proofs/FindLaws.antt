@@ -274,6 +274,27 @@ module _ (r : Round) (ks fs : List ℕ) (many slot n asked : ℕ) (a : Asked r k
       (ap (λ (v : ℕ). num 0 v (with-flag r fs)) d ∙ filled r ks fs many slot n g ∙ omega (arith, d))
 
   -- once the rows fill each slot before the one asked about, ends count from there on
+  -- before the slot asked about a row counts by its flag
+  pub pass-flag : (edge low p k : ℕ) → p < many → k ≡ getD ks p 0 → Passing r fs n asked edge edge low p → edge + 1 ≤ asked →
+      (i f : ℕ) → i ≡ row-of k → f ≡ getD fs i 0 → (edge2 low2 : ℕ) → edge2 ≡ edge + f → low2 ≡ max low (k * f) →
+      Passing r fs n asked edge2 edge2 low2 (p + 1)
+  pass-flag edge low p k h e w b i f d q edge2 low2 u m =
+      let z = m ∙ ap (λ (v : ℕ). max low (k * v)) q in
+      elim (eqb? (getD fs i 0) 1) [
+        | inl x ↦
+            let y : low2 ≡ max low k = z ∙ ap (λ (v : ℕ). max low (k * v)) (x .1) ∙ omega arith in
+            subst (λ (v : ℕ). Passing r fs n asked v v low2 (p + 1)) (omega (arith, u, q, x .1)) (pass-cut edge edge low p k h e w i d (x .1) low2 b y)
+        | inr x ↦
+            let o : getD fs i 0 ≡ 0 = none i (omega (arith, d, key-read r ks fs many slot n (a .given) p k h e .fits)) (x .1) in
+            let y : low ≡ low2 = sym (z ∙ ap (λ (v : ℕ). max low (k * v)) o ∙ omega arith) in
+            let t : edge ≡ edge2 = omega (arith, u, q, o) in
+            subst (λ (v : ℕ). Passing r fs n asked v v low2 (p + 1)) t
+            (subst (λ (v : ℕ). Passing r fs n asked edge edge v (p + 1)) y (pass-out edge edge low p k h e w i d (x .1)))
+      ]
+    where
+      none : (i : ℕ) → i < length fs → (getD fs i 0 ≡ 1 → ⊥) → getD fs i 0 ≡ 0
+      none i l o = omega (arith, a .given .chosen .bits i l, o)
+
   pub pass-asked : (edge low p : ℕ) → asked ≤ edge → Passing r fs n asked edge edge low p → Passing r fs n asked asked edge low p
   pass-asked edge low p h w =
       let e : edge ≡ asked = omega (arith, h, w .early) in subst (λ (v : ℕ). Passing r fs n asked v edge low p) e w
@@ -290,6 +311,11 @@ Begun ks fs many slot asked first = (r : Round) (n : ℕ) → Asked r ks fs many
 module _ (ks fs : List ℕ) (many slot asked : ℕ) (l : Lent-asked ks fs many slot asked) where
   pub flag-there : (p k i : ℕ) → p < many → k ≡ getD ks p 0 → i ≡ row-of k → i < length fs
   flag-there p k i h e d = omega (arith, d, key-read (l .of) ks fs many slot (l .n) (l .given .given) p k h e .fits)
+
+  pub flag-small : (p k i f : ℕ) → p < many → k ≡ getD ks p 0 → i ≡ row-of k → f ≡ getD fs i 0 → (k ≤ blank-key) × (f ≤ 1)
+  flag-small p k i f h e d q =
+      let o = key-read (l .of) ks fs many slot (l .n) (l .given .given) p k h e in
+      (o .by, omega (arith, q, l .given .given .chosen .bits i (omega (arith, d, o .fits))))
 
   pub key-there : (first edge low p : ℕ) → edge ≤ asked → p ≤ many → Pass ks fs many slot asked first edge low p → p < many
   key-there first edge low p h k w = keys-left (l .of) ks fs many slot (l .n) asked (l .given) first edge low p h k (w (l .of) (l .n) (l .given))

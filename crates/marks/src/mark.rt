@@ -2,6 +2,7 @@
 ghost use Rattle.marks.specs.Given.{Lent-asked};
 ghost use Rattle.marks.specs.Near.{Lightest-say, Marks-say};
 use keys::due_of;
+use keys::flagged;
 use keys::larger;
 use keys::row_of;
 use keys::weight_of;
@@ -20,10 +21,9 @@ fn lightest_by_end(keys: &[u64], flags: &[u8], many: usize, slot: u32, asked: u3
     while edge < asked {
         let key = keys[p];
         p += 1;
-        if flags[row_of(key)] == 1 {
-            edge += 1;
-            low = larger(low, key);
-        }
+        let flag = flags[row_of(key)];
+        edge += flag as u32;
+        low = larger(low, flagged(key, flag));
     }
     while p < many {
         let key = keys[p];

@@ -385,6 +385,7 @@ module _ (r : Round) (f : Fine r) (small : length (r .rows) ≤ 1024) (cap : r .
   chosen-left =
       record {
         long = long;
+        bits = S .bits;
         certified = record {
           long = length-raised gs ∙ long;
           fits = feas-made r rs fits;

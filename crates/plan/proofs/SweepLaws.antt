@@ -58,6 +58,7 @@ module _ (ks gs : List ℕ) (slot n m p count w : ℕ) (Q : Queue ks slot n m) (
         waits = λ q a b. S .waits q (omega (arith, a)) b;
         mid = joins (key-on ks) (ahead-on ks slot) p count up-to (kept-on ks gs) (S .mid) on free;
         lost = S .lost ∙ sym (tally-no (weight-on ks) (left-on ks gs) p (ap not on));
+        bits = S .bits;
         sums = λ f. omega (arith, S .sums f, tally-no (λ q. f (row-on ks q)) (left-on ks gs) p (ap not on));
       }
 
@@ -125,6 +126,12 @@ module _ (ks gs : List ℕ) (slot n m p count w : ℕ) (Q : Queue ks slot n m) (
           (most p (omega arith) on (λ q. d (sym q)))
     ]
 
+    bits-then : (i : ℕ) → i < length gs → getD hs i 0 ≤ 1
+    bits-then i k = elim (eqb? i (row-on ks z)) [
+      | inl a ↦ rw (a .1) (omega (arith, getD-set-same gs (row-on ks z) 0 0 in-z))
+      | inr a ↦ omega (arith, getD-set-other gs (row-on ks z) i 0 0 (a .1), S .bits i k)
+    ]
+
     pub swept-leaves : ahead-on ks slot p < count → ((j : ℕ) → j ≤ p → kept-on ks gs j ≡ true → (j ≡ z → ⊥) → key-on ks j < key-on ks z) →
         Swept ks (set gs (row-on ks z) 0) slot m (suc p) count (w + weight-on ks z)
     swept-leaves full most =
@@ -135,6 +142,7 @@ module _ (ks gs : List ℕ) (slot n m p count w : ℕ) (Q : Queue ks slot n m) (
           waits = λ q a b. other q b (λ e. omega (arith, e, a, hz)) ∙ S .waits q (omega (arith, a)) b;
           mid = mid-then full most;
           lost = omega (arith, S .lost, left-more (weight-on ks));
+          bits = λ i k. bits-then i (omega (arith, k, l));
           sums = λ f. rw l (omega (arith, S .sums f, rows-less f, left-more (λ q. f (row-on ks q))));
         }
 
@@ -157,6 +165,7 @@ module _ (ks gs : List ℕ) (slot free over : ℕ) (C : Crowd ks gs slot free ov
         waits = λ q a b. up (row-on ks q) (C .rows q b);
         mid = mid-none (key-on ks) (ahead-on ks slot) (kept-on ks gs);
         lost = sym (tally-zero (weight-on ks) (left-on ks gs));
+        bits = λ i k. omega (arith, ap (λ (xs : List ℕ). getD xs i 0) (C .flags), getD-replicate (length gs) i 1 0 k);
         sums = λ f. omega (arith, tally-all f (kept? gs) (length gs) up, tally-zero (λ q. f (row-on ks q)) (left-on ks gs));
       }
 

@@ -75,6 +75,7 @@ pub record Swept (ks gs : List ℕ) (slot m p count weight : ℕ) : Type 0 where
   pub waits : (q : ℕ) → p ≤ q → q < m → kept-on ks gs q ≡ true
   pub mid : Mid (key-on ks) (ahead-on ks slot) (kept-on ks gs) p count
   pub lost : weight ≡ tally (weight-on ks) (left-on ks gs) p
+  pub bits : (i : ℕ) → i < length gs → getD gs i 0 ≤ 1
   pub sums : (f : ℕ → ℕ) → tally f (kept? gs) (length gs) + tally (λ q. f (row-on ks q)) (left-on ks gs) p ≡ each f (length gs)
 
 -- the keys of the rows kept, in a heap

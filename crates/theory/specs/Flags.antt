@@ -2,10 +2,10 @@
 use mathlib.Core.Path.{_≡_, refl, ap}
 use mathlib.Core.Bool.{Bool, true, false}
 use mathlib.Core.List.{List, [], _∷_}
-use Prim.Native.Nat.{ℕ, zero, suc, _<_}
+use Prim.Native.Nat.{ℕ, zero, suc, _≤_, _<_}
 use native.Mathlib.Omega.{arith}
 use lib.Dec.{eqb}
-use lib.ListN.{length, getD, replicate, length-replicate}
+use lib.ListN.{length, getD, replicate, length-replicate, getD-replicate}
 use Rattle.rules.specs.Rows.{Row, Round, chosen}
 use Rattle.rules.specs.Plan.{feasible}
 use Rattle.theory.specs.Full.{Fine}
@@ -17,10 +17,11 @@ unfoldable pub raised : List ℕ → List Bool
 raised [] = []
 raised (f ∷ fs) = eqb f 1 ∷ raised fs
 
--- CHOSEN: the rows with a flag are the plan's
+-- CHOSEN: the rows with a flag are the plan's; each flag is 1 or 0
 pub record Chosen (r : Round) (fs : List ℕ) : Type 0 where
   pub long : length fs ≡ length (r .rows)
   pub certified : Certified r (raised fs)
+  pub bits : (i : ℕ) → i < length fs → getD fs i 0 ≤ 1
 
 -- those rows
 abbrev pub with-flag : Round → List ℕ → List Row
@@ -48,4 +49,9 @@ raised-all (suc n) = ap (λ (bs : List Bool). true ∷ bs) (raised-all n)
 -- nothing left out: every flag
 pub all-chosen : (r : Round) → feasible r (r .rows) ≡ true → Chosen r (replicate (length (r .rows)) 1)
 all-chosen r h =
-    record { long = length-replicate (length (r .rows)) 1; certified = rw (raised-all (length (r .rows))) (all-certified r h) }
+    let n = length (r .rows) in
+    record {
+      long = length-replicate n 1;
+      certified = rw (raised-all n) (all-certified r h);
+      bits = λ i k. omega (arith, getD-replicate {A = ℕ} n i 1 0 (omega (arith, k, length-replicate {A = ℕ} n 1)));
+    }

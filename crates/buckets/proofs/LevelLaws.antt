@@ -74,11 +74,9 @@ level-start cs top m =
 
 module _ (cs : List ℕ) (top s l m : ℕ) (w : Levels cs top s l m) where
   -- nothing overflows
-  pub most-fits : (2047 * s ≤ m) × (m ≤ 2097152 + 2048 * s)
-  most-fits = (
-    omega (arith, w .most),
-    omega (arith, w .most, w .sweep .level, w .sweep .high, w .by, w .counts .few, upto-by cs (w .free) (suc top) (omega (arith, w .sweep .high, w .by))),
-  )
+  pub most-fits : m ≤ 2097152 + 2048 * s
+  most-fits =
+      omega (arith, w .most, w .sweep .level, w .sweep .high, w .by, w .counts .few, upto-by cs (w .free) (suc top) (omega (arith, w .sweep .high, w .by)))
 
   pub sum-fits : s ≤ top → l + getD cs s 0 ≤ 2097152
   sum-fits h = omega (arith, w .sum, w .counts .count s h, w .counts .few, upto-by cs (suc s) (suc top) (omega (arith, h)))

@@ -65,7 +65,7 @@ shared-slice-read-d c = search needs
 turn-requires : tie.Need-turn-requires Inv-loop μ-loop
 turn-requires c κs =
     let w = c .before .before .before .before .before .loop .inv in
-    omega (arith, most-fits _ _ _ _ _ w .1, w .by, w .counts .small, turn-fits _ _ _ _ _ w (c .before .before .before .before .loop-test .taken))
+    omega (arith, most-fits _ _ _ _ _ w, w .by, w .counts .small, turn-fits _ _ _ _ _ w (c .before .before .before .before .loop-test .taken))
 
 add-sum : tie.Need-add-sum Inv-loop μ-loop
 add-sum c =

@@ -33,7 +33,7 @@ add-sum : tie.Need-add-sum Inv-loop μ-loop
 add-sum c = omega (arith, sum-fits _ _ _ _ _ (c .before .before .loop .inv) (c .before .loop-test .taken))
 
 add-more : tie.Need-add-more Inv-loop μ-loop
-add-more c = omega (arith, most-fits _ _ _ _ _ (c .before .before .loop .inv) .1)
+add-more c = omega (arith, most-fits _ _ _ _ _ (c .before .before .loop .inv))
 
 more-requires : tie.Need-more-requires Inv-loop μ-loop
 more-requires c κs = search needs
@@ -61,7 +61,7 @@ cast-t15 : tie.Need-cast-t15 Inv-loop μ-loop
 cast-t15 c = search needs
 
 cast-t16 : tie.Need-cast-t16 Inv-loop μ-loop
-cast-t16 c = omega (arith, most-fits _ _ _ _ _ (c .before .loop .inv) .1)
+cast-t16 c = omega (arith, most-fits _ _ _ _ _ (c .before .loop .inv))
 
 returns : tie.Need-returns Inv-loop μ-loop
 returns c =

@@ -1,6 +1,5 @@
 -- `buckets::turn` meets its contract.
 use borrow.Author.Needs.{needs}
-use native.Mathlib.Omega.{arith}
 use Rattle.buckets.proofs.LevelLaws.{pass-four}
 use Rattle.buckets.proofs.turn.Statement.{statement}
 use Rattle.buckets.proofs.turn.Tie as tie

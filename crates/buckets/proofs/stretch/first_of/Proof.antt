@@ -1,7 +1,7 @@
 -- `buckets::stretch::first_of` meets its contract: the loop is `Back`.
 use borrow.Author.Needs.{needs}
 use native.Mathlib.Omega.{arith}
-use Rattle.buckets.proofs.StretchLaws.{Back, back-start, back-left, back-fits, back-step, back-end}
+use Rattle.buckets.proofs.StretchLaws.{Back, back-start, back-fits, back-step, back-end}
 use Rattle.buckets.proofs.stretch.first_of.Statement.{statement}
 use Rattle.buckets.proofs.stretch.first_of.Tie as tie
 
@@ -12,7 +12,7 @@ abbrev μ-loop : tie.MeasureT-loop
 μ-loop counts lack bucket first₀ before₀ first before = first
 
 loop-holds : tie.Need-loop-holds Inv-loop μ-loop
-loop-holds c = search needs
+loop-holds c = back-start _ _ _ (c .pre .1)
 
 sub-first : tie.Need-sub-first Inv-loop μ-loop
 sub-first c = search needs
@@ -36,7 +36,7 @@ loop-again : tie.Need-loop-again Inv-loop μ-loop
 loop-again c = back-step _ _ _ _ (c .before .before .before .pre .0) (c .before .before .loop .inv) (c .before .loop-test .taken)
 
 returns : tie.Need-returns Inv-loop μ-loop
-returns c = search needs
+returns c = back-end _ _ _ _ (c .before .before .pre .0) (c .before .loop .inv) (omega (arith, c .loop-test .left))
 
 pub first-of-spec : {M : Type 1} → statement M
 first-of-spec =

@@ -2,7 +2,7 @@
 use mathlib.Core.Path.{_≡_, sym, ap, _∙_}
 use mathlib.Core.Logic.{inl, inr}
 use mathlib.Core.Bool.{true, false}
-use Prim.Native.Nat.{ℕ, _+_, _*_, _-_, _≤_, _<_}
+use Prim.Native.Nat.{ℕ, zero, suc, _+_, _*_, _-_, _≤_, _<_}
 use native.Mathlib.Omega.{arith}
 use lib.Dec.{ltb}
 use lib.ListN.{length}
@@ -37,6 +37,12 @@ key-some w d i a = omega arith
 pub key-most : (w d i : ℕ) → 1 ≤ w → d ≤ 4095 → i < 1024 → key w d i < blank-key
 unfolding key
 key-most w d i a b c = omega arith
+
+-- a flag is 1 or 0
+pub flag-fits : (k f : ℕ) → k ≤ blank-key → f ≤ 1 → k * f < 18446744073709551616
+flag-fits k zero h l = omega arith
+flag-fits k (suc zero) h l = omega arith
+flag-fits k (suc (suc f)) h l = absurd (omega arith)
 
 -- MANY ROWS, one by one
 pub lacks-none : Lacks 0 0 0

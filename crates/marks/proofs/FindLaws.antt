@@ -2,7 +2,7 @@
 use mathlib.Core.Path.{_≡_, refl, sym, ap, _∙_, subst}
 use mathlib.Core.Logic.{inl, inr}
 use mathlib.Core.List.{List}
-use Prim.Native.Nat.{ℕ, suc, _+_, _-_, _≤_, _<_, max}
+use Prim.Native.Nat.{ℕ, suc, _+_, _*_, _-_, _≤_, _<_, max}
 use native.Mathlib.Omega.{arith}
 use native.Mathlib.Numerals.{add-one}
 use lib.ListN.{length, getD}
@@ -11,7 +11,7 @@ use Rattle.theory.specs.Tests.{leb?, ltb?, eqb?}
 use Rattle.theory.specs.Feas.{num, num-mono}
 use Rattle.theory.specs.Flags.{with-flag}
 use Rattle.round.specs.Rows.{at}
-use Rattle.keys.specs.Key.{due-of, row-of, key-at}
+use Rattle.keys.specs.Key.{due-of, row-of, key-at, blank-key}
 use Rattle.keys.specs.Sorted.{placed}
 use Rattle.keys.specs.DueOrder.{each, each-more, placed-all, placed-rises}
 use Rattle.marks.specs.Given.{Asked, Lent-asked}

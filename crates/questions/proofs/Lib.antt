@@ -1,4 +1,2 @@
 pub mod SeenLaws
 pub mod PlanLaws
-pub mod FindLaws
-pub mod StandLaws

@@ -6,18 +6,18 @@ ghost use Rattle.station.specs.Exports.{Exports, Exports-look};
 use calls::opening::open_round;
 use calls::sending::send_slot;
 use calls::taking::take_frame;
+use marking::mark_of;
 use packing::pack_marked;
 use packing::pack_opened;
 use packing::pack_sent;
 use packing::pack_substituted;
 use packing::pack_taken;
 use packing::pack_totalled;
-use questions::marking::mark_of;
-use questions::substituting::substitute_of;
-use questions::totalling::plan_total;
 use sorts::Slot;
 use sorts::Ticket;
 use sorts::Weight;
+use substituting::substitute_of;
+use totalling::plan_total;
 
 #[no_mangle]
 pub extern "C" fn lirvedd_open(last: u32, table: &mut [u8]) -> u64

@@ -1,0 +1,42 @@
+-- `totalling::total_few` meets its contract.
+use Rattle.plan.proofs.LentLaws.{ones-long}
+use Rattle.questions.proofs.SeenLaws.{lends}
+use native.Mathlib.Omega.{arith}
+use borrow.Author.Needs.{needs}
+use Rattle.totalling.proofs.total_few.Statement.{statement}
+use Rattle.totalling.proofs.total_few.Tie as tie
+
+slice-aggregate-total-planned : tie.Need-slice-aggregate-total-planned
+slice-aggregate-total-planned c = search needs
+
+array-borrow-prefix-flags : tie.Need-array-borrow-prefix-flags
+array-borrow-prefix-flags c = let s = c .before .before .before .before in s .pre .2
+
+slice-aggregate-total-planned-2 : tie.Need-slice-aggregate-total-planned-2
+slice-aggregate-total-planned-2 c = let s = c .before .before .before .before .before in ones-long (s .args .round .used) 32 (s .pre .2)
+
+slice-aggregate-total-planned-3 : tie.Need-slice-aggregate-total-planned-3
+slice-aggregate-total-planned-3 c = search needs
+
+total-planned-requires : tie.Need-total-planned-requires
+total-planned-requires c κs =
+    let s = c .before .before .before .before .before .before in
+    lends (s .args .table .now) (s .args .round) (s .args .counts .now) (s .args .reach) 32 34 (s .pre .0) (s .pre .1) (s .pre .2) (omega arith)
+
+same-length : tie.Need-same-length
+same-length c = search needs
+
+returns : tie.Need-returns
+returns c = search needs
+
+pub total-few-spec : {M : Type 1} → statement M
+total-few-spec =
+    tie.close
+    (tie.spec
+    slice-aggregate-total-planned
+    array-borrow-prefix-flags
+    slice-aggregate-total-planned-2
+    slice-aggregate-total-planned-3
+    total-planned-requires
+    same-length
+    returns)

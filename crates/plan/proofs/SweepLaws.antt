@@ -165,7 +165,7 @@ module _ (ks gs : List ℕ) (slot free over : ℕ) (C : Crowd ks gs slot free ov
         waits = λ q a b. up (row-on ks q) (C .rows q b);
         mid = mid-none (key-on ks) (ahead-on ks slot) (kept-on ks gs);
         lost = sym (tally-zero (weight-on ks) (left-on ks gs));
-        bits = λ i k. omega (arith, ap (λ (xs : List ℕ). getD xs i 0) (C .flags), getD-replicate (length gs) i 1 0 k);
+        bits = λ i k. omega (arith, ap (λ (xs : List ℕ). getD xs i 0) (C .flags), getD-replicate {A = ℕ} (length gs) i 1 0 k);
         sums = λ f. omega (arith, tally-all f (kept? gs) (length gs) up, tally-zero (λ q. f (row-on ks q)) (left-on ks gs));
       }
 

@@ -97,6 +97,7 @@ CONTRACTS = {
     "plan": "`plan_of` (`Plans`): the near rows' keys in due order, the flags of the plan's rows, what is lost, the heaviest far row",
     "segments": "`segments_of` (`Segments-say`): each near segment's end, heaviest and lightest, and the one whose heaviest row goes",
     "whole": "`choose_whole` (`Picked`): the row that goes where no row is left out",
+    "runs": "`move_run`: a run of rows, in its bytes, moved down behind the rows kept",
     "closing": "`close_up` (`closed-up`): the bytes once the slot has moved on",
     "step": "`send_planned` and `send_whole` (`Sent-says`): what went out, and the bytes left; `shift_chain` (`Shifts`)",
     "sender": "`send_sound` (`Sent-says`): plan, segments and step put together",

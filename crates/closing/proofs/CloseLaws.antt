@@ -28,8 +28,8 @@ use Rattle.theory.specs.Close.{stays, closed, after-slot, kept-of, kept-most, c
 use Rattle.theory.specs.Write.{head-sets, zeros-join}
 use Rattle.round.specs.Head.{Head-of}
 use Rattle.sorts.specs.declared.Round.{Round as Head}
+use Rattle.runs.proofs.CopyLaws.{paste-next}
 use Rattle.closing.specs.Close.{Due-now, gone-ticket, Search, Next-leaving, Some-left, Left-behind, Closing-in, Closed-rows, closed-up}
-use Rattle.closing.proofs.CopyLaws.{paste-next}
 use Rattle.closing.proofs.HeadLaws.{head-slot, head-used, table-room}
 
 -- THE ROWS by index are the bytes' rows

@@ -9,7 +9,7 @@ ghost use Rattle.step.specs.Send.{Went-of, Silent, Sent-says, Leaves-alo
 use crate::chain::lower_marks;
 use crate::chain::segment_by;
 use crate::chain::shift_chain;
-use closing::close::close_up;
+use closing::close_up;
 use keys::BLANK;
 use keys::due_of;
 use keys::row_of;

@@ -1,9 +1,9 @@
--- `closing::runs::slide` meets its contract.
+-- `runs::slide` meets its contract.
 use Prim.Native.Nat.{_-_}
 use borrow.Author.Needs.{needs}
-use Rattle.closing.proofs.CopyLaws.{Moved, moved-none, moved-block, moved-last}
-use Rattle.closing.proofs.runs.slide.Statement.{statement}
-use Rattle.closing.proofs.runs.slide.Tie as tie
+use Rattle.runs.proofs.CopyLaws.{Moved, moved-none, moved-block, moved-last}
+use Rattle.runs.proofs.slide.Statement.{statement}
+use Rattle.runs.proofs.slide.Tie as tie
 
 abbrev Inv-loop : tie.InvT-loop
 Inv-loop table₀ from end by i₀ table i = Moved table₀ (from - by) from end i table

@@ -1,7 +1,7 @@
--- `closing::close::search_end` meets its contract.
+-- `closing::search_end` meets its contract.
 use borrow.Author.Tests.{le-leb, lt-leb}
-use Rattle.closing.proofs.close.search_end.Statement.{statement}
-use Rattle.closing.proofs.close.search_end.Tie as tie
+use Rattle.closing.proofs.search_end.Statement.{statement}
+use Rattle.closing.proofs.search_end.Tie as tie
 
 returns : tie.Need-returns
 returns c = rw (le-leb (c .before .args .from) (c .before .args .gone) (c .if1 .taken))

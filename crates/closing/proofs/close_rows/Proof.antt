@@ -1,9 +1,9 @@
--- `closing::close::close_rows` meets its contract.
+-- `closing::close_rows` meets its contract.
 use Prim.Native.Nat.{_-_}
 use borrow.Author.Needs.{needs}
 use Rattle.closing.proofs.CloseLaws.{Runs, search-start, runs-start, some-left, search-more, run-room, runs-more, runs-end}
-use Rattle.closing.proofs.close.close_rows.Statement.{statement}
-use Rattle.closing.proofs.close.close_rows.Tie as tie
+use Rattle.closing.proofs.close_rows.Statement.{statement}
+use Rattle.closing.proofs.close_rows.Tie as tie
 
 abbrev Inv-loop : tie.InvT-loop
 Inv-loop table₀ round expiring gone used left₀ i₀ kept₀ table left i kept = Runs table₀ gone i kept left table

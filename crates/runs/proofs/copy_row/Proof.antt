@@ -1,8 +1,8 @@
--- `closing::runs::copy_row` meets its contract.
+-- `runs::copy_row` meets its contract.
 use borrow.Author.Needs.{needs}
-use Rattle.closing.proofs.CopyLaws.{copied-row}
-use Rattle.closing.proofs.runs.copy_row.Statement.{statement}
-use Rattle.closing.proofs.runs.copy_row.Tie as tie
+use Rattle.runs.proofs.CopyLaws.{copied-row}
+use Rattle.runs.proofs.copy_row.Statement.{statement}
+use Rattle.runs.proofs.copy_row.Tie as tie
 
 copy8-requires : tie.Need-copy8-requires
 copy8-requires c κs = search needs

@@ -1,12 +1,12 @@
--- `closing::close::close_up` meets its contract.
+-- `closing::close_up` meets its contract.
 use mathlib.Core.Path.{sym}
 use native.Mathlib.Omega.{arith}
 use borrow.Author.Needs.{needs}
 use lib.Seq.{length-take-le}
 use Rattle.closing.proofs.HeadLaws.{slot-small}
 use Rattle.closing.proofs.CloseLaws.{kept-few, closed-written}
-use Rattle.closing.proofs.close.close_up.Statement.{statement}
-use Rattle.closing.proofs.close.close_up.Tie as tie
+use Rattle.closing.proofs.close_up.Statement.{statement}
+use Rattle.closing.proofs.close_up.Tie as tie
 
 close-rows-requires : tie.Need-close-rows-requires
 close-rows-requires c κs = search needs

@@ -1,10 +1,10 @@
--- `closing::runs::move_each` meets its contract.
+-- `runs::move_each` meets its contract.
 use Prim.Native.Nat.{_-_}
 use borrow.Author.Needs.{needs}
 use Rattle.rules.specs.Conditions.{row-at}
-use Rattle.closing.proofs.CopyLaws.{Moved, moved-none, moved-row, moved-rows}
-use Rattle.closing.proofs.runs.move_each.Statement.{statement}
-use Rattle.closing.proofs.runs.move_each.Tie as tie
+use Rattle.runs.proofs.CopyLaws.{Moved, moved-none, moved-row, moved-rows}
+use Rattle.runs.proofs.move_each.Statement.{statement}
+use Rattle.runs.proofs.move_each.Tie as tie
 
 abbrev Inv-loop : tie.InvT-loop
 Inv-loop table₀ from to kept out i₀ table i = Moved table₀ (row-at kept) (row-at from) (row-at to) (row-at i) table

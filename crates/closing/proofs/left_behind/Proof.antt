@@ -1,10 +1,10 @@
--- `closing::close::left_behind` meets its contract.
+-- `closing::left_behind` meets its contract.
 use mathlib.Core.Logic.{inl, inr}
 use mathlib.Core.Path.{refl}
 use native.Mathlib.Omega.{arith}
 use borrow.Author.Needs.{needs}
-use Rattle.closing.proofs.close.left_behind.Statement.{statement}
-use Rattle.closing.proofs.close.left_behind.Tie as tie
+use Rattle.closing.proofs.left_behind.Statement.{statement}
+use Rattle.closing.proofs.left_behind.Tie as tie
 
 due-in-requires : tie.Need-due-in-requires
 due-in-requires c κs = search needs

@@ -1,11 +1,11 @@
--- `closing::runs::move_run` meets its contract.
+-- `runs::move_run` meets its contract.
 use mathlib.Core.Path.{_≡_}
 use Prim.Native.Nat.{_*_, _-_}
 use borrow.Author.Needs.{needs}
 use Rattle.rules.specs.Limits.{row-size}
-use Rattle.closing.proofs.CopyLaws.{slid-run}
-use Rattle.closing.proofs.runs.move_run.Statement.{statement}
-use Rattle.closing.proofs.runs.move_run.Tie as tie
+use Rattle.runs.proofs.CopyLaws.{slid-run}
+use Rattle.runs.proofs.move_run.Statement.{statement}
+use Rattle.runs.proofs.move_run.Tie as tie
 
 sub-out : tie.Need-sub-out
 sub-out c = search needs

@@ -1,10 +1,10 @@
--- `closing::runs::copy8` meets its contract.
+-- `runs::copy8` meets its contract.
 use mathlib.Core.Path.{refl}
 use Prim.Native.Nat.{_+_, _≤_, _<_}
 use lib.ListN.{length}
-use Rattle.closing.proofs.CopyLaws.{first-of-8, within-8, word-8, earlier-8, stored, stored-long, within-stored, copied8}
-use Rattle.closing.proofs.runs.copy8.Statement.{statement}
-use Rattle.closing.proofs.runs.copy8.Tie as tie
+use Rattle.runs.proofs.CopyLaws.{first-of-8, within-8, word-8, earlier-8, stored, stored-long, within-stored, copied8}
+use Rattle.runs.proofs.copy8.Statement.{statement}
+use Rattle.runs.proofs.copy8.Tie as tie
 
 -- the table is no longer than a word counts, and both eights are within it
 short : (s : tie.Start) → length (s .args .table .now) < 18446744073709551616

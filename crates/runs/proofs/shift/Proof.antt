@@ -1,9 +1,9 @@
--- `closing::runs::shift` meets its contract.
+-- `runs::shift` meets its contract.
 use Prim.Native.Nat.{_-_}
 use borrow.Author.Needs.{needs}
-use Rattle.closing.proofs.CopyLaws.{Moved, moved-none, moved-byte, moved-all}
-use Rattle.closing.proofs.runs.shift.Statement.{statement}
-use Rattle.closing.proofs.runs.shift.Tie as tie
+use Rattle.runs.proofs.CopyLaws.{Moved, moved-none, moved-byte, moved-all}
+use Rattle.runs.proofs.shift.Statement.{statement}
+use Rattle.runs.proofs.shift.Tie as tie
 
 abbrev Inv-loop : tie.InvT-loop
 Inv-loop table₀ from end by i₀ table i = Moved table₀ (from - by) from end i table

@@ -1,8 +1,8 @@
--- `closing::close::next_leaving` meets its contract.
+-- `closing::next_leaving` meets its contract.
 use borrow.Author.Needs.{needs}
 use Rattle.closing.proofs.SearchLaws.{search-room, leaving-last, leaving-found}
-use Rattle.closing.proofs.close.next_leaving.Statement.{statement}
-use Rattle.closing.proofs.close.next_leaving.Tie as tie
+use Rattle.closing.proofs.next_leaving.Statement.{statement}
+use Rattle.closing.proofs.next_leaving.Tie as tie
 
 search-end-requires : tie.Need-search-end-requires
 search-end-requires c κs = search needs

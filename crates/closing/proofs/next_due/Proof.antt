@@ -1,10 +1,10 @@
--- `closing::close::next_due` meets its contract.
+-- `closing::next_due` meets its contract.
 use Prim.Native.Nat.{_-_}
 use borrow.Author.Needs.{needs}
 use Rattle.closing.specs.Close.{None-due}
 use Rattle.closing.proofs.SearchLaws.{none-start, none-more, next-found, next-none}
-use Rattle.closing.proofs.close.next_due.Statement.{statement}
-use Rattle.closing.proofs.close.next_due.Tie as tie
+use Rattle.closing.proofs.next_due.Statement.{statement}
+use Rattle.closing.proofs.next_due.Tie as tie
 
 abbrev Inv-loop : tie.InvT-loop
 Inv-loop table from to slot i₀ i = None-due (slot .0) from to table i

@@ -56,20 +56,25 @@ fn shift<const N: usize>(
     last: usize,
     own: usize,
 ) {
-    let mut moved = 0;
-    for at in last..=own {
-        let key = plan.at(usize::from(segments.heaviest[at]));
-        if key > moved || at == own {
-            if moved != 0 {
-                let row = &mut rows[index.of(moved)];
-                let weight = weight_in(moved) as u32;
-                set(
-                    row,
-                    slot + u32::from(segments.end[at]),
-                    weight.max(segments.lightest[at]),
-                );
-            }
+    if last == own {
+        return;
+    }
+    let heaviest = |at: usize| plan.at(usize::from(segments.heaviest[at]));
+    let mut put = |moved: u64, at: usize| {
+        let weight = (weight_in(moved) as u32).max(segments.lightest[at]);
+        set(
+            &mut rows[index.of(moved)],
+            slot + u32::from(segments.end[at]),
+            weight,
+        );
+    };
+    let mut moved = heaviest(last);
+    for at in last + 1..own {
+        let key = heaviest(at);
+        if key > moved {
+            put(moved, at);
             moved = key;
         }
     }
+    put(moved, own);
 }

@@ -36,7 +36,9 @@ fn substitute_in<const N: usize>(ticket: u32, table: &[u8]) -> u64 {
     let ahead = (own - head.slot) as usize;
     let load = counts.load(head.used);
     if ahead >= load.busy {
-        return blank(late_start::<N>(used, own));
+        let late = head.used - load.busy - load.left_out;
+        let before = (ahead - load.busy).min(late);
+        return blank(late_start::<N>(used, own, before, late));
     }
     if load.left_out == 0 {
         return among_all(used, head.slot, &counts, ahead);
@@ -68,27 +70,28 @@ fn row(row: &Row) -> u64 {
     u64::from(ticket_of(row)) << 8
 }
 
-/// Past the busy slots: the first slot of the segment of this due slot. Rows due from it on are placed as late as
-/// they can go; the segment reaches back until the slots before it have taken those that did not fit.
-fn late_start<const N: usize>(rows: &[Row], own: u32) -> u32 {
-    let (mut ahead, mut behind) = ([0_u16; N], [0_u16; N]);
+/// Past the busy slots, where `late` rows are due: the first slot of the segment of this due slot. Rows due from it on
+/// are placed as late as they can go; the segment reaches back until the slots before it have taken those that did not
+/// fit. Rows due `late` slots away or further move nothing; so many slots `before` it count.
+fn late_start<const N: usize>(rows: &[Row], own: u32, before: usize, late: usize) -> u32 {
+    let mut counts = [[0_u16; N]; 2];
+    let counts = &mut counts.as_flattened_mut()[..before + late];
+    let first = own - before as u32;
     for row in rows {
-        let due = due(row);
-        let (counts, far) = if due >= own {
-            (&mut ahead, due - own)
-        } else {
-            (&mut behind, own - due)
-        };
-        if let Some(count) = counts.get_mut(far as usize) {
+        if let Some(count) = counts.get_mut(due(row).wrapping_sub(first) as usize) {
             *count += 1;
         }
     }
     let waiting = |waiting: u16, count: &u16| (waiting + count).saturating_sub(1);
-    let mut left = ahead[..rows.len()].iter().rev().fold(0, waiting);
+    let (earlier, later) = counts.split_at(before);
+    let mut left = later.iter().rev().fold(0, waiting);
     let mut start = own;
-    while left > 0 {
+    for count in earlier.iter().rev() {
+        if left == 0 {
+            break;
+        }
         start -= 1;
-        left = waiting(left, &behind[(own - start) as usize % N]);
+        left = waiting(left, count);
     }
     start
 }

@@ -59,7 +59,7 @@ KINDS = [
     ("a payload taken from a refused line", "lines/payload_of_a_refused_line"),
     ("a writer that changes a byte on refusal 12", "lines/bytes_changed_on_refusal_12"),
     ("a payload of 50 digits", "digits/payload_of_50_digits rules/payload_of_50_digits"),
-    ("a reply line of the wrong step", "lines/step_of_the_wrong_kind turns/leap_said_as_ordinary"),
+    ("a reply line of the wrong step", "replying/step_of_the_wrong_kind turns/leap_said_as_ordinary"),
     ("a kept blank that goes out and stays", "step/sent_row_stays rules/sent_blank_stays"),
     ("a leap's shifts that begin at p's due slot", "rules/shifts_from_ps_due_slot"),
     ("a refusal that changes something", "listing/list_refused_but_written rules/refused_call_writes rules/refused_write_clears"),
@@ -110,7 +110,8 @@ CONTRACTS = {
     "listing": "`list` (`Lists`): reply and entries, by view",
     "station": "each exported call: the packed reply and the bytes (`Exports`, `Exports-look`)",
     "digits": "`number` (`spelt`), `digits_only` (`all-digits`), `payload_fits` (`payload-fits`), `put_number` (`Puts`)",
-    "lines": "`read_command` (`read`), `payload` (`Payload-part`), `write_line` (`Writes`), `line_end` (`Line-ends`), the reply writers (`Replies`)",
+    "lines": "`read_command` (`read`), `payload` (`Payload-part`), `write_line` (`Writes`), `line_end` (`Line-ends`)",
+    "replying": "the writers of reply lines (`Replies`): the line's length, and each byte of the buffer",
     "turns": "`take_turn_in_room` (`Turns`): a command's call on the table, and its reply's line",
     "serving": "`serve_in_room` (`Serves`): one read, and every byte it leaves; `answer_lines_in_room` (`Answers`); `fresh_table`",
 }

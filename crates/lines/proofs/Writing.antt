@@ -1,4 +1,4 @@
--- Lines written: values that fit, the front part by part, the payload copied, the answers; reply lines.
+-- Lines written: values that fit, the front part by part, the payload copied, the answers.
 use mathlib.Core.Path.{_≡_, refl, sym, ap, _∙_}
 use mathlib.Core.Bool.{Bool, true, false, _&&_}
 use mathlib.Core.List.{List, [], _∷_, _++_, append-assoc, append-nil}
@@ -8,10 +8,9 @@ use native.Mathlib.Numerals.{add-one}
 use lib.Dec.{ltb}
 use lib.ListN.{length, getD, set, take, drop, length-append, length-set, take-append-drop, drop-of-length-le}
 use lib.Seq.{length-take-le, take-all, take-length, paste, paste-zero, paste-suc}
-use Rattle.rules.specs.Calls.{Out, silence, frame, kept-blank, ordinary, leap, step}
 use Rattle.rules.specs.Limits.{short-digits}
 use Rattle.rules.specs.Lines.{digits, all-digits, count-digits, numerals, fit-digits, form-numbered, form-of, front-size, payload-fits}
-use Rattle.rules.specs.Lines.{line-number, values-of, front, stands, line-end, reply-text, reply-digits, out-digits}
+use Rattle.rules.specs.Lines.{line-number, values-of, front, stands, line-end}
 use Rattle.rules.specs.Lines as rules
 use Rattle.theory.specs.Digits.{length-digits}
 use Rattle.theory.specs.Numerals.{length-numerals, count-more, count-least, numerals-more, fit-more}
@@ -20,11 +19,10 @@ use Rattle.digits.specs.Spelling.{put, Puts}
 use Rattle.digits.proofs.Filling.{Filled, filled-none, filled-put, filled-number, filled-byte}
 use Rattle.lines.specs.declared.Written.{Written}
 use Rattle.lines.specs.declared.Written.the-variants.{Length, Refused}
-use Rattle.lines.specs.Cases.{out-number, out-ticket}
 use Rattle.lines.specs.declared.forms.Form.{Form}
 use Rattle.lines.specs.Forms.{widths-in, values-in, can-stand, Has-form, Has-values}
 use Rattle.lines.proofs.ReadLines.{front-count}
-use Rattle.lines.specs.Writing.{Writes, Replies, step-text}
+use Rattle.lines.specs.Writing.{Writes}
 
 -- WHAT CAN STAND: values, the payload's digits, their number
 pub stands-not : (a b c : Bool) → a ≡ false → false ≡ a && (b && c)
@@ -178,20 +176,3 @@ module _ (c : rules.Command) (ps z : List ℕ) where
         reply = rw o (rw (length-text c ps e, ← g) at (sym (w .0)));
         left = rw (← t) at (all .stand) ∙ sym (w .1);
       }
-
--- REPLY LINES
-pub replied : {xs zs b : List ℕ} {r : ℕ} → Filled xs zs b → r ≡ length xs → Replies xs zs b r
-replied f e = record { long = e; left = f .stand }
-
--- a step's line by its numbers
-pub ordinary-said : (o : Out) → step-text (out-number o) 0 (out-ticket o) ≡ reply-text (step (ordinary o))
-unfolding reply-text reply-digits out-digits step-text digits
-ordinary-said silence = refl
-ordinary-said (frame k) = refl
-ordinary-said (kept-blank k) = refl
-
-pub leap-said : (o : Out) → step-text (out-number o) 1 (out-ticket o) ≡ reply-text (step (leap o))
-unfolding reply-text reply-digits out-digits step-text digits
-leap-said silence = refl
-leap-said (frame k) = refl
-leap-said (kept-blank k) = refl

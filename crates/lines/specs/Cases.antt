@@ -1,6 +1,5 @@
 -- Document 01's numbers and values for each case of the enums.
-use Prim.Native.Nat.{ℕ}
-use Rattle.rules.specs.Calls.{Reply, refused, amount, Out, silence, frame, kept-blank}
+use Rattle.rules.specs.Calls.{Reply, refused, amount}
 use Rattle.rules.specs.Lines as rules
 use Rattle.rules.specs.Lines.{open-line, take-line, send-line, command, broken}
 use Rattle.lines.specs.declared.Command.{Command}
@@ -25,14 +24,3 @@ of-reading Broken = broken
 abbrev pub of-written : Written → Reply
 of-written (Length n) = amount n
 of-written (Refused n) = refused n
-
--- what went out, as a reply line says it: 00 silence, 01 a frame, 02 a kept blank; and its ticket, zeros for silence
-abbrev pub out-number : Out → ℕ
-out-number silence = 0
-out-number (frame k) = 1
-out-number (kept-blank k) = 2
-
-abbrev pub out-ticket : Out → ℕ
-out-ticket silence = 0
-out-ticket (frame k) = k
-out-ticket (kept-blank k) = k

@@ -1,11 +1,11 @@
--- `lines::write_done_in_room` meets its contract: the buffer is filled part by part.
+-- `replying::write_done_in_room` meets its contract: the buffer is filled part by part.
 use mathlib.Core.Path.{refl}
 use borrow.Author.Needs.{needs}
 use Rattle.rules.specs.Lines.{digits, reply-digits, reply-text}
 use Rattle.digits.proofs.Filling.{filled-none, filled-number, filled-byte}
-use Rattle.lines.proofs.Writing.{replied}
-use Rattle.lines.proofs.replies.write_done_in_room.Statement.{statement}
-use Rattle.lines.proofs.replies.write_done_in_room.Tie as tie
+use Rattle.replying.proofs.Replying.{replied}
+use Rattle.replying.proofs.write_done_in_room.Statement.{statement}
+use Rattle.replying.proofs.write_done_in_room.Tie as tie
 
 put-number-requires : tie.Need-put-number-requires
 put-number-requires c κs = search needs

@@ -1,14 +1,17 @@
-// A reply's line, written into a lent buffer: what a call answers, or a refusal's number.
+// Reply lines, written into a lent buffer: what a call of the program answers, or a refusal's number.
 ghost use Prim.Native.Nat.{_≤_};
 ghost use lib.ListN.{length};
 ghost use Rattle.rules.specs.Calls.{refused, done, ticket};
 ghost use Rattle.rules.specs.Lines.{reply-room, reply-text};
-ghost use Rattle.lines.specs.Writing.{Replies, step-text};
-use crate::LINE_END;
+ghost use Rattle.replying.specs.Replying.{Replies, step-text};
+use digits::LINE_END;
 use digits::SHORT_DIGITS;
 use digits::WIDE_DIGITS;
 use digits::put_number;
 use sorts::Ticket;
+
+// The room that each reply's line fits in.
+pub const REPLY_ROOM: usize = 15;
 
 // An opening's, into REPLY_ROOM or more.
 pub fn write_done_in_room(buffer: &mut [u8]) -> usize

@@ -1,13 +1,10 @@
 -- Document 01's numbers and values for each case of the enums.
-use Rattle.rules.specs.Calls.{Reply, refused, amount}
 use Rattle.rules.specs.Lines as rules
 use Rattle.rules.specs.Lines.{open-line, take-line, send-line, command, broken}
 use Rattle.lines.specs.declared.Command.{Command}
 use Rattle.lines.specs.declared.Command.the-variants.{Open, Take, Send}
 use Rattle.lines.specs.declared.Reading.{Reading}
 use Rattle.lines.specs.declared.Reading.the-variants.{Is, Broken}
-use Rattle.lines.specs.declared.Written.{Written}
-use Rattle.lines.specs.declared.Written.the-variants.{Length, Refused}
 
 -- lines 00, 01 and 02
 abbrev pub of-command : Command → rules.Command
@@ -19,8 +16,3 @@ of-command Send = send-line
 abbrev pub of-reading : Reading → rules.Reading
 of-reading (Is c) = command (of-command c)
 of-reading Broken = broken
-
--- the length, or the refusal's number alone
-abbrev pub of-written : Written → Reply
-of-written (Length n) = amount n
-of-written (Refused n) = refused n

@@ -1,13 +1,13 @@
--- `lines::put_values` meets its contract: the first i values stand; what is left of the count falls.
+-- `writer::put_values` meets its contract: the first i values stand; what is left of the count falls.
 use mathlib.Core.Path.{_≡_, sym, _∙_}
 use Prim.Native.Nat.{_+_, _-_, _≤_, _<_}
 use native.Mathlib.Omega.{arith}
 use lib.ListN.{length, getD, take}
 use lib.Seq.{length-take-le, getD-take}
 use borrow.Author.Needs.{needs}
-use Rattle.lines.proofs.Writing.{Values-put, values-none, next-room, values-more, values-all}
-use Rattle.lines.proofs.writer.put_values.Statement.{statement}
-use Rattle.lines.proofs.writer.put_values.Tie as tie
+use Rattle.writer.proofs.Writing.{Values-put, values-none, next-room, values-more, values-all}
+use Rattle.writer.proofs.put_values.Statement.{statement}
+use Rattle.writer.proofs.put_values.Tie as tie
 
 abbrev Inv-loop : tie.InvT-loop
 Inv-loop buffer₀ values count widths at₀ i₀ buffer at i = Values-put (take count widths) (take count values) buffer₀ i at buffer

@@ -1,14 +1,14 @@
--- `lines::can_stand` meets its contract: values, then the payload's length, then its digits.
+-- `writer::can_stand` meets its contract: values, then the payload's length, then its digits.
 use mathlib.Core.Path.{sym, _∙_}
 use mathlib.Core.Bool.{Bool}
 use lib.ListN.{length}
 use borrow.Author.Needs.{needs}
 use borrow.Author.Tests.{not-true, not-false}
 use Rattle.rules.specs.Lines.{all-digits, fit-digits, payload-fits}
 use Rattle.lines.specs.Forms.{widths-in, values-in}
-use Rattle.lines.proofs.Writing.{stands-not, stands-long, stands-if}
-use Rattle.lines.proofs.writer.can_stand.Statement.{statement}
-use Rattle.lines.proofs.writer.can_stand.Tie as tie
+use Rattle.writer.proofs.Writing.{stands-not, stands-long, stands-if}
+use Rattle.writer.proofs.can_stand.Statement.{statement}
+use Rattle.writer.proofs.can_stand.Tie as tie
 
 -- what each test is about
 abbrev fit : tie.Start → Bool

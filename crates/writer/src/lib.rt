@@ -1,26 +1,31 @@
-// The line of a command and its payload digits, written into a lent buffer.
+// The line writer: a command and its payload digits as a line, in a lent buffer.
 ghost use mathlib.Core.Path.{_≡_};
 ghost use Prim.Native.Nat.{_+_, _≤_};
 ghost use lib.ListN.{length};
 ghost use Rattle.rules.specs.Limits.{short-digits};
 ghost use Rattle.rules.specs.Lines.{count-digits, fit-digits, numerals};
 ghost use Rattle.digits.specs.Spelling.{put};
 ghost use Rattle.lines.specs.Cases.{of-command};
 ghost use Rattle.lines.specs.Forms.{Small, can-stand, most-numbers, values-in, widths-in};
-ghost use Rattle.lines.specs.Writing.{Writes};
-use crate::Command;
-use crate::Written;
-use crate::forms::Form;
-use crate::forms::MOST_NUMBERS;
-use crate::forms::form_of;
-use crate::forms::line_number;
-use crate::forms::values_of;
+ghost use Rattle.writer.specs.Writing.{Writes};
 use digits::LINE_END;
 use digits::SHORT_DIGITS;
 use digits::digits_only;
 use digits::fits;
 use digits::payload_fits;
 use digits::put_number;
+use lines::Command;
+use lines::forms::Form;
+use lines::forms::MOST_NUMBERS;
+use lines::forms::form_of;
+use lines::forms::line_number;
+use lines::forms::values_of;
+
+// What the writer answers: the line's length with its 0A, or a refusal's number.
+pub enum Written {
+    Length(usize),
+    Refused(u32),
+}
 
 // Refusal 1 comes before 12, and a refusal changes no byte.
 pub fn write_line(command: Command, payload: &[u8], buffer: &mut [u8]) -> Written

@@ -17,12 +17,12 @@ use Rattle.theory.specs.Numerals.{length-numerals, count-more, count-least, num
 use Rattle.theory.specs.Lines.{as-many, length-front, text-front, from-stands, length-text, unfit, no-room, room, write-refused, write-done}
 use Rattle.digits.specs.Spelling.{put, Puts}
 use Rattle.digits.proofs.Filling.{Filled, filled-none, filled-put, filled-number, filled-byte}
-use Rattle.lines.specs.declared.Written.{Written}
-use Rattle.lines.specs.declared.Written.the-variants.{Length, Refused}
 use Rattle.lines.specs.declared.forms.Form.{Form}
 use Rattle.lines.specs.Forms.{widths-in, values-in, can-stand, Has-form, Has-values}
 use Rattle.lines.proofs.ReadLines.{front-count}
-use Rattle.lines.specs.Writing.{Writes}
+use Rattle.writer.specs.declared.Written.{Written}
+use Rattle.writer.specs.declared.Written.the-variants.{Length, Refused}
+use Rattle.writer.specs.Writing.{of-written, Writes}
 
 -- WHAT CAN STAND: values, the payload's digits, their number
 pub stands-not : (a b c : Bool) → a ≡ false → false ≡ a && (b && c)
@@ -176,3 +176,10 @@ module _ (c : rules.Command) (ps z : List ℕ) where
         reply = rw o (rw (length-text c ps e, ← g) at (sym (w .0)));
         left = rw (← t) at (all .stand) ∙ sym (w .1);
       }
+
+-- the number or length that the answer gives forgets nothing
+pub reply-once : (x y : Written) → of-written x ≡ of-written y → x ≡ y
+reply-once (Length m) (Length n) e = cc
+reply-once (Length m) (Refused n) e = let z : _≡_ {A = ℕ} 0 1 = cc in absurd (omega arith)
+reply-once (Refused m) (Length n) e = let z : _≡_ {A = ℕ} 0 1 = cc in absurd (omega arith)
+reply-once (Refused m) (Refused n) e = cc

@@ -1,4 +1,4 @@
--- `lines::write_line` meets its contract: the refusals in their order; then front, payload and 0A.
+-- `writer::write_line` meets its contract: the refusals in their order; then front, payload and 0A.
 use mathlib.Core.Bool.{true, false}
 use mathlib.Core.Path.{_≡_, refl, sym, _∙_}
 use Prim.Native.Nat.{_≤_}
@@ -8,11 +8,11 @@ use borrow.Author.Needs.{needs}
 use borrow.Author.Tests.{not-true, not-false}
 use Rattle.rules.specs.Lines.{stands, form-of, front-size}
 use Rattle.theory.specs.Lines.{front-small}
 use Rattle.lines.specs.Cases.{of-command}
 use Rattle.lines.proofs.ReadLines.{front-count}
-use Rattle.lines.proofs.Writing.{front-here, stands-here, front-put, write-unfit, write-full, write-on}
-use Rattle.lines.proofs.writer.write_line.Statement.{statement}
-use Rattle.lines.proofs.writer.write_line.Tie as tie
+use Rattle.writer.proofs.Writing.{front-here, stands-here, front-put, write-unfit, write-full, write-on}
+use Rattle.writer.proofs.write_line.Statement.{statement}
+use Rattle.writer.proofs.write_line.Tie as tie
 
 line-number-requires : tie.Need-line-number-requires
 line-number-requires c κs = search needs

@@ -1,4 +1,4 @@
--- `lines::values_fit` meets its contract: what is left fits where all do; it falls.
+-- `writer::values_fit` meets its contract: what is left fits where all do; it falls.
 use mathlib.Core.Path.{_≡_, refl, sym, _∙_}
 use Prim.Native.Nat.{_-_, _<_}
 use native.Mathlib.Omega.{arith}
@@ -7,9 +7,9 @@ use lib.Seq.{length-take-le, getD-take}
 use borrow.Author.Needs.{needs}
 use borrow.Author.Tests.{not-true, not-false}
 use Rattle.rules.specs.Lines.{fit-digits}
-use Rattle.lines.proofs.Writing.{fit-go, fit-stop, fit-all}
-use Rattle.lines.proofs.writer.values_fit.Statement.{statement}
-use Rattle.lines.proofs.writer.values_fit.Tie as tie
+use Rattle.writer.proofs.Writing.{fit-go, fit-stop, fit-all}
+use Rattle.writer.proofs.values_fit.Statement.{statement}
+use Rattle.writer.proofs.values_fit.Tie as tie
 
 abbrev Inv-loop : tie.InvT-loop
 Inv-loop values count widths i₀ i =

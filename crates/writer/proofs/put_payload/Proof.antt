@@ -1,10 +1,10 @@
--- `lines::put_payload` meets its contract: the bytes before i are copied; what is left of the length falls.
+-- `writer::put_payload` meets its contract: the bytes before i are copied; what is left of the length falls.
 use Prim.Native.Nat.{_-_}
 use lib.ListN.{length}
 use borrow.Author.Needs.{needs}
-use Rattle.lines.proofs.Writing.{Copied, copied-none, copied-more, copied-whole}
-use Rattle.lines.proofs.writer.put_payload.Statement.{statement}
-use Rattle.lines.proofs.writer.put_payload.Tie as tie
+use Rattle.writer.proofs.Writing.{Copied, copied-none, copied-more, copied-whole}
+use Rattle.writer.proofs.put_payload.Statement.{statement}
+use Rattle.writer.proofs.put_payload.Tie as tie
 
 abbrev Inv-loop : tie.InvT-loop
 Inv-loop payload at buffer₀ i₀ buffer i = Copied payload at buffer₀ buffer i

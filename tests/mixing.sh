@@ -54,8 +54,8 @@ substituting::substitute_of(<Ticket>, bytes)
 listing::Entry { ticket: <Ticket>, due: <Slot>, weight: <Weight> }
 lines::Command::Open(<Slot>)
 lines::Command::Take(<Slot>, <Weight>)
-lines::write_ticket_in_room(<Ticket>, table)
-lines::write_step_in_room(0, 0, <Ticket>, table)
+replying::write_ticket_in_room(<Ticket>, table)
+replying::write_step_in_room(0, 0, <Ticket>, table)
 EOF
 }
 

@@ -1,4 +1,4 @@
-// Digits 0 to 9 and A to F, numbers in digits, high digit first, and how many digits a payload can have.
+// Digits 0 to 9 and A to F, numbers in digits, high digit first, how many digits a payload can have, and the byte that ends a line.
 ghost use mathlib.Core.Path.{_≡_};
 ghost use Prim.Native.Nat.{_+_, _^_, _≤_, _<_};
 ghost use lib.Dec.{ltb};
@@ -12,6 +12,9 @@ pub const SHORT_DIGITS: usize = 2;
 pub const SLOT_DIGITS: usize = 4;
 
 pub const WIDE_DIGITS: usize = 8;
+
+// The byte that ends a line.
+pub const LINE_END: u8 = 10;
 
 // What bytes spell: a number, or nothing where one is no digit.
 pub enum Spelt {

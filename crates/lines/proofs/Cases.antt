@@ -7,9 +7,7 @@ use Rattle.lines.specs.declared.Command.{Command}
 use Rattle.lines.specs.declared.Command.the-variants.{Open, Take, Send}
 use Rattle.lines.specs.declared.Reading.{Reading}
 use Rattle.lines.specs.declared.Reading.the-variants.{Is, Broken}
-use Rattle.lines.specs.declared.Written.{Written}
-use Rattle.lines.specs.declared.Written.the-variants.{Length, Refused}
-use Rattle.lines.specs.Cases.{of-command, of-reading, of-written}
+use Rattle.lines.specs.Cases.{of-command, of-reading}
 
 -- the case of a command
 abbrev back : rules.Command → Command
@@ -30,9 +28,3 @@ reading-once (Is c) (Is d) e = ap Is (command-once c d cc)
 reading-once (Is c) Broken e = let z : _≡_ {A = ℕ} 0 1 = cc in absurd (omega arith)
 reading-once Broken (Is d) e = let z : _≡_ {A = ℕ} 0 1 = cc in absurd (omega arith)
 reading-once Broken Broken e = refl
-
-pub reply-once : (x y : Written) → of-written x ≡ of-written y → x ≡ y
-reply-once (Length m) (Length n) e = cc
-reply-once (Length m) (Refused n) e = let z : _≡_ {A = ℕ} 0 1 = cc in absurd (omega arith)
-reply-once (Refused m) (Length n) e = let z : _≡_ {A = ℕ} 0 1 = cc in absurd (omega arith)
-reply-once (Refused m) (Refused n) e = cc

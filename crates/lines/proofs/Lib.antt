@@ -3,5 +3,4 @@ pub mod FormLaws
 pub mod ReadLines
 pub mod Collecting
 pub mod Places
-pub mod Writing
 pub mod Cuts

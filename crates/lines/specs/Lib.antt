@@ -1,5 +1,4 @@
 pub mod Cases
 pub mod Forms
 pub mod Part
-pub mod Writing
 pub mod Ends

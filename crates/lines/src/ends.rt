@@ -1,8 +1,8 @@
 // Where the next line of an input ends.
 ghost use mathlib.Core.Path.{_≡_};
 ghost use Rattle.lines.specs.Ends.{Line-ends};
-use crate::LINE_END;
 use crate::LineEnd;
+use digits::LINE_END;
 
 // The first 0A at or after a place.
 pub fn line_end(input: &[u8], from: usize) -> LineEnd

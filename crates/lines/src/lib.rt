@@ -1,29 +1,16 @@
-// Text lines: the command reader, the payload's part of a line, the line writer, where a line ends, and reply lines.
+// Text lines: the form of each, the command reader, the payload's part of a line, and where a line ends.
 use sorts::Slot;
 use sorts::Weight;
 
-mod forms; // forms.rt: the form of each line
+pub mod forms; // forms.rt: the form of each line
 mod reader; // reader.rt: a line's command
 mod part; // part.rt: a line's payload
-mod writer; // writer.rt: a command's line
 mod ends; // ends.rt: where a line ends
-mod replies; // replies.rt: a reply's line
 
 pub use ends::line_end;
 pub use part::payload;
 pub use part::payload_place;
 pub use reader::read_command;
-pub use replies::write_done_in_room;
-pub use replies::write_refusal_in_room;
-pub use replies::write_step_in_room;
-pub use replies::write_ticket_in_room;
-pub use writer::write_line;
-
-// The byte that ends a line.
-pub const LINE_END: u8 = 10;
-
-// The room that each reply's line fits in.
-pub const REPLY_ROOM: usize = 15;
 
 // A command, one for each line number.
 pub enum Command {
@@ -42,12 +29,6 @@ pub enum Reading {
 pub struct Place {
     pub start: usize,
     pub end: usize,
-}
-
-// What the writer answers: the line's length with its 0A, or a refusal's number.
-pub enum Written {
-    Length(usize),
-    Refused(u32),
 }
 
 // Where a line ends.

@@ -12,7 +12,7 @@ use Rattle.rules.specs.Calls.{refused, run}
 use Rattle.rules.specs.Lines.{reply-text, printed-from}
 use Rattle.rules.specs.Reads.{begun-from, calls-of, stops, overlong, served, written}
 use Rattle.theory.specs.Served.{served-short}
-use Rattle.lines.specs.Writing.{Replies}
+use Rattle.replying.specs.Replying.{Replies}
 use Rattle.serving.specs.declared.answering.Progress.{Progress}
 use Rattle.serving.specs.declared.Served.{Served}
 use Rattle.serving.specs.Answering.{lines, Answers}

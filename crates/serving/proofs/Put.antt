@@ -9,7 +9,7 @@ use borrow.Rule.Slice.PartMut.{putMid}
 use Rattle.rules.specs.Calls.{Reply, refused, done, ticket, step, amount, blank-due, ordinary, leap, silence, frame, kept-blank}
 use Rattle.rules.specs.Lines.{reply-digits, reply-text, reply-room, out-digits}
 use Rattle.theory.specs.Digits.{length-digits}
-use Rattle.lines.specs.Writing.{Replies}
+use Rattle.replying.specs.Replying.{Replies}
 
 -- HOW LONG a reply is
 pub reply-long : (r : Reply) → length (reply-text r) ≤ reply-room

@@ -8,7 +8,7 @@ use lib.ListN.{length, take, drop}
 use Rattle.rules.specs.Calls.{refused}
 use Rattle.rules.specs.Lines.{reply-text}
 use Rattle.rules.specs.Reads.{Between, served, written}
-use Rattle.lines.specs.Writing.{Replies}
+use Rattle.replying.specs.Replying.{Replies}
 use Rattle.serving.specs.declared.Served.{Served}
 use Rattle.serving.specs.Answering.{at-front}
 

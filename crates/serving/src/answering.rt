@@ -9,7 +9,7 @@ use lines::LineEnd;
 use lines::Reading;
 use lines::line_end;
 use lines::read_command;
-use lines::write_refusal_in_room;
+use replying::write_refusal_in_room;
 use turns::take_turn_in_room;
 
 // How far the lines of a buffer are answered: the bytes read, the bytes of replies, and whether refusal 1 was among them.

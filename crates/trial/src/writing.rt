@@ -5,9 +5,9 @@ ghost use lib.ListN.{length};
 use crate::Request;
 use crate::small;
 use lines::Command;
-use lines::Written;
-use lines::write_line;
 use numbers::write4;
+use writer::Written;
+use writer::write_line;
 
 // What each byte of the buffer is before the call.
 const BEFORE: u8 = 42;

@@ -5,7 +5,7 @@ use Prim.Native.Nat.{ℕ}
 use Rattle.rules.specs.Rows.{framed, until}
 use Rattle.rules.specs.Calls.{taking, Call, opening, acting, Reply, Says}
 use Rattle.rules.specs.Lines.{Command, call-of, reply-text}
-use Rattle.lines.specs.Writing.{Replies}
+use Rattle.replying.specs.Replying.{Replies}
 use Rattle.turns.specs.Turns.{Turns}
 
 pub said-by : {line text before after : List ℕ} {r : ℕ} → Replies line before after r → line ≡ text → Replies text before after r

@@ -4,17 +4,16 @@ ghost use lib.ListN.{length};
 ghost use Rattle.rules.specs.Calls.{step};
 ghost use Rattle.rules.specs.Lines.{reply-room, reply-text};
 ghost use Rattle.replies.specs.Replies.{of-opened, of-taken, of-out, of-step, of-sent};
-ghost use Rattle.lines.specs.Cases.{out-number, out-ticket};
-ghost use Rattle.lines.specs.Writing.{Replies, step-text};
-use lines::write_done_in_room;
-use lines::write_refusal_in_room;
-use lines::write_step_in_room;
-use lines::write_ticket_in_room;
+ghost use Rattle.replying.specs.Replying.{Replies, step-text, out-number, out-ticket};
 use replies::Opened;
 use replies::Out;
 use replies::Sent;
 use replies::Step;
 use replies::Taken;
+use replying::write_done_in_room;
+use replying::write_refusal_in_room;
+use replying::write_step_in_room;
+use replying::write_ticket_in_room;
 use sorts::Ticket;
 
 pub fn say_opened(opened: Opened, reply: &mut [u8]) -> usize

@@ -1,6 +1,6 @@
 -- `turns::saying::say_step` meets its contract.
 use Rattle.replies.specs.Replies.{of-out}
-use Rattle.lines.proofs.Writing.{ordinary-said, leap-said}
+use Rattle.replying.proofs.Replying.{ordinary-said, leap-said}
 use Rattle.turns.proofs.Said.{said-by}
 use borrow.Author.Needs.{needs}
 use Rattle.turns.proofs.saying.say_step.Statement.{statement}

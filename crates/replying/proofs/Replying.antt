@@ -1,0 +1,25 @@
+-- Reply lines written: from the filled buffer, and a step's line by its numbers.
+use mathlib.Core.Path.{_≡_, refl}
+use mathlib.Core.List.{List}
+use Prim.Native.Nat.{ℕ}
+use lib.ListN.{length}
+use Rattle.rules.specs.Calls.{Out, silence, frame, kept-blank, ordinary, leap, step}
+use Rattle.rules.specs.Lines.{digits, reply-text, reply-digits, out-digits}
+use Rattle.digits.proofs.Filling.{Filled}
+use Rattle.replying.specs.Replying.{Replies, step-text, out-number, out-ticket}
+
+pub replied : {xs zs b : List ℕ} {r : ℕ} → Filled xs zs b → r ≡ length xs → Replies xs zs b r
+replied f e = record { long = e; left = f .stand }
+
+-- a step's line by its numbers
+pub ordinary-said : (o : Out) → step-text (out-number o) 0 (out-ticket o) ≡ reply-text (step (ordinary o))
+unfolding reply-text reply-digits out-digits step-text digits
+ordinary-said silence = refl
+ordinary-said (frame k) = refl
+ordinary-said (kept-blank k) = refl
+
+pub leap-said : (o : Out) → step-text (out-number o) 1 (out-ticket o) ≡ reply-text (step (leap o))
+unfolding reply-text reply-digits out-digits step-text digits
+leap-said silence = refl
+leap-said (frame k) = refl
+leap-said (kept-blank k) = refl

@@ -40,8 +40,9 @@ keys::canonical::order_key_of(<Slot>, <Weight>, 0)
 segments::score_of(<Weight>, <Weight>)
 segments::segments_of(keys, bytes, 0, <Slot>, 0, ends, tops, lows)
 whole::Whole::Kept { row: 0, first: <Slot>, mark: <Weight> }
-step::send::Went { leap: false, ticket: <Ticket>, kind: 0 }
-step::send::send_kept(table, round, 0, <Slot>, <Weight>, 0)
+chain::segment_by(ends, 0, <Slot>)
+step::Went { leap: false, ticket: <Ticket>, kind: 0 }
+step::send_kept(table, round, 0, <Slot>, <Weight>, 0)
 marks::sub::Sub::Blank(<Slot>)
 marks::far::is_far(round, buckets::Reach { free: 0, over: 0 }, <Slot>)
 marks::every::mark_every(bytes, counts, round, buckets::Reach { free: 0, over: 0 }, <Slot>)

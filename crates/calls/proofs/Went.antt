@@ -4,7 +4,7 @@ use mathlib.Core.Bool.{Bool, true, false, cond}
 use borrow.Author.Tests.{eq-eqb, ne-eqb}
 use Rattle.rules.specs.Rows.{row}
 use Rattle.rules.specs.Calls.{Out, silence, frame, kept-blank, ordinary, leap, out-of}
-use Rattle.step.specs.declared.send.Went.{Went}
+use Rattle.step.specs.declared.Went.{Went}
 use Rattle.step.specs.Send.{went-out, went-step}
 
 module _ (w : Went) where

@@ -13,7 +13,7 @@ use round::sound::Judged;
 use round::sound::scan;
 use sender::send_sound;
 use sorts::Round;
-use step::send::Went;
+use step::Went;
 
 pub fn send_slot(table: &mut [u8]) -> Sent
     ensures { λ r. ⌜ Says (acting sending) (of-sent r) (now (table .entry)) (now (table .exit)) ⌝ }

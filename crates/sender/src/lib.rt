@@ -14,10 +14,10 @@ use plan::Planned;
 use plan::plan_of;
 use segments::segments_of;
 use sorts::Round;
-use step::send::Went;
-use step::send::send_planned;
-use step::send::send_silence;
-use step::send::send_whole;
+use step::Went;
+use step::send_planned;
+use step::send_silence;
+use step::send_whole;
 use whole::choose_whole;
 
 // By the plan's segments. Counts and heap have served once the plan is made: they take the segments' ends and tops.

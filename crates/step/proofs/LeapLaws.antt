@@ -34,11 +34,11 @@ use Rattle.keys.specs.KeyLaws.{row-fine, due-is, row-is}
 use Rattle.keys.specs.Key.{due-of, row-of}
 use Rattle.closing.specs.Close.{Due-now, gone-ticket, closed-up}
 use Rattle.segments.specs.declared.Lead.{Lead}
-use Rattle.step.specs.Chain.{start-of, Lies-in, Lowered, Chained, having, Shifts}
+use Rattle.chain.specs.Chain.{start-of, Lies-in, Lowered, Chained, having, Shifts}
+use Rattle.chain.proofs.MarkLaws.{start-later, number-fits, marked, mark-some}
+use Rattle.chain.proofs.MoveLaws.{table-weight, moves-other, length-having}
 use Rattle.step.specs.Send.{Went-of, Sent-says, Keeps-blank, Leaps, Leaps-blank, Leaps-row}
-use Rattle.step.specs.declared.send.Went.{Went}
-use Rattle.step.proofs.MarkLaws.{start-later, number-fits, marked, mark-some}
-use Rattle.step.proofs.MoveLaws.{table-weight, moves-other, length-having}
+use Rattle.step.specs.declared.Went.{Went}
 use Rattle.step.proofs.StandLaws.{Rows-fit, Stood, stood, stood-closed, sent-says, fit-self, fit-changed, fit-moves}
 use Rattle.step.proofs.LeaveLaws.{changed-tickets, moves-tickets, gone-stood, same-changed, late-moves, due-stood}
 

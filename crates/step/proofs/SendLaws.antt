@@ -22,9 +22,9 @@ use Rattle.round.specs.Head.{Head-of}
 use Rattle.round.specs.Rows.{Ready, at}
 use Rattle.round.proofs.ReadLaws.{known, reads-within}
 use Rattle.closing.specs.Close.{Due-now, gone-ticket, closed-up}
+use Rattle.chain.proofs.MoveLaws.{table-kept}
 use Rattle.step.specs.Send.{Went-of, Silent, Sent-says, Leaves-alone, Keeps-blank}
-use Rattle.step.specs.declared.send.Went.{Went}
-use Rattle.step.proofs.MoveLaws.{table-kept}
+use Rattle.step.specs.declared.Went.{Went}
 use Rattle.step.proofs.StandLaws.{Stood, stood, stood-closed, alone-closed, self-table, sent-says, fit-self, fit-changed}
 use Rattle.step.proofs.LeaveLaws.{gone-row, gone-none, late-changed, due-stood}
 

@@ -31,9 +31,9 @@ use Rattle.sorts.specs.declared.Round.{Round as Head}
 use Rattle.round.proofs.ReadLaws.{known}
 use Rattle.round.specs.Rows.{Ready}
 use Rattle.closing.specs.Close.{closed-up}
-use Rattle.step.specs.Chain.{having}
+use Rattle.chain.specs.Chain.{having}
 use Rattle.step.specs.Send.{Went-of, went-out, went-step, Sent-says}
-use Rattle.step.specs.declared.send.Went.{Went}
+use Rattle.step.specs.declared.Went.{Went}
 
 -- rows that a sound table of a round can have
 pub record Rows-fit (r : Round) (xs : List Row) : Type 0 where

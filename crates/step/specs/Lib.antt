@@ -1,2 +1,1 @@
-pub mod Chain
 pub mod Send

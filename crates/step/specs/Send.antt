@@ -25,8 +25,8 @@ use Rattle.segments.specs.declared.Lead.{Lead}
 use Rattle.whole.specs.Whole.{Picked}
 use Rattle.whole.specs.declared.Whole.{Whole}
 use Rattle.closing.specs.Close.{closed-up}
-use Rattle.step.specs.Chain.{Pieces}
-use Rattle.step.specs.declared.send.Went.{Went}
+use Rattle.chain.specs.Chain.{Pieces}
+use Rattle.step.specs.declared.Went.{Went}
 
 -- the row that goes, and the kind of step
 pub record Went-of (p : Row) (leaps : Bool) (w : Went) : Type 0 where

@@ -1,0 +1,5 @@
+pub mod MarkLaws
+mod LinkLaws
+pub mod MoveLaws
+mod ChainLaws
+mod ShiftLaws

@@ -1,17 +1,16 @@
 -- THE PASS BACK along a leap's chain: the link that waits, and those behind it that have moved.
 use mathlib.Core.Path.{_≡_, sym, ap, ap₂, _∙_, subst}
 use mathlib.Core.Logic.{inl, inr, _≢_}
-use mathlib.Core.List.{List, [], _∷_, _++_}
+use mathlib.Core.List.{List, [], _∷_}
 use Prim.Native.Nat.{ℕ, suc, _+_, _*_, _≤_, _<_, max}
 use native.Mathlib.Omega.{arith}
 use lib.ListN.{length, getD}
-use lib.Seq.{sets}
 use Rattle.rules.specs.Limits.{head-size, row-size}
 use Rattle.rules.specs.Rows.{Row, Round, round, row, blank, In}
 use Rattle.rules.specs.Plan.{plan, planned, tight-after, mark}
 use Rattle.rules.specs.Steps.{changed}
-use Rattle.rules.specs.Conditions.{row-at}
-use Rattle.rules.specs.Table.{low, table}
+use Rattle.rules.specs.Table.{table}
+use Rattle.row.specs.Written.{with-shift}
 use Rattle.theory.specs.Tests.{leb?}
 use Rattle.theory.specs.All.{all-map, blank-weight}
 use Rattle.theory.specs.Full.{Fine}
@@ -68,9 +67,9 @@ module _ (r : Round) (f : Fine r) (small : length (r .rows) ≤ 1024) (cap : r .
       (all-map {Q = λ y. y .ticket ≢ at r i .ticket} (λ y (u : at r i .ticket ≢ y .ticket) (v : y .ticket ≡ at r i .ticket). u (sym v)) (l .links) o) in
       let long : i < length xs = omega (arith, l .below, length-moves r e1 (l .links) (r .rows)) in
       let shift = table-shift r xs 1 i (rising-moves r 1 (r .next) e1 (l .links) (r .rows) (f .rising)) long e (max (at r i .weight) m) in
-      ap₂ (λ (j v : ℕ). sets t (row-at j + 4) (low 2 e ++ low 4 (max v m))) (ap row-of (l .key) ∙ row-is r f small cap i (l .below))
+      ap₂ (λ (j v : ℕ). with-shift t j e (max v m)) (ap row-of (l .key) ∙ row-is r f small cap i (l .below))
       (ap weight-of (l .key) ∙ weight-is r f small cap i (l .below))
-      ∙ ap (λ (bs : List ℕ). sets bs (row-at i + 4) (low 2 e ++ low 4 (max (at r i .weight) m))) (l .bytes)
+      ∙ ap (λ (bs : List ℕ). with-shift bs i e (max (at r i .weight) m)) (l .bytes)
       ∙ sym shift
       ∙ ap₂ (λ (y : Row) (v : ℕ). table (having r (changed (y .ticket) (row (y .ticket) e (max (at r i .weight) v) (y .tail)) xs))) same q
       ∙ ap (λ (ys : List Row). table (having r ys))

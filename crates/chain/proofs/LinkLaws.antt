@@ -1,18 +1,16 @@
 -- A link moved and a segment passed, as the code does it.
 use mathlib.Core.Path.{_≡_}
-use mathlib.Core.List.{List, _++_}
-use Prim.Native.Nat.{ℕ, _+_, _≤_, _<_, max, min}
+use mathlib.Core.List.{List}
+use Prim.Native.Nat.{ℕ, _≤_, _<_, max, min}
 use native.Mathlib.Omega.{arith}
 use borrow.Author.Tests.{le-leb, lt-leb}
 use lib.ListN.{getD}
-use lib.Seq.{sets}
-use Rattle.rules.specs.Conditions.{row-at}
-use Rattle.rules.specs.Table.{low}
+use Rattle.row.specs.Written.{with-shift}
 use Rattle.keys.specs.Key.{weight-of, row-of}
 use Rattle.chain.specs.Chain.{linked, passed}
 
 pub linked-row : (k e m : ℕ) (bs us : List ℕ) (i w : ℕ) → i ≡ row-of k → w ≡ max (weight-of k) m →
-    us ≡ sets bs (row-at i + 4) (low 2 e ++ low 4 w) → us ≡ linked k e m bs
+    us ≡ with-shift bs i e w → us ≡ linked k e m bs
 linked-row k e m bs us i w p q h = rw (← p, ← q) h
 
 module _ (es ts ms : List ℕ) (w k : ℕ) (bs : List ℕ) where

@@ -1,19 +1,19 @@
 -- A leap's chain: segments by their numbers, counted from the back; their marks; and the links between two segments' ends.
 use mathlib.Core.Path.{_≡_}
 use mathlib.Core.Bool.{cond}
-use mathlib.Core.List.{List, _++_}
+use mathlib.Core.List.{List}
 use Prim.Native.Nat.{ℕ, suc, _+_, _-_, _≤_, _<_, max, min}
 use lib.Dec.{leb, eqb}
 use lib.ListN.{length, getD}
-use lib.Seq.{sets}
 use Rattle.rules.specs.Rows.{Row, Round, going-on}
 use Rattle.rules.specs.Plan.{plan, planned, mark}
 use Rattle.rules.specs.Conditions.{row-at}
-use Rattle.rules.specs.Table.{low, table, round-in}
+use Rattle.rules.specs.Table.{table, round-in}
 use Rattle.theory.specs.Chain.{Linked, moves}
 use Rattle.picture.specs.Picture.{Spans, Heaviest, Lightest, Within}
 use Rattle.sorts.specs.declared.Round.{Round as Head}
 use Rattle.round.specs.Rows.{Ready, at}
+use Rattle.row.specs.Written.{with-shift}
 use Rattle.keys.specs.Key.{weight-of, row-of, blank-key, key-at}
 
 -- A SEGMENT BY NUMBERS: its first and last slot, the key of its heaviest row, and the weight of its own lightest
@@ -63,7 +63,7 @@ pub record Named (k : ℕ) (t : List ℕ) : Type 0 where
 
 -- A LINK MOVED to an end, its weight at least the mark
 abbrev pub linked : (key end mark : ℕ) → List ℕ → List ℕ
-linked k e m bs = sets bs (row-at (row-of k) + 4) (low 2 e ++ low 4 (max (weight-of k) m))
+linked k e m bs = with-shift bs (row-of k) e (max (weight-of k) m)
 
 -- a segment passed: where its heaviest row is heavier than the link that waits, that one moves to its end
 abbrev pub passed : (ends tops marks : List ℕ) → (waiting k : ℕ) → List ℕ → List ℕ

@@ -6,12 +6,12 @@ use mathlib.Core.List.{List}
 use Prim.Native.Nat.{ℕ, suc, _+_, _≤_, _<_}
 use native.Mathlib.Omega.{arith}
 use lib.ListN.{length, getD}
-use lib.Seq.{sets}
 use Rattle.rules.specs.Rows.{Row, Round, row, blank, All, In}
 use Rattle.rules.specs.Plan.{plan, planned, in-plan, mark}
 use Rattle.rules.specs.Steps.{changed}
 use Rattle.rules.specs.Conditions.{row-at}
-use Rattle.rules.specs.Table.{low, table, table-refusal, round-in}
+use Rattle.rules.specs.Table.{table, table-refusal, round-in}
+use Rattle.row.specs.Written.{with-weight}
 use Rattle.theory.specs.Tests.{ltb?}
 use Rattle.theory.specs.All.{all-in, all-map, blank-weight}
 use Rattle.theory.specs.Bounds.{Row-fine, Tail-fine}
@@ -289,14 +289,14 @@ module _ {t : List ℕ} {h : Head} {es ts ls : List ℕ} {l : Lead} (w : Leaps-r
           })
           (all-in Tail-fine y (round-in t .rows) (q .size .tails) y-in)
 
-      module _ {x : List ℕ} {mw : ℕ} (k : x ≡ sets u (row-at j + 6) (low 4 mw)) (km : mw ≡ getD us to 0) where
+      module _ {x : List ℕ} {mw : ℕ} (k : x ≡ with-weight u j mw) (km : mw ≡ getD us to 0) where
         swap-stood : Stood t h ys x
         swap-stood =
             let i = w .row in
             stood t h ys x (v .ready) fits
             (k
-            ∙ ap (λ (o : ℕ). sets u (row-at j + 6) (low 4 o)) km
-            ∙ ap₂ (λ (n : ℕ) (bs : List ℕ). sets bs (row-at n + 6) (low 4 mk)) (other-row jo) (s .bytes)
+            ∙ ap (λ (o : ℕ). with-weight u j o) km
+            ∙ ap₂ (λ (n : ℕ) (bs : List ℕ). with-weight bs n mk) (other-row jo) (s .bytes)
             ∙ sym (table-weight (round-in t) xs 1 i (rising-moves (round-in t) 1 (round-in t .next) eo (s .links) (round-in t .rows) (f .rising))
             (omega (arith, w .below, xs-long)) mk)
             ∙ ap (λ (o : Row). table (having (round-in t) (changed (o .ticket) (row (o .ticket) (o .due) mk (o .tail)) xs))) y-there)

@@ -1,16 +1,16 @@
 -- Silence, a row that leaves alone, and a blank kept in a row.
 use mathlib.Core.Path.{_≡_, refl, sym, ap, _∙_}
 use mathlib.Core.Bool.{Bool, true, false}
-use mathlib.Core.List.{List, [], _∷_, _++_}
+use mathlib.Core.List.{List, [], _∷_}
 use Prim.Native.Nat.{ℕ, suc, _+_, _≤_, _<_}
 use native.Mathlib.Omega.{arith}
 use lib.ListN.{length}
-use lib.Seq.{sets}
 use Rattle.rules.specs.Rows.{Row, Round, row, blank}
 use Rattle.rules.specs.Plan.{planned}
 use Rattle.rules.specs.Steps.{kept-at, changed}
 use Rattle.rules.specs.Conditions.{row-at}
-use Rattle.rules.specs.Table.{low, table, table-refusal, round-in}
+use Rattle.rules.specs.Table.{table, table-refusal, round-in}
+use Rattle.row.specs.Written.{with-kept}
 use Rattle.theory.specs.Bounds.{kept-right}
 use Rattle.theory.specs.Feas.{num, below-1}
 use Rattle.theory.specs.Close.{closed, after-slot}
@@ -89,7 +89,7 @@ module _ {t : List ℕ} {h : Head} {j b m : ℕ} (a : Keeps-blank t h j b m) whe
       let n = known t h (a .ready) in
       (omega (arith, there, n .small), omega (arith, reads-within t h (a .ready) j (a .below) .1))
 
-  module _ {u : List ℕ} (d : u ≡ sets t (row-at j + 4) ((low 2 b ++ low 4 m) ++ (1 ∷ []))) where
+  module _ {u : List ℕ} (d : u ≡ with-kept t j b m) where
     kept-stood : Stood t h ys u
     unfolding row
     kept-stood =
@@ -99,7 +99,7 @@ module _ {t : List ℕ} {h : Head} {j b m : ℕ} (a : Keeps-blank t h j b m) whe
         (record { due-from = omega (arith, a .later); due-by = a .by; some = a .some; most = a .most })
         kept-right)
         (d
-        ∙ ap (λ (bs : List ℕ). sets bs (row-at j + 4) ((low 2 b ++ low 4 m) ++ (1 ∷ []))) (self-table t (a .ready .sound))
+        ∙ ap (λ (bs : List ℕ). with-kept bs j b m) (self-table t (a .ready .sound))
         ∙ sym (table-kept r (r .rows) 1 j (z .fine .rising) there b m))
 
     pub kept-good : (table-refusal u ≡ 0) × Head-of u h

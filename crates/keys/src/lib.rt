@@ -25,7 +25,19 @@ pub fn weight_of(key: u64) -> u32
     (16777217 - key / 16777216) as u32
 }
 
-// What the weight lacks to a number one above the heaviest.
+pub fn due_of(key: u64) -> u32
+    ensures { λ r. ⌜ r ≡ due-of key ⌝ }
+{
+    (key / 4096 % 4096) as u32
+}
+
+pub fn row_of(key: u64) -> usize
+    ensures { λ r. ⌜ r ≡ row-of key ⌝ }
+{
+    (key % 1024) as usize
+}
+
+// What the weight that a key tells lacks to a number one above the heaviest.
 pub fn lack_of(key: u64) -> u64
     ensures { λ r. ⌜ r ≡ lack-of key ⌝ }
 {
@@ -46,18 +58,6 @@ pub fn flagged(key: u64, flag: u8) -> u64
     ensures { λ r. ⌜ r ≡ key * flag ⌝ }
 {
     key * flag as u64
-}
-
-pub fn due_of(key: u64) -> u32
-    ensures { λ r. ⌜ r ≡ due-of key ⌝ }
-{
-    (key / 4096 % 4096) as u32
-}
-
-pub fn row_of(key: u64) -> usize
-    ensures { λ r. ⌜ r ≡ row-of key ⌝ }
-{
-    (key % 1024) as usize
 }
 
 // The lighter of two rows, and the heavier.

@@ -1,9 +1,9 @@
 -- What the code of the sweep asks for at each step.
-use mathlib.Core.Path.{_≡_, refl, sym, ap, _∙_}
+use mathlib.Core.Path.{_≡_, refl, ap, _∙_}
 use mathlib.Core.List.{List}
-use Prim.Native.Nat.{ℕ, suc, _+_, _*_, _-_, _/_, _%_, _≤_, _<_}
+use Prim.Native.Nat.{ℕ, _+_, _-_, _≤_, _<_}
 use native.Mathlib.Omega.{arith}
-use lib.ListN.{length, getD, set, length-set}
+use lib.ListN.{length, set, length-set}
 use Rattle.keys.specs.Key.{weight-of, lack-of, due-of, row-of, blank-key, May-lack, Lacks}
 use Rattle.keys.specs.KeyLaws.{lacks-none, lacks-more, lacks-once, may-lack, lack-fits}
 use Rattle.heap.specs.Heap.{Heap, Grown}

@@ -63,11 +63,11 @@ KINDS = [
     ("a kept blank that goes out and stays", "step/sent_row_stays rules/sent_blank_stays"),
     ("a leap's shifts that begin at p's due slot", "rules/shifts_from_ps_due_slot"),
     ("a refusal that changes something", "listing/list_refused_but_written rules/refused_call_writes rules/refused_write_clears"),
-    ("a program that writes no reply", "serving/no_reply_written"),
-    ("a program that says FF02 for FF01", "serving/refusal_2_for_1 serving/unended_line_gets_refusal_2 rules/reader_refuses_by_2"),
+    ("a program that writes no reply", "answering/no_reply_written"),
+    ("a program that says FF02 for FF01", "answering/refusal_2_for_1 serving/unended_line_gets_refusal_2 rules/reader_refuses_by_2"),
     ("a program that refuses a line split over two reads", "serving/split_line_refused rules/split_line_lost"),
     ("a program that passes over an unended line of one byte", "serving/one_byte_passed_over rules/unended_byte_passed_over"),
-    ("a program that goes on after refusal 1", "serving/refusal_1_goes_on rules/refusal_1_goes_on"),
+    ("a program that goes on after refusal 1", "answering/refusal_1_goes_on rules/refusal_1_goes_on"),
     ("a program whose table is sevens at first", "serving/table_of_sevens rules/table_of_sevens"),
     ("a word that gathers seven bytes", "zeros/seven_bytes_gathered zeros/first_byte_not_gathered rules/number_of_seven_bytes"),
     ("the last word of a row left out", "zeros/last_word_left_out"),
@@ -115,7 +115,8 @@ CONTRACTS = {
     "writer": "`write_line` (`Writes`): the reply, and each byte of the buffer",
     "replying": "the writers of reply lines (`Replies`): the line's length, and each byte of the buffer",
     "turns": "`take_turn_in_room` (`Turns`): a command's call on the table, and its reply's line",
-    "serving": "`serve_in_room` (`Serves`): one read, and every byte it leaves; `answer_lines_in_room` (`Answers`); `fresh_table`",
+    "answering": "`answer_lines_in_room` (`Answers`): the complete lines of a buffer, their replies and their calls on the table",
+    "serving": "`serve_in_room` (`Serves`): one read, and every byte it leaves; `fresh_table`",
 }
 
 

@@ -1,4 +1,2 @@
-pub mod Put
-pub mod Answered
 pub mod Moved
 pub mod OneRead

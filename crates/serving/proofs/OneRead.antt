@@ -13,11 +13,11 @@ use Rattle.rules.specs.Lines.{reply-text, printed-from}
 use Rattle.rules.specs.Reads.{begun-from, calls-of, stops, overlong, served, written}
 use Rattle.theory.specs.Served.{served-short}
 use Rattle.replying.specs.Replying.{Replies}
-use Rattle.serving.specs.declared.answering.Progress.{Progress}
+use Rattle.answering.specs.declared.Progress.{Progress}
+use Rattle.answering.specs.Answering.{lines, Answers}
+use Rattle.answering.proofs.Put.{Line-put}
 use Rattle.serving.specs.declared.Served.{Served}
-use Rattle.serving.specs.Answering.{lines, Answers}
 use Rattle.serving.specs.Serving.{after-read, to-write, Serves, Ending, Refused-behind, moved-front}
-use Rattle.serving.proofs.Put.{Line-put}
 
 -- A READ OF SOME BYTES, by all the bytes that are there then
 record Some (t h x there : List ℕ) : Type 0 where

@@ -9,8 +9,8 @@ use Rattle.rules.specs.Calls.{refused}
 use Rattle.rules.specs.Lines.{reply-text}
 use Rattle.rules.specs.Reads.{Between, served, written}
 use Rattle.replying.specs.Replying.{Replies}
+use Rattle.answering.specs.Answering.{at-front}
 use Rattle.serving.specs.declared.Served.{Served}
-use Rattle.serving.specs.Answering.{at-front}
 
 -- what is there after a read, and what is written for it: the bytes got stand in the input behind those held
 abbrev pub after-read : (held got : ℕ) (input table : List ℕ) → Between

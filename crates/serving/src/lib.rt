@@ -1,8 +1,7 @@
-// What the program does between a read and a write, on lent buffers: all complete lines answered, one read served.
+// What the program does between a read and a write, on lent buffers: one read served.
 ghost use mathlib.Core.Path.{_≡_};
 ghost use Rattle.rules.specs.Lines.{fresh-table};
 
-mod answering; // answering.rt: the complete lines of a buffer
 mod serving; // serving.rt: one read
 
 pub use serving::serve_in_room;

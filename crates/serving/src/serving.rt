@@ -7,7 +7,7 @@ ghost use Rattle.rules.specs.Lines.{reply-ratio, reply-room};
 ghost use Rattle.serving.specs.Serving.{Serves, Ending, Refused-behind, moved-front};
 use crate::LONGEST_LINE;
 use crate::Served;
-use crate::answering::answer_lines_in_room;
+use answering::answer_lines_in_room;
 use replying::write_refusal_in_room;
 
 // The bytes got stand behind those held; no bytes are the end of the input.

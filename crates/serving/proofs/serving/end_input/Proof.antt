@@ -1,4 +1,4 @@
--- `turns::serving::end_input` meets its contract.
+-- `serving::end_input` meets its contract.
 use Rattle.rules.specs.Calls.{refused}
 use Rattle.rules.specs.Lines.{reply-text}
 use Rattle.serving.proofs.OneRead.{ending-none, ending-refused}

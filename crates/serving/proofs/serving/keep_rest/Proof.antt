@@ -1,4 +1,4 @@
--- `turns::serving::keep_rest` meets its contract: the first i bytes are moved; what is left of the count falls.
+-- `serving::keep_rest` meets its contract: the first i bytes are moved; what is left of the count falls.
 use Rattle.serving.proofs.Moved.{moving-none, moving-more, moved}
 use Prim.Native.Nat.{_-_, _≤_}
 use Rattle.serving.proofs.Moved.{Moving}

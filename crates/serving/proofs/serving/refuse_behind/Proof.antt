@@ -1,9 +1,9 @@
--- `turns::serving::refuse_behind` meets its contract.
+-- `serving::refuse_behind` meets its contract.
 use native.Mathlib.Omega.{arith}
 use Rattle.rules.specs.Calls.{refused}
 use Rattle.rules.specs.Lines.{reply-text}
 use Rattle.turns.proofs.Said.{said-by}
-use Rattle.serving.proofs.Put.{put-line, reply-within}
+use Rattle.answering.proofs.Put.{put-line, reply-within}
 use Rattle.serving.proofs.OneRead.{behind}
 use borrow.Author.Needs.{needs}
 use Rattle.serving.proofs.serving.refuse_behind.Statement.{statement}

@@ -1,4 +1,4 @@
--- `turns::serving::serve_in_room` meets its contract: each way out is one of a read's four.
+-- `serving::serve_in_room` meets its contract: each way out is one of a read's four.
 use mathlib.Core.Path.{refl}
 use Prim.Native.Nat.{_+_}
 use native.Mathlib.Omega.{arith}

@@ -1,4 +1,4 @@
--- `turns::answering::answer_lines_in_room` meets its contract: the lines so far are answered; what is left of the input falls.
+-- `answering::answer_lines_in_room` meets its contract: the lines so far are answered; what is left of the input falls.
 use mathlib.Core.Path.{_≡_, refl, sym, ap, subst, _∙_}
 use Prim.Native.Nat.{_-_}
 use native.Mathlib.Nat.{le-refl}
@@ -10,10 +10,10 @@ use Rattle.rules.specs.Lines.{reply-text}
 use Rattle.lines.specs.Cases.{of-command, of-reading}
 use Rattle.lines.specs.Ends.{Line-ends, First-end}
 use Rattle.turns.proofs.Said.{said-by}
-use Rattle.serving.proofs.Put.{put-line, reply-within}
-use Rattle.serving.proofs.Answered.{Answering, out-within, room-left, answering-none, answering-more, answered-broken, answered-all}
-use Rattle.serving.proofs.answering.answer_lines_in_room.Statement.{statement}
-use Rattle.serving.proofs.answering.answer_lines_in_room.Tie as tie
+use Rattle.answering.proofs.Put.{put-line, reply-within}
+use Rattle.answering.proofs.Answered.{Answering, out-within, room-left, answering-none, answering-more, answered-broken, answered-all}
+use Rattle.answering.proofs.answer_lines_in_room.Statement.{statement}
+use Rattle.answering.proofs.answer_lines_in_room.Tie as tie
 
 abbrev Inv-loop : tie.InvT-loop
 Inv-loop input table₀ out₀ read₀ wrote₀ table out read wrote = Answering input table₀ table out₀ out read wrote × (length table ≡ length table₀)

@@ -8,7 +8,7 @@ use lib.ListN.{length, drop}
 use Rattle.rules.specs.Calls.{run}
 use Rattle.rules.specs.Lines.{read-refusal, reply-ratio, printed-from}
 use Rattle.rules.specs.Reads.{complete-from, begun-from, calls-of, stops}
-use Rattle.serving.specs.declared.answering.Progress.{Progress}
+use Rattle.answering.specs.declared.Progress.{Progress}
 
 -- an input's complete lines
 abbrev pub lines : List ℕ → List (List ℕ)

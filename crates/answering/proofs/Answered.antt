@@ -14,9 +14,9 @@ use Rattle.theory.specs.Tests.{ltb?}
 use Rattle.lines.specs.Ends.{No-end, First-end}
 use Rattle.lines.proofs.ReadLines.{short}
 use Rattle.lines.proofs.Cuts.{cut, uncut}
-use Rattle.serving.specs.declared.answering.Progress.{Progress}
-use Rattle.serving.specs.Answering.{lines, bytes-read, Answers}
-use Rattle.serving.proofs.Put.{Line-put, reply-long, refusal-long}
+use Rattle.answering.specs.declared.Progress.{Progress}
+use Rattle.answering.specs.Answering.{lines, bytes-read, Answers}
+use Rattle.answering.proofs.Put.{Line-put, reply-long, refusal-long}
 
 -- A LINE and those behind it: a command's, and one that is broken
 record Told (c : Command) (line : List ℕ) (more : List (List ℕ)) (t : List ℕ) : Type 0 where

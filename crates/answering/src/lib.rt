@@ -1,10 +1,10 @@
-// The complete lines of a buffer answered one after another.
+// The complete lines of a buffer answered one after another: their calls on the table, their replies in a lent buffer.
 ghost use mathlib.Core.Path.{_≡_};
 ghost use mathlib.Core.Bool.{false};
 ghost use Prim.Native.Nat.{_+_, _*_, _≤_};
 ghost use lib.ListN.{length};
 ghost use Rattle.rules.specs.Lines.{reply-ratio, reply-room};
-ghost use Rattle.serving.specs.Answering.{Answers};
+ghost use Rattle.answering.specs.Answering.{Answers};
 use lines::LineEnd;
 use lines::Reading;
 use lines::line_end;

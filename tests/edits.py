@@ -39,8 +39,8 @@ BREAKAGES = [
 KINDS = [
     ("a sender always silent", "sender/always_silent"),
     ("the canonical first instead of the pick", "segments/canonical_first rules/canonical_first"),
-    ("the heaviest instead of the pick", "segments/the_heaviest_goes rules/the_heaviest_goes"),
-    ("φ by a smaller Fibonacci pair", "segments/smaller_fibonacci_pair rules/golden_ratio_near"),
+    ("the heaviest instead of the pick", "lead/the_heaviest_goes rules/the_heaviest_goes"),
+    ("φ by a smaller Fibonacci pair", "lead/smaller_fibonacci_pair rules/golden_ratio_near"),
     ("r raised without shifting the h frames", "step/links_not_shifted"),
     ("a raised blank dropped", "step/raised_blank_dropped rules/raised_blank_dropped"),
     ("the lightest instead of the heaviest h", "step/lightest_links rules/lightest_shifted"),
@@ -95,6 +95,7 @@ CONTRACTS = {
     "buckets": "`reach_of` (`Reaches`): how far rows fill every slot, and how many are left out; `stretch_of` (`Stretches`): a bucket's segment",
     "heap": "`rise` and `sink` (`Grown`, `Replaced`): the lightest row's key on top",
     "plan": "`plan_of` (`Plans`): the near rows' keys in due order, the flags of the plan's rows, what is lost, the heaviest far row",
+    "lead": "`score_of` (`score`), `close_segment` (`closed`), `ends_here` (`ends-here`): one segment closed, and the one that leads",
     "segments": "`segments_of` (`Segments-say`): each near segment's end, heaviest and lightest, and the one whose heaviest row goes",
     "whole": "`choose_whole` (`Picked`): the row that goes where no row is left out",
     "runs": "`move_run`: a run of rows, in its bytes, moved down behind the rows kept",

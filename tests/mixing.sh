@@ -37,7 +37,7 @@ row::write::write_weight(table, 0, <Weight>)
 row::write::write_kept(table, 0, <Slot>, <Weight>)
 keys::key_of(<Weight>, <Slot>, 0)
 keys::canonical::order_key_of(<Slot>, <Weight>, 0)
-segments::score_of(<Weight>, <Weight>)
+lead::score_of(<Weight>, <Weight>)
 segments::segments_of(keys, bytes, 0, <Slot>, 0, ends, tops, lows)
 whole::Whole::Kept { row: 0, first: <Slot>, mark: <Weight> }
 step::send::Went { leap: false, ticket: <Ticket>, kind: 0 }

@@ -33,7 +33,7 @@ use Rattle.round.proofs.ReadLaws.{Known, known}
 use Rattle.keys.specs.KeyLaws.{row-fine, due-is, row-is}
 use Rattle.keys.specs.Key.{due-of, row-of}
 use Rattle.closing.specs.Close.{Due-now, gone-ticket, closed-up}
-use Rattle.segments.specs.declared.Lead.{Lead}
+use Rattle.lead.specs.declared.Lead.{Lead}
 use Rattle.step.specs.Chain.{start-of, Lies-in, Lowered, Chained, having, Shifts}
 use Rattle.step.specs.Send.{Went-of, Sent-says, Keeps-blank, Leaps, Leaps-blank, Leaps-row}
 use Rattle.step.specs.declared.send.Went.{Went}

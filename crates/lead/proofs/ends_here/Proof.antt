@@ -1,8 +1,8 @@
--- `segments::ends_here` meets its contract.
+-- `lead::ends_here` meets its contract.
 use borrow.Author.Needs.{needs}
-use Rattle.segments.proofs.LeadLaws.{ends-not, ends-by}
-use Rattle.segments.proofs.ends_here.Statement.{statement}
-use Rattle.segments.proofs.ends_here.Tie as tie
+use Rattle.lead.proofs.LeadLaws.{ends-not, ends-by}
+use Rattle.lead.proofs.ends_here.Statement.{statement}
+use Rattle.lead.proofs.ends_here.Tie as tie
 
 returns : tie.Need-returns
 returns c = let s = c .before .args in ends-not (s .due) (s .edge) (s .end) (search needs)

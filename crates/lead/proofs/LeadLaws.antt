@@ -8,8 +8,8 @@ use lib.Dec.{ltb}
 use Rattle.rules.specs.PlanM.{score}
 use Rattle.theory.specs.Tests.{eqb?, leb?}
 use Rattle.keys.specs.Key.{weight-of}
-use Rattle.segments.specs.Segmented.{ends-here, closed}
-use Rattle.segments.specs.declared.Lead.{Lead}
+use Rattle.lead.specs.Closed.{ends-here, closed}
+use Rattle.lead.specs.declared.Lead.{Lead}
 
 abbrev lead-of : (count score key segment other : ℕ) → Lead
 lead-of c s k g o = record { count = c; score = s; key = k; segment = g; other = o }

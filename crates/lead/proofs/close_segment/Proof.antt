@@ -1,15 +1,15 @@
--- `segments::close_segment` meets its contract.
+-- `lead::close_segment` meets its contract.
 use mathlib.Core.Path.{ap}
 use Prim.Native.Nat.{ℕ}
 use lib.ListN.{set}
-use Rattle.segments.proofs.LeadLaws.{closed-takes, closed-keeps}
+use Rattle.lead.proofs.LeadLaws.{closed-takes, closed-keeps}
 use borrow.Author.Needs.{needs}
-use Rattle.segments.proofs.close_segment.Statement.{statement}
-use Rattle.segments.proofs.close_segment.Tie as tie
-use Rattle.segments.proofs.close_segment.Reads as reads
-use Rattle.segments.proofs.close_segment.Lts as lts
+use Rattle.lead.proofs.close_segment.Statement.{statement}
+use Rattle.lead.proofs.close_segment.Tie as tie
+use Rattle.lead.proofs.close_segment.Reads as reads
+use Rattle.lead.proofs.close_segment.Lts as lts
 use Rattle.keys.proofs.weight_of.Reads as weight-of-reads
-use Rattle.segments.proofs.score_of.Reads as score-of-reads
+use Rattle.lead.proofs.score_of.Reads as score-of-reads
 
 -- src/lib.rt:50:26
 weight-of-requires : tie.Need-weight-of-requires

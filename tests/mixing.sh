@@ -42,9 +42,9 @@ segments::segments_of(keys, bytes, 0, <Slot>, 0, ends, tops, lows)
 whole::Whole::Kept { row: 0, first: <Slot>, mark: <Weight> }
 step::send::Went { leap: false, ticket: <Ticket>, kind: 0 }
 step::send::send_kept(table, round, 0, <Slot>, <Weight>, 0)
-marks::sub::Sub::Blank(<Slot>)
-marks::far::is_far(round, buckets::Reach { free: 0, over: 0 }, <Slot>)
-marks::every::mark_every(bytes, counts, round, buckets::Reach { free: 0, over: 0 }, <Slot>)
+sub::Sub::Blank(<Slot>)
+far::is_far(round, buckets::Reach { free: 0, over: 0 }, <Slot>)
+every::mark_every(bytes, counts, round, buckets::Reach { free: 0, over: 0 }, <Slot>)
 marks::mark::mark_near(keys, bytes, 0, <Slot>, <Slot>)
 marks::substitute::substitute_near(keys, bytes, 0, <Slot>, <Slot>)
 calls::opening::open_round(<Slot>, table)

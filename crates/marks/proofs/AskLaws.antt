@@ -1,19 +1,15 @@
 -- What callers go by: from a table and its plan to what the answers ask for, and back to the table's round.
-use mathlib.Core.Path.{_≡_, sym, _∙_}
-use mathlib.Core.Bool.{Bool, true, false}
+use mathlib.Core.Path.{_≡_}
 use mathlib.Core.List.{List}
-use Prim.Native.Nat.{ℕ, _+_, _-_, _≤_, _<_}
+use Prim.Native.Nat.{ℕ, _+_, _≤_, _<_}
 use native.Mathlib.Omega.{arith}
-use lib.Dec.{leb}
 use lib.ListN.{getD}
-use borrow.Author.Tests.{leb-true, leb-false}
 use Rattle.rules.specs.Rows.{Round}
 use Rattle.rules.specs.Table.{round-in}
-use Rattle.rules.specs.Plan.{mark, planned}
+use Rattle.rules.specs.Plan.{mark}
 use Rattle.theory.specs.Sum.{sum, total-sum}
 use Rattle.theory.specs.Full.{Fine}
-use Rattle.theory.specs.Members.{planned-rows, found-total}
-use Rattle.theory.specs.Near.{far-mark}
+use Rattle.theory.specs.Members.{found-total}
 use Rattle.theory.specs.Flags.{with-flag, Chosen, chosen-rows}
 use Rattle.sorts.specs.declared.Round.{Round as Head}
 use Rattle.round.specs.Rows.{Ready, at}
@@ -22,11 +18,11 @@ use Rattle.keys.specs.Sorted.{Sorted, many-due}
 use Rattle.buckets.specs.Reach.{Reaches}
 use Rattle.buckets.specs.declared.Reach.{Reach}
 use Rattle.buckets.proofs.SegmentLaws.{whole-rows}
+use Rattle.sub.specs.Substitute.{Substitutes}
+use Rattle.sub.specs.declared.Sub.{Sub}
 use Rattle.marks.specs.Total.{Lost}
 use Rattle.marks.specs.Given.{Asked, Lent-asked}
 use Rattle.marks.specs.Near.{Marks-say, Substitutes-say}
-use Rattle.marks.specs.Substitute.{Substitutes}
-use Rattle.marks.specs.declared.sub.Sub.{Sub}
 use Rattle.marks.proofs.KeptLaws.{given}
 
 -- THE WEIGHT LEFT OUT
@@ -37,18 +33,6 @@ lost-is r f fs lost c e =
 
 pub lost-none : (r : Round) → Fine r → (x : Reach) → Reaches r x → x .over ≡ 0 → Lost r 0
 lost-none r f x w e = record { is = omega (arith, found-total r f (r .rows) (whole-rows r f x w e)) }
-
--- A FAR SLOT
-pub far-zero : (t : List ℕ) (h : Head) (x : Reach) (s : ℕ) (far : Bool) → Ready t h → Reaches (round-in t) x → h .slot .0 ≤ s → s ≤ h .last .0 →
-    far ≡ leb (x .free) (s - h .slot .0) → far ≡ true → mark (round-in t) s ≡ 0
-far-zero t h x s far k w a b e d =
-    let n = known t h k in
-    far-mark (round-in t) (n .fine) (planned (round-in t)) (planned-rows (round-in t) (n .fine)) (round-in t .slot + x .free) (w .near) s
-    (omega (arith, a, n .slot, leb-true (x .free) (s - h .slot .0) (sym e ∙ d))) (omega (arith, b, n .last))
-
-pub not-far : (h : Head) (x : Reach) (s : ℕ) (far : Bool) → h .slot .0 ≤ s → far ≡ leb (x .free) (s - h .slot .0) → far ≡ false →
-    s < h .slot .0 + x .free
-not-far h x s far a e d = omega (arith, a, leb-false (x .free) (s - h .slot .0) (sym e ∙ d))
 
 -- A NEAR SLOT, where rows are left out
 module _ (t ks fs : List ℕ) (h : Head) (x : Reach) (many : ℕ) (k : Ready t h) (w : Reaches (round-in t) x) (s : Sorted (round-in t) (x .free) ks)

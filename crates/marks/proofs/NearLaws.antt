@@ -22,11 +22,11 @@ use Rattle.keys.specs.Key.{weight-of, due-of, row-of, blank-key, key-at}
 use Rattle.keys.specs.KeyLaws.{row-is, weight-is, some-key, greater-key}
 use Rattle.keys.specs.Sorted.{placed}
 use Rattle.keys.specs.DueOrder.{placed-all, placed-rises}
+use Rattle.sub.specs.Substitute.{Substitutes}
+use Rattle.sub.specs.declared.Sub.the-variants.{Row as Row-at, Blank}
 use Rattle.marks.specs.Given.{Given, Asked, Lent}
 use Rattle.marks.specs.Near.{Finds, Ends, Left-row, Left}
-use Rattle.marks.specs.Substitute.{Substitutes}
 use Rattle.marks.specs.declared.find.Found.{Found}
-use Rattle.marks.specs.declared.sub.Sub.the-variants.{Row as Row-at, Blank}
 use Rattle.marks.proofs.KeptLaws.{flag-on, flag-off, plan-rows, from-slot, at-place, Read, key-read}
 
 module _ (r : Round) (ks fs : List ℕ) (many slot n : ℕ) (g : Given r ks fs many slot n) where

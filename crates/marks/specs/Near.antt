@@ -10,10 +10,10 @@ use Rattle.theory.specs.Segments.{Segment}
 use Rattle.theory.specs.Flags.{with-flag}
 use Rattle.round.specs.Rows.{at}
 use Rattle.keys.specs.Key.{key-at, blank-key}
+use Rattle.sub.specs.Substitute.{Substitutes}
+use Rattle.sub.specs.declared.Sub.{Sub}
 use Rattle.marks.specs.Given.{Given, Asked}
-use Rattle.marks.specs.Substitute.{Substitutes}
 use Rattle.marks.specs.declared.find.Found.{Found}
-use Rattle.marks.specs.declared.sub.Sub.{Sub}
 
 -- THE SEGMENT of a slot, and of the plan's rows due by its end the lightest
 pub record Finds (r : Round) (fs : List ℕ) (n asked : ℕ) (x : Found) : Type 0 where

@@ -2,12 +2,12 @@
 ghost use Rattle.marks.specs.Given.{Lent, Lent-asked};
 ghost use Rattle.marks.specs.Near.{Left-say, Substitutes-say};
 use crate::find::find_segment;
-use crate::sub::Sub;
 use keys::BLANK;
 use keys::due_of;
 use keys::lesser;
 use keys::row_of;
 use sorts::Slot;
+use sub::Sub;
 
 // The heaviest row left out that is due from a slot on; BLANK for none.
 fn heaviest_out(keys: &[u64], flags: &[u8], many: usize, from: u32) -> u64

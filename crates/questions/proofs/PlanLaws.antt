@@ -13,10 +13,10 @@ use Rattle.buckets.specs.Reach.{Reaches}
 use Rattle.buckets.specs.declared.Reach.{Reach}
 use Rattle.plan.specs.Plans.{Plans}
 use Rattle.plan.specs.declared.Planned.{Planned}
+use Rattle.sub.specs.Substitute.{Substitutes}
+use Rattle.sub.specs.declared.Sub.{Sub}
 use Rattle.marks.specs.Given.{Lent-asked}
 use Rattle.marks.specs.Near.{Marks-say, Substitutes-say}
-use Rattle.marks.specs.Substitute.{Substitutes}
-use Rattle.marks.specs.declared.sub.Sub.{Sub}
 use Rattle.marks.specs.Total.{Lost}
 use Rattle.marks.proofs.AskLaws.{lost-is, lost-none, lent-asked, mark-says, substitute-says}
 use Rattle.questions.specs.Seen.{Seen}

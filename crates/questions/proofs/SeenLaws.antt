@@ -20,8 +20,8 @@ use Rattle.buckets.specs.declared.Reach.{Reach}
 use Rattle.buckets.proofs.ReachLaws.{reaches}
 use Rattle.plan.specs.Plans.{Lent}
 use Rattle.plan.proofs.LentLaws.{ones-front}
-use Rattle.marks.specs.Every.{Whole}
-use Rattle.marks.specs.Far.{Far-row}
+use Rattle.every.specs.Every.{Whole}
+use Rattle.far.specs.Far.{Far-row}
 use Rattle.questions.specs.Seen.{Seen}
 
 pub ready : (t : List ℕ) (h : Head) → table-refusal t ≡ 0 → Head-of t h → h .slot .0 ≤ h .last .0 → Ready t h

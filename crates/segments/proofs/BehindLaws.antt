@@ -22,8 +22,9 @@ use Rattle.picture.specs.Pick.{top-score}
 use Rattle.picture.specs.Leads.{Leads, leads-one}
 use Rattle.picture.specs.Own.{Drawn-own}
 use Rattle.picture.specs.OwnPick.{leads-own}
-use Rattle.segments.specs.Segmented.{Keyed, Named, Stored, Leader, closed}
-use Rattle.segments.specs.declared.Lead.{Lead}
+use Rattle.lead.specs.Closed.{closed}
+use Rattle.lead.specs.declared.Lead.{Lead}
+use Rattle.segments.specs.Segmented.{Keyed, Named, Stored, Leader}
 use Rattle.segments.proofs.MadeLaws.{Made}
 
 -- THE SEGMENTS of the slots from b on and before z; none leads where there are none

@@ -5,7 +5,6 @@ pub mod OpenLaws
 pub mod MadeLaws
 pub mod BehindLaws
 pub mod PassLaws
-pub mod LeadLaws
 pub mod TurnLaws
 pub mod GivenLaws
 pub mod SegmentedLaws

@@ -20,9 +20,10 @@ use Rattle.keys.specs.DueOrder.{placed-row, placed-rises}
 use Rattle.picture.specs.Substitutes.{stand-in, stand-in-first, stand-in-later}
 use Rattle.picture.specs.Own.{Drawn-own}
 use Rattle.picture.specs.OwnPick.{own-long}
+use Rattle.lead.specs.Closed.{ends-here, closed}
+use Rattle.lead.specs.declared.Lead.{Lead}
 use Rattle.segments.specs.Given.{Given}
-use Rattle.segments.specs.Segmented.{Keyed, Named, Segmented, ends-here, closed}
-use Rattle.segments.specs.declared.Lead.{Lead}
+use Rattle.segments.specs.Segmented.{Keyed, Named, Segmented}
 use Rattle.segments.proofs.CountLaws.{kept-next, flag-yes}
 use Rattle.segments.proofs.PlaceLaws.{due-at, rows-of-it, key-there, due-told, row-told}
 use Rattle.segments.proofs.OpenLaws.{Open, Settled, key-of, open-start, open-next, open-kept, open-left, ends-full, later-due}

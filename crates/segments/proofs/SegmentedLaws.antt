@@ -16,8 +16,8 @@ use Rattle.picture.specs.Substitutes.{stand-in-later}
 use Rattle.picture.specs.Far.{Far}
 use Rattle.picture.specs.Own.{Right-own, Drawn-own, Numbered}
 use Rattle.picture.specs.OwnPick.{right-own-of, numbered-among, own-leader, own-far}
+use Rattle.lead.specs.declared.Lead.{Lead}
 use Rattle.segments.specs.Segmented.{Named, Holds-segment, Stored, Segmented}
-use Rattle.segments.specs.declared.Lead.{Lead}
 
 -- SEGMENT k of those from slot b on: the first has the greatest number, each other begins behind the end with the next number
 pub record Numbered-at (r : Round) (es ts ls : List ℕ) (b : ℕ) (gs : List Segment) (k : ℕ) : Type 0 where

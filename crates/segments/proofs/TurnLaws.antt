@@ -8,9 +8,10 @@ use lib.ListN.{length, getD, set, length-set}
 use Rattle.keys.specs.Key.{weight-of, due-of, row-of, blank-key}
 use Rattle.keys.specs.Sorted.{many-due}
 use Rattle.keys.specs.DueOrder.{placed-row}
+use Rattle.lead.specs.Closed.{ends-here, closed}
+use Rattle.lead.specs.declared.Lead.{Lead}
 use Rattle.segments.specs.Given.{Lent}
-use Rattle.segments.specs.Segmented.{Segments-say, ends-here, closed}
-use Rattle.segments.specs.declared.Lead.{Lead}
+use Rattle.segments.specs.Segmented.{Segments-say}
 use Rattle.segments.proofs.PlaceLaws.{row-told}
 use Rattle.segments.proofs.PassLaws.{Pass, Passing, Meeting, pass-first, pass-last, room, fair-keys, passing-on, passing-new, passing-kept, passing-left, passing-some}
 

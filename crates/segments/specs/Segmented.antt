@@ -1,22 +1,19 @@
 -- The near segments in arrays, numbered from the back, and the one that leads.
 use mathlib.Core.Path.{_≡_}
 use mathlib.Core.Logic.{_⊎_}
-use mathlib.Core.Bool.{Bool, false, cond}
 use mathlib.Core.List.{List, [], _∷_}
-use Prim.Native.Nat.{ℕ, suc, _+_, _≤_, _<_}
-use lib.Dec.{leb, ltb, eqb}
+use Prim.Native.Nat.{ℕ, _+_, _≤_, _<_}
 use lib.ListN.{length, getD}
 use Rattle.rules.specs.Rows.{Row, Round, blank}
-use Rattle.rules.specs.PlanM.{score}
 use Rattle.round.specs.Rows.{at}
-use Rattle.keys.specs.Key.{weight-of, blank-key, key-at}
+use Rattle.keys.specs.Key.{blank-key, key-at}
 use Rattle.picture.specs.Picture.{Segment}
 use Rattle.picture.specs.Substitutes.{stand-in}
 use Rattle.picture.specs.Pick.{top-score}
 use Rattle.picture.specs.Leads.{Leads}
 use Rattle.picture.specs.Own.{Drawn-own, Numbered}
+use Rattle.lead.specs.declared.Lead.{Lead}
 use Rattle.segments.specs.Given.{Given}
-use Rattle.segments.specs.declared.Lead.{Lead}
 
 -- the key of a row of the round; or of a blank
 pub record Keyed (r : Round) (x : Row) (k : ℕ) : Type 0 where
@@ -61,14 +58,3 @@ pub record Segmented (r : Round) (n : ℕ) (es ts ls : List ℕ) (l : Lead) : Ty
 -- of whatever round is given
 abbrev pub Segments-say : (ks fs : List ℕ) (many slot n : ℕ) (es ts ls : List ℕ) → Lead → Type 0
 Segments-say ks fs many slot n es ts ls l = (r : Round) → Given r ks fs many slot n → Segmented r n es ts ls l
-
--- A NEW SEGMENT ENDS in a due slot: the plan's rows so far fill every slot by it, and it is not the open one's end
-abbrev pub ends-here : (due edge end : ℕ) → Bool
-ends-here d s e = cond (eqb d e) false (ltb d s)
-
--- ONE SEGMENT CLOSED: the lead after it
-abbrev pub closed : Lead → (heavy other : ℕ) → Lead
-closed l h o =
-    cond (leb (l .score) (score (weight-of h) (weight-of o)))
-    (record { count = suc (l .count); score = score (weight-of h) (weight-of o); key = h; segment = l .count; other = o })
-    (record { count = suc (l .count); score = l .score; key = l .key; segment = l .segment; other = l .other })

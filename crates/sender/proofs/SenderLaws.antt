@@ -24,8 +24,8 @@ use Rattle.buckets.specs.declared.Reach.{Reach}
 use Rattle.buckets.proofs.ReachLaws.{reaches, count-rows}
 use Rattle.plan.specs.Plans.{Plans, Heaviest-from}
 use Rattle.plan.specs.declared.Planned.{Planned}
+use Rattle.lead.specs.declared.Lead.{Lead}
 use Rattle.segments.specs.Segmented.{Segments-say}
-use Rattle.segments.specs.declared.Lead.{Lead}
 use Rattle.segments.proofs.GivenLaws as given-laws
 use Rattle.closing.specs.Close.{Due-now}
 use Rattle.whole.specs.Whole as whole

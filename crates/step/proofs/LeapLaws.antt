@@ -33,7 +33,7 @@ use Rattle.round.proofs.ReadLaws.{Known, known}
 use Rattle.keys.specs.KeyLaws.{row-fine, due-is, row-is}
 use Rattle.keys.specs.Key.{due-of, row-of}
 use Rattle.closing.specs.Close.{Due-now, gone-ticket, closed-up}
-use Rattle.segments.specs.declared.Lead.{Lead}
+use Rattle.lead.specs.declared.Lead.{Lead}
 use Rattle.chain.specs.Chain.{start-of, Lies-in, Lowered, Chained, having, Shifts}
 use Rattle.chain.proofs.MarkLaws.{start-later, number-fits, marked, mark-some}
 use Rattle.chain.proofs.MoveLaws.{table-weight, moves-other, length-having}

@@ -30,8 +30,8 @@ use Rattle.round.specs.Rows.{at}
 use Rattle.round.proofs.ReadLaws.{Known, known}
 use Rattle.keys.specs.KeyLaws.{row-fine, weight-is, row-is, some-key, greater-key}
 use Rattle.keys.specs.Key.{weight-of, row-of, blank-key}
+use Rattle.lead.specs.declared.Lead.{Lead}
 use Rattle.segments.specs.Segmented.{Stored}
-use Rattle.segments.specs.declared.Lead.{Lead}
 use Rattle.segments.proofs.SegmentedLaws.{segment-at, count-some, lead-below, lead-right, lead-first, lead-later, lead-end, lead-out, lead-goes, far-goes}
 use Rattle.chain.specs.Chain.{start-of, Piece, Pieces}
 use Rattle.chain.proofs.MarkLaws.{start-first, start-later}

@@ -20,8 +20,8 @@ use Rattle.round.specs.Rows.{Ready, at}
 use Rattle.keys.specs.Key.{blank-key, key-at}
 use Rattle.buckets.specs.Reach.{Reaches}
 use Rattle.buckets.specs.declared.Reach.{Reach}
+use Rattle.lead.specs.declared.Lead.{Lead}
 use Rattle.segments.specs.Segmented.{Segmented}
-use Rattle.segments.specs.declared.Lead.{Lead}
 use Rattle.whole.specs.Whole.{Picked}
 use Rattle.whole.specs.declared.Whole.{Whole}
 use Rattle.closing.specs.Close.{closed-up}

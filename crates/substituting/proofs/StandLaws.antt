@@ -27,9 +27,9 @@ use Rattle.round.specs.Rows.{Ready, at}
 use Rattle.round.proofs.ReadLaws.{known}
 use Rattle.buckets.specs.Reach.{Reaches}
 use Rattle.buckets.specs.declared.Reach.{Reach}
-use Rattle.marks.specs.Substitute.{Substitutes}
-use Rattle.marks.specs.declared.sub.Sub.{Sub}
-use Rattle.marks.specs.declared.sub.Sub.the-variants.{Row as Row-of, Blank}
+use Rattle.sub.specs.Substitute.{Substitutes}
+use Rattle.sub.specs.declared.Sub.{Sub}
+use Rattle.sub.specs.declared.Sub.the-variants.{Row as Row-of, Blank}
 use Rattle.substituting.specs.Finding.{Stood-in, There, Named}
 
 -- IN THE PLAN: by its flag, as a far row, and where no row is left out

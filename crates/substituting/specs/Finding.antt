@@ -7,8 +7,8 @@ use Rattle.rules.specs.Rows.{Round}
 use Rattle.rules.specs.Calls.{Reply, ticket, blank-due}
 use Rattle.rules.specs.Looking.{stand-in}
 use Rattle.round.specs.Rows.{at}
-use Rattle.marks.specs.declared.sub.Sub.{Sub}
-use Rattle.marks.specs.declared.sub.Sub.the-variants.{Row, Blank}
+use Rattle.sub.specs.declared.Sub.{Sub}
+use Rattle.sub.specs.declared.Sub.the-variants.{Row, Blank}
 use Rattle.substituting.specs.declared.finding.Found.{Found}
 use Rattle.substituting.specs.declared.finding.Found.the-variants.{At, Nowhere}
 

@@ -6,16 +6,15 @@ ghost use Rattle.round.specs.Rows.{Ready, at};
 ghost use Rattle.round.specs.Buckets.{Counted};
 ghost use Rattle.buckets.specs.Reach.{Reaches};
 ghost use Rattle.plan.specs.Plans.{Lent, Plans};
-ghost use Rattle.marks.specs.Substitute.{Substitutes};
+ghost use Rattle.sub.specs.Substitute.{Substitutes};
 ghost use Rattle.replies.specs.Replies.{of-substituted};
 ghost use Rattle.questions.specs.Seen.{Seen};
 ghost use Rattle.substituting.specs.Finding.{Stood-in, There, Named};
 use buckets::Reach;
 use buckets::reach_of;
-use marks::every::substitute_every;
-use marks::far::is_far;
-use marks::far::substitute_far;
-use marks::sub::Sub;
+use every::substitute_every;
+use far::is_far;
+use far::substitute_far;
 use marks::substitute::substitute_near;
 use plan::Planned;
 use plan::plan_of;
@@ -24,6 +23,7 @@ use round::read::due_at;
 use round::read::ticket_at;
 use sorts::Round;
 use sorts::Slot;
+use sub::Sub;
 
 // Places around a far row: two for each row, and two more.
 const FEW_AROUND: usize = 66;

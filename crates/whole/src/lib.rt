@@ -12,7 +12,7 @@ use crate::look::heaviest;
 use crate::look::look;
 use buckets::Reach;
 use buckets::stretch::stretch_of;
-use segments::score_of;
+use lead::score_of;
 use sorts::Round;
 use sorts::Slot;
 use sorts::Weight;

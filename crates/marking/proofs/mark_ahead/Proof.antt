@@ -1,7 +1,7 @@
 -- `marking::mark_ahead` meets its contract.
 use mathlib.Core.Path.{sym}
 use Rattle.buckets.proofs.ReachLaws.{multiples}
-use Rattle.marks.proofs.AskLaws.{far-zero, not-far}
+use Rattle.far.proofs.AskLaws.{far-zero, not-far}
 use Rattle.questions.proofs.SeenLaws.{seen}
 use borrow.Author.Needs.{needs}
 use Rattle.marking.proofs.mark_ahead.Statement.{statement}

@@ -1,6 +1,6 @@
 -- `segments::segments_of` meets its contract. The invariant: the segments behind the open one, and what is seen of that, of whatever round is given.
 use borrow.Author.Needs.{needs}
-use mathlib.Core.Path.{_≡_, refl, sym, _∙_}
+use mathlib.Core.Path.{_≡_, refl}
 use mathlib.Core.Logic.{⊎-elim}
 use Prim.Native.Nat.{_-_}
 use native.Mathlib.Omega.{arith}
@@ -31,10 +31,10 @@ goes c =
     let u = c .if1 in
     let d = c .before .before .due-of in
     ⊎-elim
-    (λ w. goes-new p (v .inv) (c .before .before .before .before .loop-test .taken) (d .ensures) (sym (c .before .ends-here .ensures) ∙ w .0 .taken)
+    (λ w. goes-new p (v .inv) (c .before .before .before .before .loop-test .taken) (d .ensures) (cc (c .before .ends-here .ensures, w .0 .taken))
     (cc (w .11, w .4 .ensures .1)) (cc (w .12, w .4 .ensures .2)) (cc (w .13, w .4 .ensures .3)) (cc (w .14, w .4 .ensures .0))
     (omega (arith, w .15)) (omega (arith, w .16)) (omega (arith, w .17)))
-    (λ w. goes-on p (v .inv) (c .before .before .before .before .loop-test .taken) (d .ensures) (sym (c .before .ends-here .ensures) ∙ w .0 .left)
+    (λ w. goes-on p (v .inv) (c .before .before .before .before .loop-test .taken) (d .ensures) (cc (c .before .ends-here .ensures, w .0 .left))
     (w .1) (w .2) (w .3) (w .4) (w .5) (w .6) (w .7))
     (u .came)
 

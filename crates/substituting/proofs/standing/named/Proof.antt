@@ -5,7 +5,7 @@ use native.Mathlib.Omega.{arith}
 use Rattle.rules.specs.Table.{round-in}
 use Rattle.rules.specs.Calls.{ticket, blank-due}
 use Rattle.round.proofs.ReadLaws.{known}
-use Rattle.marks.specs.declared.sub.Sub.{Sub}
+use Rattle.sub.specs.declared.Sub.{Sub}
 use Rattle.substituting.specs.Finding.{There, Named}
 use borrow.Author.Needs.{needs}
 use Rattle.substituting.proofs.standing.named.Statement.{statement}

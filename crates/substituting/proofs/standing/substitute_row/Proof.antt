@@ -3,7 +3,7 @@ use native.Mathlib.Omega.{arith}
 use Rattle.rules.specs.Table.{round-in}
 use Rattle.round.proofs.ReadLaws.{known}
 use Rattle.buckets.proofs.ReachLaws.{multiples}
-use Rattle.marks.proofs.AskLaws.{not-far}
+use Rattle.far.proofs.AskLaws.{not-far}
 use Rattle.questions.proofs.SeenLaws.{seen, far-due}
 use Rattle.substituting.proofs.StandLaws.{far-in, stands, sub-there}
 use borrow.Author.Needs.{needs}

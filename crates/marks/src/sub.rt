@@ -1,8 +1,0 @@
-// Who stands in for a row of the plan.
-use sorts::Slot;
-
-// A row by its index, or the blank due at a slot.
-pub enum Sub {
-    Row(usize),
-    Blank(Slot),
-}

@@ -38,6 +38,8 @@ row::write::write_kept(table, 0, <Slot>, <Weight>)
 keys::key_of(<Weight>, <Slot>, 0)
 keys::canonical::order_key_of(<Slot>, <Weight>, 0)
 lead::score_of(<Weight>, <Weight>)
+lead::close_segment(ends, tops, lows, lead::Lead { count: 0, score: 0, key: 0, segment: 0, other: 0 }, <Slot>, 0, 0, 0)
+lead::ends_here(<Slot>, 0, <Slot>)
 segments::segments_of(keys, bytes, 0, <Slot>, 0, ends, tops, lows)
 whole::Whole::Kept { row: 0, first: <Slot>, mark: <Weight> }
 chain::segment_by(ends, 0, <Slot>)

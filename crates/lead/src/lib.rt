@@ -6,6 +6,7 @@ ghost use Rattle.rules.specs.PlanM.{score};
 ghost use Rattle.keys.specs.Key.{weight-of, blank-key};
 ghost use Rattle.lead.specs.Closed.{ends-here, closed};
 use keys::weight_of;
+use sorts::Slot;
 use sorts::Weight;
 
 // How many segments there are, and of the one whose top goes before all others': score, top, number, and its substitute (BLANK for none).
@@ -30,20 +31,20 @@ pub fn close_segment(
     tops: &mut [u64],
     lows: &mut [u32],
     lead: Lead,
-    end: u32,
+    end: Slot,
     heavy: u64,
     light: u64,
     other: u64,
 ) -> Lead
     requires { ⌜ (lead .count < length (now ends)) × (lead .count < length (now tops)) × (lead .count < length (now lows))
         × (heavy ≤ blank-key) × (light ≤ blank-key) × (other ≤ blank-key) ⌝ }
-    ensures { λ r. ⌜ (r ≡ closed lead heavy other) × (now (ends .exit) ≡ set (now (ends .entry)) (lead .count) end)
+    ensures { λ r. ⌜ (r ≡ closed lead heavy other) × (now (ends .exit) ≡ set (now (ends .entry)) (lead .count) (end .0))
         × (now (tops .exit) ≡ set (now (tops .entry)) (lead .count) heavy)
         × (now (lows .exit) ≡ set (now (lows .entry)) (lead .count) (weight-of light)) ⌝ }
 {
     let at = lead.count;
     let score = score_of(Weight(weight_of(heavy)), Weight(weight_of(other)));
-    ends[at] = end;
+    ends[at] = end.0;
     tops[at] = heavy;
     lows[at] = weight_of(light);
     if lead.score <= score {
@@ -65,11 +66,11 @@ pub fn close_segment(
 }
 
 // The plan's rows so far fill every slot by this one: a segment ends here, unless it is the open one's end.
-pub fn ends_here(due: u32, edge: usize, end: u32) -> bool
-    ensures { λ r. ⌜ r ≡ ends-here due edge end ⌝ }
+pub fn ends_here(due: Slot, edge: usize, end: Slot) -> bool
+    ensures { λ r. ⌜ r ≡ ends-here (due .0) edge (end .0) ⌝ }
 {
-    if due == end {
+    if due.0 == end.0 {
         return false;
     }
-    (due as usize) < edge
+    (due.0 as usize) < edge
 }

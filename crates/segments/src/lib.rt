@@ -44,8 +44,8 @@ pub fn segments_of(
         i -= 1;
         let key = keys[i];
         let due = due_of(key);
-        if ends_here(due, edge, end) {
-            lead = close_segment(ends, tops, lows, lead, end, heavy, light, out);
+        if ends_here(Slot(due), edge, Slot(end)) {
+            lead = close_segment(ends, tops, lows, lead, Slot(end), heavy, light, out);
             end = due;
             heavy = BLANK;
             light = 0;
@@ -58,5 +58,5 @@ pub fn segments_of(
             out = lesser(out, key);
         }
     }
-    close_segment(ends, tops, lows, lead, end, heavy, light, light)
+    close_segment(ends, tops, lows, lead, Slot(end), heavy, light, light)
 }

@@ -1,3 +1,4 @@
 pub mod SearchLaws
 pub mod HeadLaws
 pub mod CloseLaws
+pub mod EndLaws

@@ -13,7 +13,8 @@ use Rattle.theory.specs.Flags.{with-flag}
 use Rattle.round.specs.Rows.{at}
 use Rattle.keys.specs.Key.{due-of, row-of, key-at, blank-key}
 use Rattle.keys.specs.Sorted.{placed}
-use Rattle.keys.specs.DueOrder.{each, each-more, placed-all, placed-rises}
+use Rattle.keys.specs.DueOrder.{placed-all, placed-rises}
+use Rattle.keys.specs.DueSums.{each, each-more}
 use Rattle.marks.specs.Given.{Asked, Lent-asked}
 use Rattle.marks.specs.Near.{Finds, Ends}
 use Rattle.marks.proofs.KeptLaws.{flagged, flagged-yes, flagged-no, kept, kept-all, filled, fits, At, at-place, Read, key-read, from-slot}

@@ -24,7 +24,8 @@ use Rattle.round.proofs.ReadLaws.{known}
 use Rattle.keys.specs.Key.{due-of, row-of, blank-key, key-at}
 use Rattle.keys.specs.KeyLaws.{row-fine, row-is, due-is, some-key}
 use Rattle.keys.specs.Sorted.{Sorted, many-due, placed}
-use Rattle.keys.specs.DueOrder.{place, each, each-same, each-more, before-slot, placed-sum, placed-front}
+use Rattle.keys.specs.DueOrder.{place, placed-front}
+use Rattle.keys.specs.DueSums.{each, each-same, each-more, before-slot, placed-sum}
 use Rattle.buckets.specs.Reach.{Reaches}
 use Rattle.buckets.specs.declared.Reach.{Reach}
 use Rattle.marks.specs.Given.{Given}

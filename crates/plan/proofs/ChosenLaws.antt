@@ -24,7 +24,8 @@ use Rattle.round.specs.Rows.{at}
 use Rattle.keys.specs.Key.{key-at}
 use Rattle.keys.specs.KeyLaws.{row-fine, lesser-key}
 use Rattle.keys.specs.Sorted.{many-due, placed, Sorted}
-use Rattle.keys.specs.DueOrder.{many-is, placed-row, placed-before, placed-from, each, each-le, each-same, each-more, before-slot, placed-sum}
+use Rattle.keys.specs.DueOrder.{many-is, placed-row, placed-before, placed-from}
+use Rattle.keys.specs.DueSums.{each, each-le, each-same, each-more, before-slot, placed-sum}
 use Rattle.plan.specs.Sweep.{tally, before, smaller, Barred, Queue, Swept, Parted}
 use Rattle.plan.specs.Sweep.{key-on, row-on, ahead-on, weight-on, kept?, kept-on, left-on}
 use Rattle.plan.proofs.TallyLaws.{tally-nothing, tally-le, tally-both, tally-some, tally-more, before?, before-yes, before-no, smaller?, smaller-1}

@@ -10,7 +10,7 @@ use lib.Dec.{eqb}
 use lib.ListN.{length, getD, set, replicate, length-set, length-replicate}
 use Rattle.keys.specs.Key.{weight-of, due-of, row-of, blank-key}
 use Rattle.theory.specs.Tests.{leb?, ltb?, eqb?}
-use Rattle.keys.specs.DueOrder.{each}
+use Rattle.keys.specs.DueSums.{each}
 use Rattle.heap.specs.Heap.{Heap, heaped, Grown, Replaced}
 use Rattle.heap.proofs.HeapLaws.{heaped-at, heaped-some, top-most}
 use Rattle.plan.specs.Sweep.{tally, Queue, Swept, Heaped, Leaves, Crowds, First-crowded, Filled, Greatest, Lightest, Empty-heap, Fills, Crowd, Parted}

@@ -5,7 +5,7 @@ use mathlib.Core.Bool.{Bool, true, false, cond, not}
 use Prim.Native.Nat.{ℕ, zero, suc, _+_, _*_, _≤_, _<_}
 use native.Mathlib.Omega.{arith}
 use Rattle.theory.specs.Tests.{either, ltb?, eqb?}
-use Rattle.keys.specs.DueOrder.{each}
+use Rattle.keys.specs.DueSums.{each}
 use Rattle.plan.specs.Sweep.{tally, before, smaller}
 
 abbrev part : (f : ℕ → ℕ) → (κ : ℕ → Bool) → ℕ → ℕ

@@ -8,7 +8,7 @@ use lib.Dec.{ltb, eqb}
 use lib.ListN.{length, getD, replicate}
 use Rattle.keys.specs.Key.{weight-of, due-of, row-of, blank-key}
 use Rattle.heap.specs.Heap.{Heap, heaped}
-use Rattle.keys.specs.DueOrder.{each}
+use Rattle.keys.specs.DueSums.{each}
 
 -- the sum of a measure of some of the first n
 unfoldable pub tally : (measure : ℕ → ℕ) → (some : ℕ → Bool) → (n : ℕ) → ℕ

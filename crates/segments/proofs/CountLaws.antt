@@ -15,7 +15,8 @@ use Rattle.theory.specs.Index.{chosen-next}
 use Rattle.theory.specs.Flags.{raised, raised-at, length-raised, with-flag}
 use Rattle.round.specs.Rows.{at}
 use Rattle.keys.specs.Sorted.{many-due, placed}
-use Rattle.keys.specs.DueOrder.{each, each-same, each-more, placed-front, placed-sum, before-slot}
+use Rattle.keys.specs.DueOrder.{placed-front}
+use Rattle.keys.specs.DueSums.{each, each-same, each-more, placed-sum, before-slot}
 
 -- 1 for a row in the plan
 abbrev pub flag : List ℕ → (row : ℕ) → ℕ

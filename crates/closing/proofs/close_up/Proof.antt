@@ -4,7 +4,7 @@ use native.Mathlib.Omega.{arith}
 use borrow.Author.Needs.{needs}
 use lib.Seq.{length-take-le}
 use Rattle.closing.proofs.HeadLaws.{slot-small}
-use Rattle.closing.proofs.CloseLaws.{kept-few, closed-written}
+use Rattle.closing.proofs.EndLaws.{kept-few, closed-written}
 use Rattle.closing.proofs.close_up.Statement.{statement}
 use Rattle.closing.proofs.close_up.Tie as tie
 

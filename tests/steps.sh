@@ -5,11 +5,9 @@ stationround=$PWD/target/bin/stationround
 trial=$PWD/target/bin/trial
 rust_bin=$PWD/target/cargo/release
 strict=(-Wall -Wextra -Werror)
-# rt starts its checks in batches and waits for each batch: with three times as many as processors few of these stand idle.
+# rt starts its checks in batches and waits for each batch: with twice as many as processors none of these stands idle.
 cores=$(nproc)
-export RT_JOBS=${RT_JOBS:-$((cores < 4 ? 3 * cores : 8))}
-# The checker's allocator keeps what it frees: measured, a check of much memory takes a sixth less time.
-export MIMALLOC_PURGE_DELAY=${MIMALLOC_PURGE_DELAY:--1}
+export RT_JOBS=${RT_JOBS:-$((cores < 4 ? 2 * cores : 8))}
 
 tools() {
     need rt -

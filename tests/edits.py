@@ -24,7 +24,7 @@ This page is written by tests/edits.py from the first lines of the edits.
 # The nearest is another program, not an edit of this one: it is proved that it sends otherwise.
 PLAYED_OUT = "`played-out-misses`, `canonical-first-differs`, `no-order-serves` in crates/theory/specs/PlayedOut.antt; "
 OVER = "checks/over_in_the_last_slot rules/last_slot_over"
-TURNED_DOWN = " ".join(f"calls/every_{call}_turned_down" for call in ("opening", "taking", "sending"))
+TURNED_DOWN = " ".join(f"{call}/every_{call}_turned_down" for call in ("opening", "taking", "sending"))
 
 BREAKAGES = [
     ("a sender that plans the first slot and plays that plan out afterwards (demand 2)",
@@ -32,7 +32,7 @@ BREAKAGES = [
     ("a listing whose count is not the plan's rows (2)", "listing/list_count_of_all_rows order/rows_left_out_are_listed"),
     ("a table reported full with a row free, or a round reported over in its last slot (1)", "checks/full_with_a_row_free " + OVER),
     ("a sender always silent (2)", "sender/always_silent sender/silence_with_a_row_waiting"),
-    ("a taker that gives a ticket but stores nothing (2 and 3)", "calls/ticket_but_nothing_stored"),
+    ("a taker that gives a ticket but stores nothing (2 and 3)", "taking/ticket_but_nothing_stored"),
     ("a station that turns every call down (1 and 2)", TURNED_DOWN),
 ]
 
@@ -42,7 +42,7 @@ KINDS = [
     ("the heaviest instead of the pick", "lead/the_heaviest_goes rules/the_heaviest_goes"),
     ("φ by a smaller Fibonacci pair", "lead/smaller_fibonacci_pair rules/golden_ratio_near"),
     ("r raised without shifting the h frames", "chain/links_not_shifted"),
-    ("a raised blank dropped", "step/raised_blank_dropped rules/raised_blank_dropped"),
+    ("a raised blank dropped", "went/raised_blank_dropped rules/raised_blank_dropped"),
     ("the lightest instead of the heaviest h", "chain/lightest_links rules/lightest_shifted"),
     ("a mark that ignores the first tight slot", "every/mark_ignores_the_first_tight_slot"),
     ("a substitute from before the tight slot", "marks/substitute_from_before_the_tight_slot"),
@@ -60,7 +60,7 @@ KINDS = [
     ("a writer that changes a byte on refusal 12", "writer/bytes_changed_on_refusal_12"),
     ("a payload of 50 digits", "digits/payload_of_50_digits rules/payload_of_50_digits"),
     ("a reply line of the wrong step", "replying/step_of_the_wrong_kind turns/leap_said_as_ordinary"),
-    ("a kept blank that goes out and stays", "step/sent_row_stays rules/sent_blank_stays"),
+    ("a kept blank that goes out and stays", "went/sent_row_stays rules/sent_blank_stays"),
     ("a leap's shifts that begin at p's due slot", "rules/shifts_from_ps_due_slot"),
     ("a refusal that changes something", "listing/list_refused_but_written rules/refused_call_writes rules/refused_write_clears"),
     ("a program that writes no reply", "answering/no_reply_written"),
@@ -94,20 +94,25 @@ CONTRACTS = {
     "keys": "`key_of` and `order_key_of` (`heavier-key`, `canonical-key`): one number for a row, in either order",
     "buckets": "`reach_of` (`Reaches`): how far rows fill every slot, and how many are left out; `stretch_of` (`Stretches`): a bucket's segment",
     "heap": "`rise` and `sink` (`Grown`, `Replaced`): the lightest row's key on top",
-    "plan": "`plan_of` (`Plans`): the near rows' keys in due order, the flags of the plan's rows, what is lost, the heaviest far row",
+    "queue": "`starts` (`Started`) and `sort` (`Sorting`): the near rows' keys in due order, and the heaviest far row's",
+    "leaving": "`leave_out` (`Parted`): the flags of the rows that stay, and the weight of those that leave",
     "lead": "`score_of` (`score`), `close_segment` (`closed`), `ends_here` (`ends-here`): one segment closed, and the one that leads",
     "segments": "`segments_of` (`Segments-say`): each near segment's end, heaviest and lightest, and the one whose heaviest row goes",
     "whole": "`choose_whole` (`Picked`): the row that goes where no row is left out",
     "runs": "`move_run`: a run of rows, in its bytes, moved down behind the rows kept",
     "closing": "`close_up` (`closed-up`): the bytes once the slot has moved on",
     "chain": "`lower_marks` (`Lowered`) and `shift_chain` (`Shifts`): a leap's marks, and the bytes once its links have moved",
-    "step": "`send_planned` and `send_whole` (`Sent-says`): what went out, and the bytes left",
+    "went": "`send_row`, `send_kept` (`Sent-says`): what went out, and the bytes left",
+    "leap": "`send_swapped` (`Sent-says`): what went out in a leap, and the bytes left",
+    "step": "`send_planned` (`Sent-says`): the row that goes, from near or afar",
     "sender": "`send_sound` (`Sent-says`): plan, segments and step put together",
     "far": "`substitute_far` (`Substitutes`): the blank where a far row's segment begins",
     "every": "`mark_every` (`mark`) and `substitute_every` (`Substitutes`): the answers where no row is left out",
     "marks": "marks, totals and substitutes read off the plan, equal to `mark`, `total` and `substitute`",
     "order": "`order_of` (`Ordered`): the plan's rows in canonical order",
-    "calls": "`open_round`, `take_frame`, `send_slot` (`Says`): reply and bytes",
+    "opening": "`open_round` (`Says`): reply and bytes",
+    "taking": "`take_frame` (`Says`): reply and bytes",
+    "sending": "`send_slot` (`Says`): reply and bytes",
     "marking": "`mark_of` (`Says`): reply and bytes",
     "totalling": "`plan_total` (`Says`): reply and bytes",
     "substituting": "`substitute_of` (`Looks`): the reply; and the bytes as they were",

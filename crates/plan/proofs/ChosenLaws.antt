@@ -26,9 +26,9 @@ use Rattle.keys.specs.KeyLaws.{row-fine, lesser-key}
 use Rattle.keys.specs.Sorted.{many-due, placed, Sorted}
 use Rattle.keys.specs.DueOrder.{many-is, placed-row, placed-before, placed-from}
 use Rattle.keys.specs.DueSums.{each, each-le, each-same, each-more, before-slot, placed-sum}
-use Rattle.plan.specs.Sweep.{tally, before, smaller, Barred, Queue, Swept, Parted}
-use Rattle.plan.specs.Sweep.{key-on, row-on, ahead-on, weight-on, kept?, kept-on, left-on}
-use Rattle.plan.proofs.TallyLaws.{tally-nothing, tally-le, tally-both, tally-some, tally-more, before?, before-yes, before-no, smaller?, smaller-1}
+use Rattle.leaving.specs.Sweep.{tally, before, smaller, Barred, Queue, Swept, Parted}
+use Rattle.leaving.specs.Sweep.{key-on, row-on, ahead-on, weight-on, kept?, kept-on, left-on}
+use Rattle.leaving.proofs.TallyLaws.{tally-nothing, tally-le, tally-both, tally-some, tally-more, before?, before-yes, before-no, smaller?, smaller-1}
 use Rattle.plan.proofs.QueueLaws.{rows-from, in-rows, key-is, row-on-is, ahead-on-is, weight-on-is, queue}
 
 -- SUMS OVER ROWS WITH A FLAG, and over all

@@ -1,9 +1,3 @@
-pub mod TallyLaws
-pub mod StepLaws
-pub mod SweepLaws
-pub mod GoingLaws
-pub mod LeaveLaws
-pub mod SortLaws
 pub mod QueueLaws
 pub mod ChosenLaws
 pub mod PlanLaws

@@ -23,8 +23,8 @@ use Rattle.buckets.specs.Reach.{Reaches}
 use Rattle.buckets.specs.declared.Reach.{Reach}
 use Rattle.plan.specs.declared.Planned.{Planned}
 use Rattle.plan.specs.Plans.{Lent, Heaviest-from, Plans}
-use Rattle.plan.specs.Sorting.{upto, Startable, Started, Sorting}
-use Rattle.plan.specs.Sweep.{Empty-heap, Crowd, Parted, row-on}
+use Rattle.queue.specs.Sorting.{upto, Startable, Started, Sorting}
+use Rattle.leaving.specs.Sweep.{Empty-heap, Crowd, Parted, row-on}
 use Rattle.plan.proofs.QueueLaws.{rows-from, many-rows, in-rows, row-on-is, queue}
 use Rattle.plan.proofs.ChosenLaws.{chosen-left, lost-is}
 

@@ -1,3 +1,1 @@
 pub mod Plans
-pub mod Sweep
-pub mod Sorting

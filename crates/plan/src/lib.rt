@@ -1,14 +1,10 @@
 // The plan of a sound table that leaves rows out: the near rows in due order, and a flag for each row of the plan.
 ghost use Rattle.rules.specs.Table.{round-in};
 ghost use Rattle.plan.specs.Plans.{Lent, Plans};
-
-mod sort; // sort.rt: the near rows by due slot
-mod leave; // leave.rt: who is left out
-
 use buckets::Reach;
-use leave::leave_out;
-use sort::sort;
-use sort::starts;
+use leaving::leave_out;
+use queue::sort;
+use queue::starts;
 use sorts::Round;
 
 // How many near rows there are, the key of the heaviest other one where it is asked for, and the weight of all rows left out.
@@ -34,6 +30,6 @@ pub fn plan_of(
 {
     let many = starts(counts, reach.free);
     let far = sort(table, counts, keys, round, reach.free, asked);
-    let lost = leave_out(keys, flags, heap, round.slot.0, reach);
+    let lost = leave_out(keys, flags, heap, round.slot, reach);
     Planned { many, far, lost }
 }

@@ -30,8 +30,8 @@ use Rattle.segments.proofs.GivenLaws as given-laws
 use Rattle.closing.specs.Close.{Due-now}
 use Rattle.whole.specs.Whole as whole
 use Rattle.whole.specs.declared.Whole.{Whole}
-use Rattle.step.specs.Send.{Far-first, Planned-step, Whole-step}
-use Rattle.step.proofs.SendLaws.{num-most}
+use Rattle.step.specs.Step.{Far-first, Planned-step, Whole-step}
+use Rattle.went.proofs.SendLaws.{num-most}
 use Rattle.sender.specs.Crowded.{Crowded, Led}
 
 -- ROWS DUE NOW: no more than the first bucket counts

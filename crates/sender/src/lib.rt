@@ -6,7 +6,7 @@ ghost use Rattle.round.specs.Rows.{Ready};
 ghost use Rattle.round.specs.Buckets.{Counted};
 ghost use Rattle.buckets.specs.Reach.{Reach-says, head-top};
 ghost use Rattle.closing.specs.Close.{Due-now};
-ghost use Rattle.step.specs.Send.{Sent-says};
+ghost use Rattle.went.specs.Send.{Sent-says};
 ghost use Rattle.sender.specs.Crowded.{Crowded, Led};
 use buckets::Reach;
 use buckets::reach_of;
@@ -14,10 +14,10 @@ use plan::Planned;
 use plan::plan_of;
 use segments::segments_of;
 use sorts::Round;
-use step::Went;
 use step::send_planned;
-use step::send_silence;
 use step::send_whole;
+use went::Went;
+use went::send_silence;
 use whole::choose_whole;
 
 // By the plan's segments. Counts and heap have served once the plan is made: they take the segments' ends and tops.

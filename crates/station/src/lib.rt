@@ -3,20 +3,20 @@ ghost use Rattle.rules.specs.Rows.{framed, until};
 ghost use Rattle.rules.specs.Calls.{taking, sending, marking, totalling, opening, acting, asking};
 ghost use Rattle.rules.specs.Looking.{substitute-answer};
 ghost use Rattle.station.specs.Exports.{Exports, Exports-look};
-use calls::opening::open_round;
-use calls::sending::send_slot;
-use calls::taking::take_frame;
 use marking::mark_of;
+use opening::open_round;
 use packing::pack_marked;
 use packing::pack_opened;
 use packing::pack_sent;
 use packing::pack_substituted;
 use packing::pack_taken;
 use packing::pack_totalled;
+use sending::send_slot;
 use sorts::Slot;
 use sorts::Ticket;
 use sorts::Weight;
 use substituting::substitute_of;
+use taking::take_frame;
 use totalling::plan_total;
 
 #[no_mangle]

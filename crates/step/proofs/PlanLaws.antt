@@ -35,7 +35,9 @@ use Rattle.segments.specs.Segmented.{Stored}
 use Rattle.segments.proofs.SegmentedLaws.{segment-at, count-some, lead-below, lead-right, lead-first, lead-later, lead-end, lead-out, lead-goes, far-goes}
 use Rattle.chain.specs.Chain.{start-of, Piece, Pieces}
 use Rattle.chain.proofs.MarkLaws.{start-first, start-later}
-use Rattle.step.specs.Send.{Leaves-alone, Leaps, Leaps-blank, Leaps-row, Planned-step}
+use Rattle.went.specs.Send.{Leaves-alone}
+use Rattle.leap.specs.Leap.{Leaps, Leaps-blank, Leaps-row}
+use Rattle.step.specs.Step.{Planned-step}
 
 -- segments end before z, the last of them just there
 own-by : (r : Round) (b z : ℕ) (gs : List Segment) → Drawn-own r b z gs → (g : Segment) → Among g gs → g .last < z

@@ -13,7 +13,8 @@ use Rattle.whole.specs.Whole.{Picked}
 use Rattle.whole.specs.declared.Whole.{Whole}
 use Rattle.whole.specs.declared.Whole.the-variants.{First, Far, Kept}
 use Rattle.whole.proofs.SendLaws.{first-sends, far-sends, kept-sends}
-use Rattle.step.specs.Send.{Leaves-alone, Keeps-blank, Whole-step}
+use Rattle.went.specs.Send.{Leaves-alone, Keeps-blank}
+use Rattle.step.specs.Step.{Whole-step}
 
 module _ {t : List ℕ} {h : Head} {k : Whole} (w : Whole-step t h k) where
   abbrev n : Known t h

@@ -1,1 +1,1 @@
-pub mod Send
+pub mod Step

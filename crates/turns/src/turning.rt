@@ -7,10 +7,10 @@ ghost use Rattle.turns.specs.Turns.{Turns};
 use crate::saying::say_opened;
 use crate::saying::say_sent;
 use crate::saying::say_taken;
-use calls::opening::open_round;
-use calls::sending::send_slot;
-use calls::taking::take_frame;
 use lines::Command;
+use opening::open_round;
+use sending::send_slot;
+use taking::take_frame;
 
 pub fn take_turn_in_room(command: Command, table: &mut [u8], reply: &mut [u8]) -> usize
     requires { ⌜ reply-room ≤ length (now reply) ⌝ }

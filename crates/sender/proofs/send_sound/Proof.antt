@@ -4,7 +4,7 @@ use mathlib.Core.Path.{refl}
 use Rattle.sender.proofs.SenderLaws.{due-now, few-now, whole-given, whole-step}
 use native.Mathlib.Omega.{arith}
 use Rattle.buckets.proofs.ReachLaws.{multiples}
-use Rattle.step.proofs.SendLaws.{silence-says}
+use Rattle.went.proofs.SendLaws.{silence-says}
 use Rattle.sender.proofs.send_sound.Statement.{statement}
 use Rattle.sender.proofs.send_sound.Tie as tie
 

@@ -1,3 +1,0 @@
-pub mod Went
-pub mod Opened
-pub mod Taken

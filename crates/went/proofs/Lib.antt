@@ -1,0 +1,3 @@
+pub mod StandLaws
+pub mod LeaveLaws
+pub mod SendLaws

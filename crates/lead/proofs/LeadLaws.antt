@@ -19,6 +19,7 @@ module _ (l : Lead) (h o a b s : ℕ) (p : a ≡ weight-of h) (q : b ≡ weight-
   the-score = e ∙ ap (λ (v : ℕ). score v b) p ∙ ap (λ (v : ℕ). score (weight-of h) v) q
 
   pub closed-takes : l .score ≤ s → record { count = l .count + 1; score = s; key = h; segment = l .count; other = o } ≡ closed l h o
+  unfolding closed
   closed-takes k =
       let n : l .count + 1 ≡ suc (l .count) = omega arith in
       elim (leb? (l .score) (score (weight-of h) (weight-of o))) [
@@ -28,6 +29,7 @@ module _ (l : Lead) (h o a b s : ℕ) (p : a ≡ weight-of h) (q : b ≡ weight-
 
   pub closed-keeps : s < l .score →
       record { count = l .count + 1; score = l .score; key = l .key; segment = l .segment; other = l .other } ≡ closed l h o
+  unfolding closed
   closed-keeps k =
       let n : l .count + 1 ≡ suc (l .count) = omega arith in
       elim (leb? (l .score) (score (weight-of h) (weight-of o))) [
@@ -37,7 +39,9 @@ module _ (l : Lead) (h o a b s : ℕ) (p : a ≡ weight-of h) (q : b ≡ weight-
 
 -- where a segment ends
 pub ends-not : (d s e : ℕ) → d ≡ e → false ≡ ends-here d s e
+unfolding ends-here
 ends-not d s e q = elim (eqb? d e) [ inl a ↦ rw (a .0) | inr a ↦ absurd (a .1 q) ]
 
 pub ends-by : (d s e : ℕ) → (d ≡ e → ⊥) → ltb d s ≡ ends-here d s e
+unfolding ends-here
 ends-by d s e n = elim (eqb? d e) [ inl a ↦ absurd (n (a .1)) | inr a ↦ rw (a .0) ]

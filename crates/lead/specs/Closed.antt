@@ -7,11 +7,11 @@ use Rattle.keys.specs.Key.{weight-of}
 use Rattle.lead.specs.declared.Lead.{Lead}
 
 -- A NEW SEGMENT ENDS in a due slot: the plan's rows so far fill every slot by it, and it is not the open one's end
-abbrev pub ends-here : (due edge end : ℕ) → Bool
+unfoldable pub ends-here : (due edge end : ℕ) → Bool
 ends-here d s e = cond (eqb d e) false (ltb d s)
 
 -- ONE SEGMENT CLOSED: the lead after it
-abbrev pub closed : Lead → (heavy other : ℕ) → Lead
+unfoldable pub closed : Lead → (heavy other : ℕ) → Lead
 closed l h o =
     cond (leb (l .score) (score (weight-of h) (weight-of o)))
     (record { count = suc (l .count); score = score (weight-of h) (weight-of o); key = h; segment = l .count; other = o })

@@ -62,6 +62,7 @@ module _ (r : Round) (f : Fine r) (small : length (r .rows) ≤ 1024) (cap : r .
   ]
 
 pub closed-count : (l : Lead) (heavy other : ℕ) → closed l heavy other .count ≡ suc (l .count)
+unfolding closed
 closed-count l h o =
     both-ways (λ (v : Lead). v .count ≡ suc (l .count)) (leb (l .score) (score (weight-of h) (weight-of o)))
     (record { count = suc (l .count); score = score (weight-of h) (weight-of o); key = h; segment = l .count; other = o })
@@ -111,6 +112,7 @@ module _ (r : Round) (f : Fine r) (small : length (r .rows) ≤ 1024) (cap : r .
     its-name = subst (λ v. Named r v (stand-in r (m .of)) other) (sym (m .first)) o
 
     next-leader : Leader r (m .of ∷ w .segments) (closed l heavy other)
+    unfolding closed
     next-leader =
         both-ways (Leader r (m .of ∷ w .segments)) (leb (l .score) (score (weight-of heavy) (weight-of other)))
         (record { count = suc (l .count); score = score (weight-of heavy) (weight-of other); key = heavy; segment = l .count; other = other })

@@ -173,6 +173,7 @@ module _ (ks fs : List ℕ) (many slot n : ℕ) (es ts ls : List ℕ) (l : Lead)
   -- no new segment
   pub passing-on : Passing ks fs many slot n es ts ls l end heavy light out edge i → 0 < i → (due : ℕ) → due ≡ due-of (getD ks (i - 1) 0) →
       ends-here due edge end ≡ false → Meeting ks fs many slot n es ts ls l end heavy light out edge (i - 1)
+  unfolding ends-here
   passing-on w h due d t r g =
       let e : i ≡ suc (i - 1) = omega (arith, h) in
       let v = subst (Pass r fs n es ts ls l end heavy light out edge) e (w r g) in
@@ -190,6 +191,7 @@ module _ (ks fs : List ℕ) (many slot n : ℕ) (es ts ls : List ℕ) (l : Lead)
       ends-here due edge end ≡ true → l .count < length es → l .count < length ts → l .count < length ls →
       Meeting ks fs many slot n (set es (l .count) end) (set ts (l .count) heavy) (set ls (l .count) (weight-of light)) (closed l heavy out) due blank-key 0 out
       edge (i - 1)
+  unfolding ends-here
   passing-new w h due d t a b c r g =
       let e : i ≡ suc (i - 1) = omega (arith, h) in
       let v = subst (Pass r fs n es ts ls l end heavy light out edge) e (w r g) in

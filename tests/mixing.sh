@@ -17,9 +17,9 @@ signatures() {
     cat <<'EOF'
 sorts::Round { slot: <Slot>, last: <Slot>, next: <Ticket>, used: 0, room: 1 }
 sorts::Round::new(<Slot>, 1)
-checks::refusals::opening_refusal(<Slot>)
-checks::refusals::taking_refusal(round, <Slot>, <Weight>)
-checks::refusals::marking_refusal(round, <Slot>)
+checks::opening_refusal(<Slot>)
+checks::taking_refusal(round, <Slot>, <Weight>)
+checks::marking_refusal(round, <Slot>)
 replies::Taken::As(<Ticket>)
 replies::Out::Frame(<Ticket>)
 replies::Out::KeptBlank(<Ticket>)

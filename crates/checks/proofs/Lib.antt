@@ -1,2 +1,1 @@
-pub mod Heads
 pub mod Accepted

@@ -1,3 +1,81 @@
-// What is judged by numbers alone: a table's length, a head, and each call's refusals in their order.
-pub mod head; // head.rt: length and head
-pub mod refusals; // refusals.rt: the number of the first refusal that applies
+// Each call's refusals on a sound table: the number of the first whose test holds, 0 where none does.
+ghost use mathlib.Core.Path.{_≡_};
+ghost use mathlib.Core.Bool.{_||_};
+ghost use lib.Dec.{ltb, leb};
+ghost use Rattle.rules.specs.Rows.{framed, until};
+ghost use Rattle.rules.specs.Calls.{first-of, open-tests, take-tests, send-tests, mark-tests};
+use sorts::Round;
+use sorts::Slot;
+use sorts::Weight;
+
+pub fn opening_refusal(last: Slot) -> u32
+    ensures { λ r. ⌜ r ≡ first-of (open-tests (until (last .0))) ⌝ }
+{
+    if Round::LAST.0 < last.0 {
+        return 4;
+    }
+    0
+}
+
+pub fn taking_refusal(round: Round, due: Slot, weight: Weight) -> u32
+    ensures { λ r. ⌜ r ≡ first-of (take-tests (round .slot .0) (round .last .0) (round .next .0) (round .used) (round .room)
+        (framed (due .0) (weight .0))) ⌝ }
+{
+    if is_over(round) {
+        return 5;
+    }
+    if (weight.0 == 0) | (Round::WEIGHT.0 < weight.0) {
+        return 6;
+    }
+    if not_ahead(round, due) {
+        return 7;
+    }
+    if round.next.0 == Round::TICKETS.0 {
+        return 8;
+    }
+    if is_full(round) {
+        return 9;
+    }
+    0
+}
+
+// Of a sending, and of every other call that asks for no more than a slot left.
+pub fn sending_refusal(round: Round) -> u32
+    ensures { λ r. ⌜ r ≡ first-of (send-tests (round .slot .0) (round .last .0)) ⌝ }
+{
+    if is_over(round) {
+        return 5;
+    }
+    0
+}
+
+pub fn marking_refusal(round: Round, slot: Slot) -> u32
+    ensures { λ r. ⌜ r ≡ first-of (mark-tests (round .slot .0) (round .last .0) (slot .0)) ⌝ }
+{
+    if is_over(round) {
+        return 5;
+    }
+    if not_ahead(round, slot) {
+        return 7;
+    }
+    0
+}
+
+fn is_over(round: Round) -> bool
+    ensures { λ r. ⌜ r ≡ ltb (round .last .0) (round .slot .0) ⌝ }
+{
+    round.last.0 < round.slot.0
+}
+
+// Whether a slot lies before the current one or after the last.
+fn not_ahead(round: Round, slot: Slot) -> bool
+    ensures { λ r. ⌜ r ≡ ltb (slot .0) (round .slot .0) || ltb (round .last .0) (slot .0) ⌝ }
+{
+    (slot.0 < round.slot.0) | (round.last.0 < slot.0)
+}
+
+fn is_full(round: Round) -> bool
+    ensures { λ r. ⌜ r ≡ leb (round .room) (round .used) ⌝ }
+{
+    round.room <= round.used
+}

@@ -12,7 +12,7 @@ ghost use Rattle.replies.specs.Replies.{of-marked};
 ghost use Rattle.questions.specs.Seen.{Scanned, Seen};
 use buckets::Reach;
 use buckets::reach_of;
-use checks::refusals::marking_refusal;
+use checks::marking_refusal;
 use every::mark_every;
 use far::is_far;
 use marks::mark::mark_near;

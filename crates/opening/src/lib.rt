@@ -2,8 +2,8 @@
 ghost use Rattle.rules.specs.Rows.{until};
 ghost use Rattle.rules.specs.Calls.{opening, Says};
 ghost use Rattle.replies.specs.Replies.{of-opened};
-use checks::head::length_is_good;
-use checks::refusals::opening_refusal;
+use checks::opening_refusal;
+use limits::length_is_good;
 use replies::Opened;
 use round::head::rows_of;
 use round::head::write_head;

@@ -8,7 +8,7 @@ ghost use Rattle.rules.specs.Table.{rows-of};
 ghost use Rattle.theory.specs.Judge.{head-judged};
 ghost use Rattle.round.specs.Head.{Head-of};
 ghost use Rattle.round.specs.Numbers.{head-numbers};
-use checks::head::head_is_good;
+use limits::head_is_good;
 use numbers::read2;
 use numbers::read4;
 use numbers::write2;

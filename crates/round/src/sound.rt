@@ -4,7 +4,7 @@ use crate::head::head_is_sound;
 use crate::head::read_head;
 use crate::rows::rows_are_counted;
 use crate::rows::rows_are_sound;
-use checks::head::length_is_good;
+use limits::length_is_good;
 use row::row_at;
 use sorts::Round;
 use zeros::zeros_from;

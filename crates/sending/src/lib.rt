@@ -5,7 +5,7 @@ ghost use Rattle.round.specs.Judge.{Scan-asks, Scan-says};
 ghost use Rattle.round.specs.declared.sound.Judged.the-variants.{Sound};
 ghost use Rattle.went.specs.Send.{went-out, went-step};
 ghost use Rattle.replies.specs.Replies.{of-out, of-step, of-sent};
-use checks::refusals::sending_refusal;
+use checks::sending_refusal;
 use replies::Out;
 use replies::Sent;
 use replies::Step;

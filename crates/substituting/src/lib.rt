@@ -10,7 +10,7 @@ mod standing; // standing.rt: who stands in for a row
 use crate::finding::Found;
 use crate::finding::find_row;
 use crate::standing::substitute_row;
-use checks::refusals::sending_refusal;
+use checks::sending_refusal;
 use replies::Substituted;
 use round::sound::Judged;
 use round::sound::scan;

@@ -5,7 +5,7 @@ ghost use Rattle.rules.specs.Rows.{framed};
 ghost use Rattle.rules.specs.Calls.{taking, acting, Says};
 ghost use Rattle.round.specs.Head.{Head-of};
 ghost use Rattle.replies.specs.Replies.{of-taken};
-use checks::refusals::taking_refusal;
+use checks::taking_refusal;
 use replies::Taken;
 use round::head::write_head;
 use round::sound::Judged;

@@ -12,7 +12,7 @@ ghost use Rattle.replies.specs.Replies.{of-totalled};
 ghost use Rattle.questions.specs.Seen.{Scanned, Seen};
 use buckets::Reach;
 use buckets::reach_of;
-use checks::refusals::sending_refusal;
+use checks::sending_refusal;
 use marks::total::total_of;
 use plan::plan_of;
 use replies::Totalled;

@@ -1,8 +1,8 @@
--- `checks::refusals::marking_refusal` meets its contract: each number where the tests before it do not hold.
+-- `checks::marking_refusal` meets its contract: each number where the tests before it do not hold.
 use mathlib.Core.Path.{sym, _∙_}
 use borrow.Author.Needs.{needs}
-use Rattle.checks.proofs.refusals.marking_refusal.Statement.{statement}
-use Rattle.checks.proofs.refusals.marking_refusal.Tie as tie
+use Rattle.checks.proofs.marking_refusal.Statement.{statement}
+use Rattle.checks.proofs.marking_refusal.Tie as tie
 
 is-over-requires : tie.Need-is-over-requires
 is-over-requires c κs = search needs

@@ -1,7 +1,6 @@
-// The length of a table, and the numbers of its head.
+// Limits: whether a table may have its length, and a head its numbers.
 ghost use mathlib.Core.Path.{_≡_};
-ghost use Rattle.rules.specs.Table.{length-good};
-ghost use Rattle.rules.specs.Table.{head-tests, every};
+ghost use Rattle.rules.specs.Table.{length-good, head-tests, every};
 use sorts::Round;
 
 // Refusal 2: whether a length is that of a head and 1 to 1,024 rows.

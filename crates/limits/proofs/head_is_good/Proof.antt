@@ -1,8 +1,8 @@
--- `checks::head::head_is_good` meets its contract: the tests are those of the head's numbers.
+-- `limits::head_is_good` meets its contract: the tests are those of the head's numbers.
 use borrow.Author.Needs.{needs}
-use Rattle.checks.proofs.Heads.{all-hold}
-use Rattle.checks.proofs.head.head_is_good.Statement.{statement}
-use Rattle.checks.proofs.head.head_is_good.Tie as tie
+use Rattle.limits.proofs.Heads.{all-hold}
+use Rattle.limits.proofs.head_is_good.Statement.{statement}
+use Rattle.limits.proofs.head_is_good.Tie as tie
 
 cast-slot : tie.Need-cast-slot
 cast-slot c = search needs

@@ -1,9 +1,9 @@
--- `checks::refusals::opening_refusal` meets its contract: each number where the tests before it do not hold.
+-- `checks::opening_refusal` meets its contract: each number where the tests before it do not hold.
 use native.Mathlib.Omega.{arith}
 use borrow.Author.Tests.{lt-ltb, le-ltb}
 use Rattle.rules.specs.Limits.{most-last}
-use Rattle.checks.proofs.refusals.opening_refusal.Statement.{statement}
-use Rattle.checks.proofs.refusals.opening_refusal.Tie as tie
+use Rattle.checks.proofs.opening_refusal.Statement.{statement}
+use Rattle.checks.proofs.opening_refusal.Tie as tie
 
 returns : tie.Need-returns
 returns c = rw (lt-ltb most-last (c .before .before .before .args .last .0) (omega arith))

@@ -1,9 +1,9 @@
--- `checks::head::length_is_good` meets its contract: the tests are those of refusal 2.
+-- `limits::length_is_good` meets its contract: the tests are those of refusal 2.
 use borrow.Author.Needs.{needs}
 use borrow.Author.Tests.{le-leb, lt-leb}
 use Rattle.rules.specs.Table.{length-good}
-use Rattle.checks.proofs.head.length_is_good.Statement.{statement}
-use Rattle.checks.proofs.head.length_is_good.Tie as tie
+use Rattle.limits.proofs.length_is_good.Statement.{statement}
+use Rattle.limits.proofs.length_is_good.Tie as tie
 
 add-if1 : tie.Need-add-if1
 add-if1 c = search needs

@@ -1,4 +1,4 @@
--- `checks::refusals::taking_refusal` meets its contract: each number where the tests before it do not hold.
+-- `checks::taking_refusal` meets its contract: each number where the tests before it do not hold.
 use mathlib.Core.Path.{_≡_, sym, _∙_}
 use mathlib.Core.Bool.{false, _||_}
 use lib.Dec.{eqb, ltb}
@@ -6,8 +6,8 @@ use native.Mathlib.Omega.{arith}
 use borrow.Author.Needs.{needs}
 use borrow.Author.Tests.{eq-eqb, ne-eqb}
 use Rattle.rules.specs.Limits.{most-weight, ticket-limit}
-use Rattle.checks.proofs.refusals.taking_refusal.Statement.{statement}
-use Rattle.checks.proofs.refusals.taking_refusal.Tie as tie
+use Rattle.checks.proofs.taking_refusal.Statement.{statement}
+use Rattle.checks.proofs.taking_refusal.Tie as tie
 
 is-over-requires : tie.Need-is-over-requires
 is-over-requires c κs = search needs

@@ -1,8 +1,8 @@
--- `checks::refusals::sending_refusal` meets its contract: each number where the tests before it do not hold.
+-- `checks::sending_refusal` meets its contract: each number where the tests before it do not hold.
 use mathlib.Core.Path.{sym, _∙_}
 use borrow.Author.Needs.{needs}
-use Rattle.checks.proofs.refusals.sending_refusal.Statement.{statement}
-use Rattle.checks.proofs.refusals.sending_refusal.Tie as tie
+use Rattle.checks.proofs.sending_refusal.Statement.{statement}
+use Rattle.checks.proofs.sending_refusal.Tie as tie
 
 is-over-requires : tie.Need-is-over-requires
 is-over-requires c κs = search needs

@@ -32,7 +32,7 @@ goes c =
     let d = c .before .before .due-of in
     ⊎-elim
     (λ w. goes-new p (v .inv) (c .before .before .before .before .loop-test .taken) (d .ensures) (cc (c .before .ends-here .ensures, w .0 .taken))
-    (w .11 ∙ w .4 .ensures .1) (w .12 ∙ w .4 .ensures .2) (w .13 ∙ w .4 .ensures .3) (w .14 ∙ w .4 .ensures .0)
+    (w .11 ∙ w .4 .ensures .1) (cc (w .12, w .4 .ensures .2)) (w .13 ∙ w .4 .ensures .3) (w .14 ∙ w .4 .ensures .0)
     (omega (arith, w .15)) (omega (arith, w .16)) (omega (arith, w .17)))
     (λ w. goes-on p (v .inv) (c .before .before .before .before .loop-test .taken) (d .ensures) (cc (c .before .ends-here .ensures, w .0 .left))
     (w .1) (w .2) (w .3) (w .4) (w .5) (w .6) (w .7))
@@ -184,7 +184,7 @@ returns c =
     let v = c .before .before .before .before .before .before .before .before .before .before .before .loop in
     let d = c .before .before .before .before .before .before .close-segment2 in
     let t = c .before .before .before .before .before .before .before .before .before .before .loop-test .left in
-    says p (v .inv) (omega (arith, t)) (d .ensures .0) (d .ensures .1) (d .ensures .2) (d .ensures .3)
+    says p (v .inv) (omega (arith, t)) (cc (d .ensures .0)) (d .ensures .1) (d .ensures .2) (d .ensures .3)
 
 pub segments-of-spec : {M : Type 1} → statement M
 segments-of-spec =

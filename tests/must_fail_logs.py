@@ -51,7 +51,7 @@ FIT = [
 GOAL = [
     (re.compile(r'`search`: no proof of'), 'search finds no proof'),
     (re.compile(r'`omega`: the goal does not follow'), 'omega: the goal does not follow'),
-    (re.compile(r'`cc` (met a bound|does not|found)|the equations had joined'), 'cc does not join the two sides'),
+    (re.compile(r'`cc` (met a bound|does not|found)|the equations had joined|`cc`: the equations do not join'), 'cc does not join the two sides'),
     (re.compile(r'what it leaves must be a path whose two ends are equal'), 'rewriting leaves two unequal sides'),
     (re.compile(r'it is not proved that'), 'not proved'),
 ]
@@ -183,6 +183,7 @@ SAMPLES = [
     (True, 'no proof file', 'struct a::B: proved\nnote: x/src/lib.rt:43:1: it is not proved that what the function ensures holds when it returns (`returns`)\nnote: what antt said of a `search` in the proof that rattle made: x/src/lib.rt:44:19: `returns`: `search`: no proof of `reads.Post`\n  was found.' + END),
     (True, 'simp leaves', 'x/proofs/f/Proof.antt:16:15: error: `returns-2`: give a proof of that as the last argument, `simp L t`, or add what is missing to the list\n  `simp` has no last argument, so what it leaves must be a path whose two ends are equal, and `Path A x y`\n  is none' + END),
     (True, 'cc', 'x/proofs/f/Proof.antt:20:13: error: `returns`: list the missing equation with its arguments, or rewrite by `rw` or `simp`\n  `cc` met a bound of its own before the equations had joined `a`\n  to `b`' + END),
+    (True, 'cc, two that stay apart', 'x/proofs/Readings.antt:41:44: error: `out-read`: list the missing equation with its arguments, or rewrite by `rw` or `simp`\n  `cc`: the equations do not join `0` to `1`, by congruence, computation and the laws of constructors' + END),
     (True, 'false instance', 'x/proofs/Facts.antt:10:8: error: `ties`: as printed, the two types differ only where one has `true ∷ false ∷ []`\n  (expected), right after `_≡_ (`, and the other has `heavier 3 2 ∷ []` (found)\n  computed as far as they go, the two types differ only where one has `true` (expected) and the other has `false` (found)\n  expected type `a ≡ b`\n  but this has type `a ≡ a`' + END),
     (True, 'two numbers', 'x/proofs/f/Proof.antt:39:13: error: `returns`: computed as far as they go, the two types first differ where one has `16` (expected) and the other has `15` (found)\n  expected type `p`\n  but this has type `q`' + END),
     (True, 'two variants', 'x/proofs/f/Proof.antt:39:13: error: `returns`: computed as far as they go, the two types differ only where one has `a.Step.the-variants.Leap` (expected) and the other has `a.Step.the-variants.Ordinary` (found)' + END),

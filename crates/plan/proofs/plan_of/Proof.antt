@@ -37,7 +37,7 @@ returns c =
     let sort = c .before .before .before .before .before .before .before .before .before .before .before .before .sort in
     let leave-out = c .before .before .before .before .leave-out in
     let starts = c .before .before .before .before .before .before .before .before .before .before .before .before .before .before .before .before .before .starts in
-    plans _ _ _ _ _ _ _ (before .pre) _ _ _ _ (sort .ensures) _ _ _ _ _ _ refl (search needs) (leave-out .ensures) (starts .ensures) refl refl refl
+    plans _ _ _ _ _ _ _ (before .pre) _ _ _ _ (sort .ensures) _ _ _ _ _ _ refl (search needs) (leave-out .ensures) (starts .ensures) refl (search needs) (search needs)
 
 pub plan-of-spec : {M : Type 1} → statement M
 plan-of-spec =

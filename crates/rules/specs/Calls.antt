@@ -6,15 +6,16 @@ use Prim.Native.Nat.{ℕ}
 use lib.Dec.{ltb, leb, eqb}
 use lib.ListN.{length}
 use Rattle.rules.specs.Limits.{most-last, most-weight, ticket-limit}
-use Rattle.rules.specs.Rows.{Frame, Setup, Row, Round}
-use Rattle.rules.specs.Plan.{plan, total, mark, best}
-use Rattle.rules.specs.Steps.{opened, taken, sent, is-ordinary}
+use Rattle.rules.specs.Rows.{Frame, Setup, Head-tail, Row, Round}
+use Rattle.rules.specs.Plan.{total, mark}
+use Rattle.rules.specs.Steps.{opened, taken, sealed, goes, sent, is-ordinary}
 use Rattle.rules.specs.Table.{table, round-in, table-refusal, length-good}
 
 -- A CALL with its arguments: opening reads nothing of the table, acts write it, questions only look. Those that a request adds join here
 pub data Act : Type 0 where
   taking : Frame → Act
   sending : Act
+  sealing : Act
 
 pub data Question : Type 0 where
   marking : (slot : ℕ) → Question
@@ -39,6 +40,7 @@ pub data Step : Type 0 where
 pub data Reply : Type 0 where
   refused : (number : ℕ) → Reply
   done : Reply
+  closed : Reply
   ticket : ℕ → Reply
   step : Step → Reply
   amount : ℕ → Reply
@@ -48,6 +50,7 @@ pub data Reply : Type 0 where
 unfoldable pub number-of : Reply → ℕ
 number-of (refused n) = n
 number-of done = 0
+number-of closed = 0
 number-of (ticket k) = 0
 number-of (step s) = 0
 number-of (amount n) = 0
@@ -66,9 +69,12 @@ abbrev pub first-of : List Test → ℕ
 first-of [] = 0
 first-of (x ∷ xs) = cond (x .holds) (x .number) (first-of xs)
 
--- REFUSALS in their order, by the numbers of a head: the round is over; a slot is not ahead
+-- REFUSALS in their order, by the numbers of a head: the round is over; it is sealed; a slot is not ahead
 abbrev pub over : (slot last : ℕ) → Test
 over t l = ltb l t ⇒ 5
+
+abbrev pub is-sealed : Head-tail → Test
+is-sealed m = eqb (m .sealed) 1 ⇒ 13
 
 abbrev pub not-ahead : (slot last s : ℕ) → Test
 not-ahead t l s = (ltb s t || ltb l s) ⇒ 7
@@ -76,12 +82,16 @@ not-ahead t l s = (ltb s t || ltb l s) ⇒ 7
 abbrev pub open-tests : Setup → List Test
 open-tests u = (ltb most-last (u .last) ⇒ 4) ∷ []
 
-abbrev pub take-tests : (slot last next used room : ℕ) → Frame → List Test
-take-tests t l n u k f =
-    over t l ∷ ((eqb (f .weight) 0 || ltb most-weight (f .weight)) ⇒ 6) ∷ not-ahead t l (f .due) ∷ (eqb n ticket-limit ⇒ 8) ∷ (leb k u ⇒ 9) ∷ []
+abbrev pub take-tests : (slot last next used room : ℕ) → Head-tail → Frame → List Test
+take-tests t l n u k m f =
+    over t l ∷ is-sealed m ∷ ((eqb (f .weight) 0 || ltb most-weight (f .weight)) ⇒ 6) ∷ not-ahead t l (f .due) ∷ (eqb n ticket-limit ⇒ 8)
+    ∷ (leb k u ⇒ 9) ∷ []
 
 abbrev pub send-tests : (slot last : ℕ) → List Test
 send-tests t l = over t l ∷ []
+
+abbrev pub seal-tests : (slot last : ℕ) → List Test
+seal-tests t l = over t l ∷ []
 
 abbrev pub mark-tests : (slot last s : ℕ) → List Test
 mark-tests t l s = over t l ∷ not-ahead t l s ∷ []
@@ -101,13 +111,14 @@ out-of p = cond (eqb (p .ticket) 0) silence (cond (eqb (p .tail .kind) 0) (frame
 unfoldable pub act : Act → Round → Deed
 act (taking f) r =
     record {
-      tests = take-tests (r .slot) (r .last) (r .next) (length (r .rows)) (r .room) f;
+      tests = take-tests (r .slot) (r .last) (r .next) (length (r .rows)) (r .room) (r .tail) f;
       reply = ticket (r .next);
       leaves = taken r f;
     }
 act sending r =
-    let o = out-of (best r (plan r)) in
+    let o = out-of (goes r) in
     record { tests = send-tests (r .slot) (r .last); reply = step (cond (is-ordinary r) (ordinary o) (leap o)); leaves = sent r }
+act sealing r = record { tests = seal-tests (r .slot) (r .last); reply = closed; leaves = sealed r }
 
 unfoldable pub question : Question → Round → Deed
 question (marking s) r = record { tests = mark-tests (r .slot) (r .last) s; reply = amount (mark r s); leaves = r }

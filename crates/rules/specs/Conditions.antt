@@ -5,11 +5,11 @@ use mathlib.Core.Bool.{true, false}
 use mathlib.Core.List.{List, [], _∷_}
 use Prim.Native.Nat.{ℕ, suc, _+_, _*_, _≤_, _<_}
 use lib.ListN.{length, getD}
-use Rattle.rules.specs.Limits.{head-size, row-size, most-rows, most-last, most-weight, ticket-limit, slot-at, last-at, next-at, used-at, head-zeros-at, ticket-at, due-at, weight-at, kind-at, row-zeros-at, slot-bytes, wide-bytes, kind-bytes}
+use Rattle.rules.specs.Limits.{head-size, row-size, most-rows, most-last, most-weight, ticket-limit, slot-at, last-at, next-at, used-at, sealed-at, head-zeros-at, ticket-at, due-at, weight-at, kind-at, row-zeros-at, slot-bytes, wide-bytes, kind-bytes, flag-bytes}
 use Rattle.rules.specs.Rows.{Row, In}
 use Rattle.rules.specs.Plan.{plan, in-plan, listed}
 use Rattle.rules.specs.Table.{field, rows-of, round-in}
-use Rattle.rules.specs.Calls.{Act, taking, sending, Question, marking, totalling, Call, opening, acting, asking}
+use Rattle.rules.specs.Calls.{Act, taking, sending, sealing, Question, marking, totalling, Call, opening, acting, asking}
 use Rattle.rules.specs.Looking.{View, the-plan}
 use Rattle.rules.specs.Lines.{Command, text, stands}
 
@@ -33,6 +33,9 @@ next-in t = field next-at wide-bytes t
 abbrev pub used-in : List ℕ → ℕ
 used-in t = field used-at slot-bytes t
 
+abbrev pub sealed-in : List ℕ → ℕ
+sealed-in t = field sealed-at flag-bytes t
+
 abbrev pub row-at : (row : ℕ) → ℕ
 row-at i = head-size + row-size * i
 
@@ -48,7 +51,7 @@ weight-in t i = field (row-at i + weight-at) wide-bytes t
 abbrev pub kind-in : List ℕ → (row : ℕ) → ℕ
 kind-in t i = field (row-at i + kind-at) kind-bytes t
 
--- A SOUND TABLE: one fact for each clause of document 01
+-- A SOUND TABLE: one fact for each clause of document 01, and of L1 the head's byte 10
 pub record Sound (t : List ℕ) : Type 0 where
   pub head-zeros : (i : ℕ) → head-zeros-at ≤ i → i < head-size → getD t i 0 ≡ 0
   pub row-zeros : (i j : ℕ) → i < used-in t → row-zeros-at ≤ j → j < row-size → getD t (row-at i + j) 0 ≡ 0
@@ -58,6 +61,7 @@ pub record Sound (t : List ℕ) : Type 0 where
   pub slot-most : slot-in t ≤ suc (last-in t)
   pub next-least : 1 ≤ next-in t
   pub next-most : next-in t ≤ ticket-limit
+  pub sealed-flag : sealed-in t ≤ 1
   pub tickets-from : (i : ℕ) → i < used-in t → 1 ≤ ticket-in t i
   pub tickets-rise : (i : ℕ) → suc i < used-in t → ticket-in t i < ticket-in t (suc i)
   pub tickets-below : (i : ℕ) → i < used-in t → ticket-in t i < next-in t
@@ -119,9 +123,10 @@ if-sound t cs = (Length-bad t gives 2) ∷ (Unsound t gives 3) ∷ cs
 
 unfoldable pub act-conditions : Act → List ℕ → List Condition
 act-conditions (taking f) t =
-    (Past t gives 5) ∷ (Weight-bad (f .weight) gives 6) ∷ (Slot-bad (f .due) t gives 7) ∷ ((next-in t ≡ ticket-limit) gives 8)
+    (Past t gives 5) ∷ ((sealed-in t ≡ 1) gives 13) ∷ (Weight-bad (f .weight) gives 6) ∷ (Slot-bad (f .due) t gives 7) ∷ ((next-in t ≡ ticket-limit) gives 8)
     ∷ ((used-in t ≡ rows-of t) gives 9) ∷ []
 act-conditions sending t = (Past t gives 5) ∷ []
+act-conditions sealing t = (Past t gives 5) ∷ []
 
 unfoldable pub question-conditions : Question → List ℕ → List Condition
 question-conditions (marking s) t = (Past t gives 5) ∷ (Slot-bad s t gives 7) ∷ []

@@ -1,7 +1,7 @@
 -- L14, WHAT HINDSIGHT COULD HAVE GAINED: what calls and replies alone tell of a round; S, what went out in it; B, the most that could have;
 -- and the owed statements about the two.
 use mathlib.Core.Path.{_≡_}
-use mathlib.Core.Bool.{Bool, true, _&&_, not, cond}
+use mathlib.Core.Bool.{Bool, true, false, _&&_, not, cond}
 use mathlib.Core.List.{List, [], _∷_}
 use mathlib.Core.Option.{Option, none, some}
 use Prim.Native.Nat.{ℕ, zero, suc, _+_, _*_, _-_, _≤_, max}
@@ -9,19 +9,21 @@ use lib.Dec.{leb, eqb}
 use lib.ListN.{length}
 use Rattle.rules.specs.Limits.{head-size, row-size, most-rows, most-last}
 use Rattle.rules.specs.Rows.{Setup}
-use Rattle.rules.specs.Calls.{taking, sending, Call, opening, acting, asking, Out, silence, frame, kept-blank, ordinary, leap, Reply, refused, done, ticket, step, amount, blank-due, left, run, replies}
+use Rattle.rules.specs.Calls.{taking, sending, sealing, Call, opening, acting, asking, Out, silence, frame, kept-blank, ordinary, leap, Reply, refused, done, closed, ticket, step, amount, blank-due, left, run, replies}
 use Rattle.rules.specs.Conditions.{Past}
 use Rattle.rules.specs.Demands.{member, No-opening}
 
--- WHAT A CALL AND ITS REPLY TELL: a frame accepted, what went out, or nothing of these
+-- WHAT A CALL AND ITS REPLY TELL: a frame accepted, what went out, that the round is shut (L1's sealing), or nothing of these
 pub data Told : Type 0 where
   nothing : Told
   took : (ticket due weight : ℕ) → Told
   went : Out → Told
+  shut : Told
 
 unfoldable pub took-in : (due weight : ℕ) → Reply → Told
 took-in d w (refused n) = nothing
 took-in d w done = nothing
+took-in d w closed = nothing
 took-in d w (ticket k) = took k d w
 took-in d w (step s) = nothing
 took-in d w (amount n) = nothing
@@ -30,22 +32,41 @@ took-in d w (blank-due s) = nothing
 unfoldable pub went-out : Reply → Told
 went-out (refused n) = nothing
 went-out done = nothing
+went-out closed = nothing
 went-out (ticket k) = nothing
 went-out (step (ordinary o)) = went o
 went-out (step (leap o)) = went o
 went-out (amount n) = nothing
 went-out (blank-due s) = nothing
 
+unfoldable pub shut-by : Reply → Told
+shut-by (refused n) = nothing
+shut-by done = nothing
+shut-by closed = shut
+shut-by (ticket k) = nothing
+shut-by (step s) = nothing
+shut-by (amount n) = nothing
+shut-by (blank-due s) = nothing
+
 unfoldable pub told : Call → Reply → Told
 told (opening u) a = nothing
 told (acting (taking f)) a = took-in (f .due) (f .weight) a
 told (acting sending) a = went-out a
+told (acting sealing) a = shut-by a
 told (asking q) a = nothing
 
 unfoldable pub story : List Call → List Reply → List Told
 story [] bs = []
 story (c ∷ cs) [] = []
 story (c ∷ cs) (a ∷ bs) = told c a ∷ story cs bs
+
+-- whether the round was never sealed
+unfoldable pub never-shut : List Told → Bool
+never-shut [] = true
+never-shut (nothing ∷ ts) = never-shut ts
+never-shut (took k d w ∷ ts) = never-shut ts
+never-shut (went o ∷ ts) = never-shut ts
+never-shut (shut ∷ ts) = false
 
 -- S, WHAT WENT OUT: a frame counts for the weight it was taken with, by its ticket; silence and a kept blank count nothing
 unfoldable pub counts-for : (worth : ℕ → ℕ) → Out → ℕ
@@ -61,6 +82,7 @@ earned [] f u = u
 earned (nothing ∷ ts) f u = earned ts f u
 earned (took k d w ∷ ts) f u = earned ts (noted k w f) u
 earned (went o ∷ ts) f u = earned ts f (u + counts-for f o)
+earned (shut ∷ ts) f u = earned ts f u
 
 unfoldable pub sent-in : List Told → ℕ
 sent-in ts = earned ts (λ k. 0) 0
@@ -80,6 +102,7 @@ offers [] s = []
 offers (nothing ∷ ts) s = offers ts s
 offers (took k d w ∷ ts) s = offer s d w ∷ offers ts s
 offers (went o ∷ ts) s = offers ts (suc s)
+offers (shut ∷ ts) s = offers ts s
 
 -- A RIVAL'S CHOICE, the source's schedule of the adversary: for each offer in turn a slot or none
 abbrev pub Choice : Type 0
@@ -130,6 +153,6 @@ Of-rounds claim =
 unfoldable pub Sent-could-have : Type 0
 Sent-could-have = Of-rounds (λ z ts. sent-in ts ≤ could-have ts)
 
--- THE GOLDEN BOUND: past the last slot B is at most S times the golden ratio
+-- THE GOLDEN BOUND: past the last slot of a round that was never sealed B is at most S times the golden ratio
 unfoldable pub Golden-hindsight : Type 0
-Golden-hindsight = Of-rounds (λ z ts. Past z → could-have ts * could-have ts ≤ could-have ts * sent-in ts + sent-in ts * sent-in ts)
+Golden-hindsight = Of-rounds (λ z ts. Past z → never-shut ts ≡ true → could-have ts * could-have ts ≤ could-have ts * sent-in ts + sent-in ts * sent-in ts)

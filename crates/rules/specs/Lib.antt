@@ -14,4 +14,5 @@ pub mod Conditions
 pub mod PlanM
 pub mod StepsOf
 pub mod Demands
+pub mod Sealed
 pub mod Hindsight

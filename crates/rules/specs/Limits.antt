@@ -22,7 +22,7 @@ most-weight = 16777216
 abbrev pub ticket-limit : ℕ
 ticket-limit = 16777216
 
--- widths in bytes: a slot or a count of rows; a ticket or a weight; a kind
+-- widths in bytes: a slot or a count of rows; a ticket or a weight; a kind; yes or no
 abbrev pub slot-bytes : ℕ
 slot-bytes = 2
 
@@ -32,14 +32,17 @@ wide-bytes = 4
 abbrev pub kind-bytes : ℕ
 kind-bytes = 1
 
+abbrev pub flag-bytes : ℕ
+flag-bytes = 1
+
 -- A LAYOUT: the widths of numbers that stand side by side; its bytes in all
 abbrev pub size : (widths : List ℕ) → ℕ
 size [] = 0
 size (n ∷ ns) = n + size ns
 
--- the head: current slot, last slot, next ticket, rows in use, its tail; where each begins, and its zeros
+-- the head: current slot, last slot, next ticket, rows in use, its tail, which is whether it is sealed; where each begins, and its zeros
 abbrev pub head-tail-widths : List ℕ
-head-tail-widths = []
+head-tail-widths = flag-bytes ∷ []
 
 abbrev pub head-widths : List ℕ
 head-widths = slot-bytes ∷ slot-bytes ∷ wide-bytes ∷ slot-bytes ∷ head-tail-widths
@@ -55,6 +58,9 @@ next-at = 4
 
 abbrev pub used-at : ℕ
 used-at = 8
+
+abbrev pub sealed-at : ℕ
+sealed-at = 10
 
 abbrev pub head-zeros-at : ℕ
 head-zeros-at = size head-widths

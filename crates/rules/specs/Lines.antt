@@ -6,7 +6,7 @@ use lib.Dec.{ltb, leb, eqb}
 use lib.ListN.{length, getD, take, drop, replicate}
 use Rattle.rules.specs.Limits.{head-size, row-size, most-rows, short-digits, slot-digits, wide-digits, most-payload}
 use Rattle.rules.specs.Rows.{framed, until}
-use Rattle.rules.specs.Calls.{taking, sending, Call, opening, acting, Out, silence, frame, kept-blank, ordinary, leap, Reply, refused, done, ticket, step, amount, blank-due, answer, left}
+use Rattle.rules.specs.Calls.{taking, sending, sealing, Call, opening, acting, Out, silence, frame, kept-blank, ordinary, leap, Reply, refused, done, closed, ticket, step, amount, blank-due, answer, left}
 
 -- DIGITS 0 to 9 and A to F as bytes, and numbers in digits, high digit first
 unfoldable pub digit : ℕ → ℕ
@@ -69,6 +69,7 @@ forms =
     form 0 (slot-digits ∷ []) false
     ∷ form 1 (slot-digits ∷ wide-digits ∷ []) true
     ∷ form 2 [] false
+    ∷ form 3 [] false
     ∷ []
 
 -- the form of a line number; a number that no line has would stand alone, and makes no command
@@ -95,21 +96,25 @@ pub data Command : Type 0 where
   open-line : (last : ℕ) → Command
   take-line : (due weight : ℕ) → Command
   send-line : Command
+  seal-line : Command
 
 unfoldable pub line-number : Command → ℕ
 line-number (open-line l) = 0
 line-number (take-line d w) = 1
 line-number send-line = 2
+line-number seal-line = 3
 
 unfoldable pub values-of : Command → List ℕ
 values-of (open-line l) = l ∷ []
 values-of (take-line d w) = d ∷ w ∷ []
 values-of send-line = []
+values-of seal-line = []
 
 unfoldable pub call-of : Command → Call
 call-of (open-line l) = opening (until l)
 call-of (take-line d w) = acting (taking (framed d w))
 call-of send-line = acting sending
+call-of seal-line = acting sealing
 
 abbrev pub form-of : Command → Form
 form-of c = form-numbered (line-number c)
@@ -144,7 +149,8 @@ unfoldable pub command-of : (number : ℕ) (values : List ℕ) → Reading
 command-of k vs =
     cond (eqb k 0) (command (open-line (getD vs 0 0)))
     (cond (eqb k 1) (command (take-line (getD vs 0 0) (getD vs 1 0)))
-    (cond (eqb k 2) (command send-line) broken))
+    (cond (eqb k 2) (command send-line)
+    (cond (eqb k 3) (command seal-line) broken)))
 
 unfoldable pub read-digits : List ℕ → Reading
 read-digits ds =
@@ -199,6 +205,7 @@ out-digits k (kept-blank n) = digits short-digits 2 ++ digits short-digits k ++ 
 unfoldable pub reply-digits : Reply → List ℕ
 reply-digits (refused n) = digits short-digits 255 ++ digits short-digits n
 reply-digits done = digits short-digits 0
+reply-digits closed = digits short-digits 3
 reply-digits (ticket k) = digits short-digits 1 ++ digits wide-digits k
 reply-digits (step (ordinary o)) = digits short-digits 2 ++ out-digits 0 o
 reply-digits (step (leap o)) = digits short-digits 2 ++ out-digits 1 o

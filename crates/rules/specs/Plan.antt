@@ -122,6 +122,15 @@ unfoldable pub best : Round → (ps : List Row) → Row
 best r [] = blank (r .slot)
 best r (p ∷ ps) = best-from r (p ∷ ps) ps p
 
+-- THE CANONICAL FIRST of the plan, blanks among its members: what a sealed round sends (L1)
+unfoldable pub first-from : List Row → (best : Row) → Row
+first-from [] b = b
+first-from (x ∷ xs) b = first-from xs (cond (canonical x b) x b)
+
+unfoldable pub canonical-first : Round → (ps : List Row) → Row
+canonical-first r [] = blank (r .slot)
+canonical-first r (p ∷ ps) = first-from ps p
+
 -- the plan as a set of waiting rows, by a flag for each; and AS LISTED, in canonical order, blanks left out
 unfoldable pub flags : (ps xs : List Row) → List Bool
 flags ps [] = []

@@ -44,11 +44,15 @@ row k d w m = record { ticket = k; due = d; weight = w; tail = m }
 unfoldable pub blank : (due : ℕ) → Row
 blank s = record { ticket = 0; due = s; weight = 0; tail = frame-tail }
 
--- A HEAD's TAIL: what a round has beside its slots, tickets and rows, handed on by taking and sending. Nothing yet
+-- A HEAD's TAIL: what a round has beside its slots, tickets and rows, handed on by taking and sending. Sealed (L1) is 1, else 0
 pub record Head-tail : Type 0 where
+  pub sealed : ℕ
 
-abbrev pub no-tail : Head-tail
-no-tail = record {}
+abbrev pub unsealed-tail : Head-tail
+unsealed-tail = record { sealed = 0 }
+
+abbrev pub sealed-tail : Head-tail
+sealed-tail = record { sealed = 1 }
 
 -- A ROUND: current slot (the paper's time step t), last slot, next ticket, room for rows, rows in ticket order.
 -- The due slot is the paper's deadline
@@ -66,6 +70,10 @@ round t l n k xs m = record { slot = t; last = l; next = n; room = k; rows = xs;
 -- the same round at another slot, next ticket and rows
 abbrev pub going-on : (slot next : ℕ) → List Row → Round → Round
 going-on t n xs r = round t (r .last) n (r .room) xs (r .tail)
+
+-- the same round with another tail
+abbrev pub with-tail : Head-tail → Round → Round
+with-tail m r = round (r .slot) (r .last) (r .next) (r .room) (r .rows) m
 
 unfoldable pub slots-left : Round → ℕ
 slots-left r = suc (r .last) - r .slot

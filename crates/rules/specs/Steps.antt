@@ -1,14 +1,14 @@
--- Opening, taking and sending: what each makes of a round.
+-- Opening, taking, sealing and sending: what each makes of a round.
 use mathlib.Core.Bool.{Bool, _&&_, cond}
 use mathlib.Core.List.{List, [], _∷_, _++_}
 use Prim.Native.Nat.{ℕ, zero, suc, max}
 use lib.Dec.{ltb, leb, eqb}
-use Rattle.rules.specs.Rows.{Frame, Setup, Row, Round, row, blank, round, going-on, heavier, frame-tail, blank-tail, no-tail}
-use Rattle.rules.specs.Plan.{plan, mark-in, tight-after, first-end, substitute, best}
+use Rattle.rules.specs.Rows.{Frame, Setup, Row, Round, row, blank, round, going-on, with-tail, heavier, frame-tail, blank-tail, unsealed-tail, sealed-tail}
+use Rattle.rules.specs.Plan.{plan, mark-in, tight-after, first-end, substitute, best, canonical-first}
 
 -- OPENING
 unfoldable pub opened : Setup → (room : ℕ) → Round
-opened u k = round 0 (u .last) 1 k [] no-tail
+opened u k = round 0 (u .last) 1 k [] unsealed-tail
 
 -- TAKING: the first unused row gets the next ticket
 abbrev pub taken-row : (ticket : ℕ) → Frame → Row
@@ -16,6 +16,10 @@ taken-row k f = row k (f .due) (f .weight) frame-tail
 
 unfoldable pub taken : Round → Frame → Round
 taken r f = going-on (r .slot) (suc (r .next)) (r .rows ++ (taken-row (r .next) f ∷ [])) r
+
+-- SEALING (L1)
+unfoldable pub sealed : Round → Round
+sealed r = with-tail sealed-tail r
 
 -- a row at another due slot and weight; a row kept as a blank there
 abbrev pub set-to : (due weight : ℕ) → Row → Row
@@ -62,17 +66,24 @@ leapt r ps p =
     let e = tight-after r ps (p .due) in
     replaced r ps p s (shifted (suc (r .last)) r ps e g (r .rows))
 
+-- WHOSE TURN IT IS: the plan's canonical first in a sealed round (L1), else PlanM's pick. Document 01's p
+unfoldable pub turn-of : Round → (ps : List Row) → Row
+turn-of r ps = cond (eqb (r .tail .sealed) 1) (canonical-first r ps) (best r ps)
+
+abbrev pub goes : Round → Row
+goes r = turn-of r (plan r)
+
 -- SENDING: ordinary where p is due by the first segment's end, else a leap; rows due before the next slot leave
 unfoldable pub still-due : (slot : ℕ) → List Row → List Row
 still-due t [] = []
 still-due t (x ∷ xs) = cond (leb t (x .due)) (x ∷ still-due t xs) (still-due t xs)
 
 unfoldable pub is-ordinary : Round → Bool
-is-ordinary r = leb (best r (plan r) .due) (first-end r (plan r))
+is-ordinary r = leb (goes r .due) (first-end r (plan r))
 
 unfoldable pub sent : Round → Round
 sent r =
     let ps = plan r in
-    let p = best r ps in
+    let p = turn-of r ps in
     let xs = cond (leb (p .due) (first-end r ps)) (without (p .ticket) (r .rows)) (leapt r ps p) in
     going-on (suc (r .slot)) (r .next) (still-due (suc (r .slot)) xs) r

@@ -4,14 +4,11 @@ use mathlib.Core.Logic.{_⊎_, _≢_}
 use mathlib.Core.List.{List, [], _∷_}
 use Prim.Native.Nat.{ℕ, suc, _≤_, _<_, max}
 use Rattle.rules.specs.Rows.{Row, Round, blank, Heavier, In}
-use Rattle.rules.specs.Plan.{plan, tight-after, first-end, mark, substitute, best}
-use Rattle.rules.specs.Steps.{set-to, kept-at, sent}
+use Rattle.rules.specs.Plan.{plan, tight-after, first-end, mark, substitute}
+use Rattle.rules.specs.Steps.{set-to, kept-at, goes, sent}
 use Rattle.rules.specs.Calls.{Out, silence, frame, kept-blank, ordinary, leap, step, acting, sending, says}
 
--- document 01's p and r, here p and s, and where the segment of a row ends: the first tight slot at or after its due slot
-abbrev pub goes : Round → Row
-goes r = best r (plan r)
-
+-- document 01's p is what goes, its r here s; and where the segment of a row ends: the first tight slot at or after its due slot
 abbrev pub stands-in : Round → Row
 stands-in r = substitute r (plan r) (goes r)
 

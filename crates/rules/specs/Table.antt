@@ -4,8 +4,8 @@ use mathlib.Core.List.{List, [], _∷_, _++_}
 use Prim.Native.Nat.{ℕ, zero, suc, _+_, _*_, _-_, _/_, _%_}
 use lib.Dec.{ltb, leb, eqb}
 use lib.ListN.{length, take, drop, replicate}
-use Rattle.rules.specs.Limits.{head-size, row-size, most-rows, most-last, most-weight, ticket-limit, slot-bytes, wide-bytes, kind-bytes}
-use Rattle.rules.specs.Limits.{head-widths, slot-at, last-at, next-at, used-at, head-zeros-at, row-widths, ticket-at, due-at, weight-at, kind-at, row-zeros-at}
+use Rattle.rules.specs.Limits.{head-size, row-size, most-rows, most-last, most-weight, ticket-limit, slot-bytes, wide-bytes, kind-bytes, flag-bytes}
+use Rattle.rules.specs.Limits.{head-widths, slot-at, last-at, next-at, used-at, sealed-at, head-zeros-at, row-widths, ticket-at, due-at, weight-at, kind-at, row-zeros-at}
 use Rattle.rules.specs.Rows.{Tail, Row, Head-tail, Round, row, round}
 
 -- a number as bytes, and back
@@ -42,7 +42,7 @@ rows-bytes (x ∷ xs) = row-bytes x ++ rows-bytes xs
 
 -- THE TABLE of a round: its head, used rows, zeros behind
 abbrev pub head-tail-values : Head-tail → List ℕ
-head-tail-values m = []
+head-tail-values m = m .sealed ∷ []
 
 abbrev pub head-values : (slot last next used : ℕ) → Head-tail → List ℕ
 head-values t l n u m = t ∷ l ∷ n ∷ u ∷ head-tail-values m
@@ -71,7 +71,7 @@ unfoldable pub rows-of : List ℕ → ℕ
 rows-of bs = (length bs - head-size) / row-size
 
 abbrev pub head-tail-in : List ℕ → Head-tail
-head-tail-in bs = record {}
+head-tail-in bs = record { sealed = field sealed-at flag-bytes bs }
 
 unfoldable pub round-in : List ℕ → Round
 round-in bs =
@@ -101,11 +101,14 @@ rows-good r b [] = true
 rows-good r b (x ∷ xs) = every (row-tests (r .slot) (r .last) (r .next) b x) && rows-good r (x .ticket) xs
 
 -- a head's, with the rows in use and the room for them
-abbrev pub head-tests : (slot last next used room : ℕ) → List Bool
-head-tests s l n u k = leb l most-last ∷ leb s (suc l) ∷ leb 1 n ∷ leb n ticket-limit ∷ leb u k ∷ []
+abbrev pub head-tail-tests : Head-tail → List Bool
+head-tail-tests m = leb (m .sealed) 1 ∷ []
+
+abbrev pub head-tests : (slot last next used room : ℕ) → Head-tail → List Bool
+head-tests s l n u k m = leb l most-last ∷ leb s (suc l) ∷ leb 1 n ∷ leb n ticket-limit ∷ leb u k ∷ head-tail-tests m
 
 unfoldable pub round-good : Round → Bool
-round-good r = every (head-tests (r .slot) (r .last) (r .next) (length (r .rows)) (r .room)) && rows-good r 0 (r .rows)
+round-good r = every (head-tests (r .slot) (r .last) (r .next) (length (r .rows)) (r .room) (r .tail)) && rows-good r 0 (r .rows)
 
 unfoldable pub same : (a b : List ℕ) → Bool
 same [] [] = true

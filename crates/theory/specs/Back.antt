@@ -9,17 +9,18 @@ use lib.Dec.{ltb, leb, eqb}
 use borrow.Author.Tests.{le-leb, eq-eqb}
 use lib.ListN.{length, getD, drop, replicate, length-append, length-replicate}
 use lib.Seq.{drop-at}
-use Rattle.rules.specs.Limits.{head-size, row-size, most-rows, most-last, ticket-limit, used-at, slot-bytes, head-widths, head-zeros-at, tail-widths, row-widths, row-zeros-at}
+use Rattle.rules.specs.Limits.{head-size, row-size, most-rows, most-last, ticket-limit, used-at, slot-bytes, head-tail-widths, head-widths, head-zeros-at, tail-widths, row-widths, row-zeros-at}
 use Rattle.rules.specs.Rows.{Frame, Setup, Tail, Row, Head-tail, Round, heavier, blank, round, row, All, blank-tail}
-use Rattle.rules.specs.Plan.{in-plan, lightest-by, sends-before, best-from, plan, best, first-end, tight-after, mark-in, substitute, heaviest-outside, segment-start}
-use Rattle.rules.specs.Steps.{opened, taken-row, taken, sent, without, changed, still-due, leapt, replaced, shifted, heaviest-between}
-use Rattle.rules.specs.Table.{low, field, put, tail-values, row-values, front-row, head-values, head-bytes, row-bytes, rows-bytes, table, rows-in, round-in, length-good, rows-good, round-good, same, table-refusal, rows-of}
-use Rattle.rules.specs.Calls.{Act, taking, sending, Call, acting, act, deed, round-refusal, leaves, next-round}
+use Rattle.rules.specs.Plan.{in-plan, lightest-by, sends-before, best-from, plan, best, canonical-first, first-end, tight-after, mark-in, substitute, heaviest-outside, segment-start}
+use Rattle.rules.specs.Steps.{opened, taken-row, taken, sealed, turn-of, goes, sent, without, changed, still-due, leapt, replaced, shifted, heaviest-between}
+use Rattle.rules.specs.Table.{low, field, put, tail-values, row-values, front-row, head-tail-values, head-tail-in, head-values, head-bytes, row-bytes, rows-bytes, table, rows-in, round-in, length-good, rows-good, round-good, same, table-refusal, rows-of}
+use Rattle.rules.specs.Calls.{Act, taking, sending, sealing, Call, acting, act, deed, round-refusal, leaves, next-round}
 use Rattle.theory.specs.Tests.{either, both-ways}
 use Rattle.theory.specs.All.{all-map, all-append}
-use Rattle.theory.specs.Bounds.{Row-fine, Tail-right, Tail-fine, frame-right, kept-right, blank-right, right-tests, head-tested}
+use Rattle.theory.specs.Bounds.{Row-fine, Tail-right, Tail-fine, frame-right, kept-right, blank-right, Head-tail-right, unsealed-right, sealed-right, right-tests, head-tested}
 use Rattle.theory.specs.Full.{plan-all, Fine, Rising}
 use Rattle.theory.specs.Change.{all-changed, all-without, all-still}
+use Rattle.theory.specs.Turn.{first-from-all}
 use Rattle.theory.specs.Calls.{Takes, takes, next-keeps}
 use Rattle.theory.specs.Layout.{got, Fit, got-put}
 
@@ -33,6 +34,7 @@ pub record Sized (r : Round) : Type 0 where
   pub next : r .next ≤ ticket-limit
   pub long : length (r .rows) ≤ r .room
   pub tails : All Tail-fine (r .rows)
+  pub tail : Head-tail-right (r .tail)
 
 -- A ROW reads back: its numbers are in its bytes, and a row is its numbers
 abbrev pub Row-fits : Row → Type 0
@@ -128,8 +130,11 @@ module _ (r : Round) (f : Fine r) (z : Sized r) where
       let zs = replicate (head-size - head-zeros-at) zero-byte in
       let bs = rows-bytes (r .rows) ++ replicate (row-size * (r .room - length (r .rows))) zero-byte in
       got-put head-widths vs 0 (table r) (zs ++ bs)
-      (omega (arith, f .time, z .last), (omega (arith, z .last), (omega (arith, z .next), (omega (arith, z .long, z .room), tt))))
+      (omega (arith, f .time, z .last), (omega (arith, z .last), (omega (arith, z .next), (omega (arith, z .long, z .room), tail-fits (r .tail) (z .tail)))))
       (append-assoc (put head-widths vs) zs bs)
+    where
+      tail-fits : (m : Head-tail) → Head-tail-right m → Fit head-tail-widths (head-tail-values m)
+      tail-fits m t = (omega (arith, t .sealed-flag), tt)
 
   head-at : (n : ℕ) →
       getD (got 0 head-widths (table r)) n 0 ≡ getD (head-values (r .slot) (r .last) (r .next) (length (r .rows)) (r .tail)) n 0
@@ -145,10 +150,14 @@ module _ (r : Round) (f : Fine r) (z : Sized r) where
       (rows-back (r .rows) (replicate (row-size * (r .room - length (r .rows))) 0)
       (fits-bytes r 1 (r .rows) (z .last) (z .next) (f .fine) (z .tails) (f .rising)))
 
+  tail-back : head-tail-in (table r) ≡ r .tail
+  unfolding got
+  tail-back i = record { sealed = head-at 4 i }
+
   pub read-back : round-in (table r) ≡ r
   unfolding round-in rows-of round got
   read-back i =
-      record { slot = head-at 0 i; last = head-at 1 i; next = head-at 2 i; room = room-back r (z .long) i; rows = rows-are i; tail = record {} }
+      record { slot = head-at 0 i; last = head-at 1 i; next = head-at 2 i; room = room-back r (z .long) i; rows = rows-are i; tail = tail-back i }
 
 pub rows-good-yes : (r : Round) (b : ℕ) (xs : List Row) → All (Row-fine r) xs → All Tail-fine xs → Rising (suc b) (r .next) xs →
     rows-good r b xs ≡ true
@@ -162,12 +171,13 @@ rows-good-yes r b (x ∷ xs) f k s =
 pub good : (r : Round) → Fine r → Sized r → round-good r ≡ true
 unfolding round-good
 good r f z =
-    rw (head-tested (r .slot) (r .last) (r .next) (length (r .rows)) (r .room) (record {
+    rw (head-tested (r .slot) (r .last) (r .next) (length (r .rows)) (r .room) (r .tail) (record {
       last-most = z .last;
       slot-most = f .time;
       next-least = rising-le 1 (r .next) (r .rows) (f .rising);
       next-most = z .next;
       fit = z .long;
+      tail = z .tail;
     }))
     (rows-good-yes r 0 (r .rows) (f .fine) (z .tails) (f .rising))
 
@@ -270,10 +280,12 @@ best-from-all P r ps [] b p a = p
 best-from-all P r ps (x ∷ xs) b p a =
     best-from-all P r ps xs (cond (sends-before r ps x b) x b) (both-ways P (sends-before r ps x b) x b (λ _. a .0) (λ _. p)) (a .1)
 
-pub best-tail : (r : Round) (ps : List Row) → All Tail-fine ps → Tail-fine (best r ps)
-unfolding best
-best-tail r [] a = blank-right (r .slot)
-best-tail r (p ∷ ps) a = best-from-all Tail-fine r (p ∷ ps) ps p (a .0) (a .1)
+pub turn-tail : (r : Round) (ps : List Row) → All Tail-fine ps → Tail-fine (turn-of r ps)
+unfolding turn-of best canonical-first
+turn-tail r [] a = both-ways Tail-fine (eqb (r .tail .sealed) 1) _ _ (λ _. blank-right (r .slot)) (λ _. blank-right (r .slot))
+turn-tail r (p ∷ ps) a =
+    both-ways Tail-fine (eqb (r .tail .sealed) 1) _ _ (λ _. first-from-all Tail-fine ps p (a .0) (a .1))
+    (λ _. best-from-all Tail-fine r (p ∷ ps) ps p (a .0) (a .1))
 
 pub lightest-all : (P : Row → Type 0) (s : ℕ) (xs : List Row) (b : Row) → P b → All P xs → P (lightest-by s xs b)
 unfolding lightest-by
@@ -297,12 +309,12 @@ pub in-room-sent : (n : ℕ) (r : Round) → In-room n (r .rows) → In-room n (
 unfolding sent round
 in-room-sent n r s =
     in-room-still n (suc (r .slot)) _
-    (both-ways (In-room n) (leb (best r (plan r) .due) (first-end r (plan r))) _ _ (λ _. in-room-without n (best r (plan r) .ticket) (r .rows) s)
-    (λ _. in-room-leapt n r (best r (plan r)) (best-tail r (plan r) (plan-tails r (s .1))) s))
+    (both-ways (In-room n) (leb (goes r .due) (first-end r (plan r))) _ _ (λ _. in-room-without n (goes r .ticket) (r .rows) s)
+    (λ _. in-room-leapt n r (goes r) (turn-tail r (plan r) (plan-tails r (s .1))) s))
 
 pub sized-opened : (u : Setup) (k : ℕ) → u .last ≤ most-last → k ≤ most-rows → Sized (opened u k)
 unfolding opened round
-sized-opened u k h i = record { last = h; room = i; next = omega arith; long = omega arith; tails = tt }
+sized-opened u k h i = record { last = h; room = i; next = omega arith; long = omega arith; tails = tt; tail = unsealed-right }
 
 pub sized-taken : (r : Round) (f : Frame) → Takes r f → Sized r → Sized (taken r f)
 unfolding taken round row
@@ -314,22 +326,28 @@ sized-taken r f k z =
       next = omega (arith, z .next);
       long = omega (arith, k .free, length-append (r .rows) (taken-row (r .next) f ∷ []));
       tails = all-append Tail-fine (r .rows) (taken-row (r .next) f ∷ []) (z .tails) (frame-right, tt);
+      tail = z .tail;
     }
 
 pub sized-sent : (r : Round) → Sized r → Sized (sent r)
 unfolding sent round
 sized-sent r z =
     let s = in-room-sent (r .room) r (z .long, z .tails) in
-    record { last = z .last; room = z .room; next = z .next; long = s .0; tails = s .1 }
+    record { last = z .last; room = z .room; next = z .next; long = s .0; tails = s .1; tail = z .tail }
+
+pub sized-sealed : (r : Round) → Sized r → Sized (sealed r)
+unfolding sealed round
+sized-sealed r z = record { last = z .last; room = z .room; next = z .next; long = z .long; tails = z .tails; tail = sealed-right }
 
 -- SIZES KEPT by every call
 abbrev pub Held : ℕ → Round → Type 0
 Held k r = (r .room ≡ k) × Sized r
 
 pub act-sized : (k : ℕ) (a : Act) (r : Round) → round-refusal (acting a) r ≡ 0 → Held k r → Held k (leaves (acting a) r)
-unfolding leaves deed act taken sent round
+unfolding leaves deed act taken sent sealed round
 act-sized k (taking f) r e h = (h .0, sized-taken r f (takes r f e) (h .1))
 act-sized k sending r e h = (h .0, sized-sent r (h .1))
+act-sized k sealing r e h = (h .0, sized-sealed r (h .1))
 
 pub next-sized : (k : ℕ) (c : Call) (r : Round) → Held k r → Held k (next-round c r)
 unfolding opened round

@@ -10,7 +10,7 @@ use lib.ListN.{length}
 use borrow.Author.Tests.{le-leb}
 use Rattle.rules.specs.Rows.{Row, Round, blank, heavier, canonical, slots-left, All, In}
 use Rattle.rules.specs.Plan.{plan, due-by, first-end, segment-start, heaviest-outside, substitute, sends-before, best-from, best, planned}
-use Rattle.rules.specs.Steps.{is-ordinary}
+use Rattle.rules.specs.Steps.{goes, is-ordinary}
 use Rattle.theory.specs.Tests.{ltb?, eqb?}
 use Rattle.theory.specs.All.{all-in, all-of-in, Is-blank}
 use Rattle.theory.specs.Order.{Not-over, Not-before, canonical?, canonical-no, not-before-canonical, before-not, not-before-self, not-before-due, not-before-trans, not-before-both, heavier-no}
@@ -93,11 +93,11 @@ best-goes r f o = of-list (plan r) refl
     of-list (p ∷ ps) e =
         let all : All (λ x. In x (plan r)) (p ∷ ps) =
         subst (λ (zs : List Row). All (λ x. In x (plan r)) zs) e (all-of-in (λ x. In x (plan r)) (plan r) (λ x i. i)) in
-        goes p ps e all (subst (λ (zs : List Row). Top Any (Beaten r) p ps (best-from r zs ps p)) e (best-from-top r f ps p (all .0) (all .1)))
+        of-pass p ps e all (subst (λ (zs : List Row). Top Any (Beaten r) p ps (best-from r zs ps p)) e (best-from-top r f ps p (all .0) (all .1)))
       where
-        goes : (p : Row) (ps : List Row) → plan r ≡ (p ∷ ps) → All (λ x. In x (plan r)) (p ∷ ps) → Top Any (Beaten r) p ps (best-from r (p ∷ ps) ps p) →
+        of-pass : (p : Row) (ps : List Row) → plan r ≡ (p ∷ ps) → All (λ x. In x (plan r)) (p ∷ ps) → Top Any (Beaten r) p ps (best-from r (p ∷ ps) ps p) →
             Is-best r (best-from r (p ∷ ps) ps p)
-        goes p ps e all t =
+        of-pass p ps e all t =
             record {
               inside = elim (t .found) [
                 | inl d ↦ subst (λ (z : Row). In z (plan r)) (sym d) (all .0)
@@ -244,18 +244,6 @@ module _ (r : Round) (f : Fine r) (o : r .slot ≤ r .last) (rs : List Row) (c :
   )
 
   -- the kind of step
-  pub ordinary-is : (p : Row) → best r (plan r) ≡ p → is-ordinary r ≡ leb (p .due) (first-end r (plan r))
+  pub ordinary-is : (p : Row) → goes r ≡ p → is-ordinary r ≡ leb (p .due) (first-end r (plan r))
   unfolding is-ordinary
   ordinary-is p e = ap (λ (z : Row). leb (z .due) (first-end r (plan r))) e
-
-  pub silence-ordinary : r .rows ≡ [] → is-ordinary r ≡ true
-  unfolding blank
-  silence-ordinary e = ordinary-is (blank (r .slot)) (silent-best e) ∙ le-leb (r .slot) (first-end r (plan r)) (first-end-from r f o)
-
-  -- what goes in a leap is a row
-  pub leap-goes : is-ordinary r ≡ false → In (best r (plan r)) rs
-  leap-goes n = of-rows (r .rows) refl
-    where
-      of-rows : (xs : List Row) → r .rows ≡ xs → In (best r (plan r)) rs
-      of-rows [] e = absurd (true≢false (sym (silence-ordinary e) ∙ n))
-      of-rows (x ∷ xs) e = best-row x (subst (λ (zs : List Row). In x zs) (sym e) (inl refl))

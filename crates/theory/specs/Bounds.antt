@@ -6,8 +6,8 @@ use Prim.Native.Nat.{ℕ, suc, _≤_, _<_}
 use native.Mathlib.Omega.{arith}
 use borrow.Author.Tests.{ltb-true, leb-true, lt-ltb, le-leb}
 use Rattle.rules.specs.Limits.{most-last, most-weight, ticket-limit}
-use Rattle.rules.specs.Rows.{Tail, Row, Round, blank, frame-tail, blank-tail}
-use Rattle.rules.specs.Table.{every, row-tests, tail-tests, head-tests}
+use Rattle.rules.specs.Rows.{Tail, Row, Head-tail, Round, blank, frame-tail, blank-tail, unsealed-tail, sealed-tail}
+use Rattle.rules.specs.Table.{every, row-tests, tail-tests, head-tests, head-tail-tests}
 use Rattle.theory.specs.Tests.{and-true}
 
 -- TESTS that all hold, one by one
@@ -101,28 +101,46 @@ right-tests s l n b x r =
     )
     (hold-every (tail-tests (x .tail)) (holds-tail (x .tail) (r .tail)))
 
+-- A HEAD'S TAIL within bounds: a new round's and a sealed one's are
+pub record Head-tail-right (m : Head-tail) : Type 0 where
+  pub sealed-flag : m .sealed ≤ 1
+
+pub unsealed-right : Head-tail-right unsealed-tail
+unsealed-right = record { sealed-flag = omega arith }
+
+pub sealed-right : Head-tail-right sealed-tail
+sealed-right = record { sealed-flag = omega arith }
+
+pub head-tail-holds : (m : Head-tail) → Hold (head-tail-tests m) → Head-tail-right m
+head-tail-holds m h = record { sealed-flag = leb-true (m .sealed) 1 (h .0) }
+
+pub holds-head-tail : (m : Head-tail) → Head-tail-right m → Hold (head-tail-tests m)
+holds-head-tail m t = (le-leb (m .sealed) 1 (t .sealed-flag), tt)
+
 -- A HEAD within bounds, with the rows in use and the room for them
-pub record Head-right (slot last next used room : ℕ) : Type 0 where
+pub record Head-right (slot last next used room : ℕ) (m : Head-tail) : Type 0 where
   pub last-most : last ≤ most-last
   pub slot-most : slot ≤ suc last
   pub next-least : 1 ≤ next
   pub next-most : next ≤ ticket-limit
   pub fit : used ≤ room
+  pub tail : Head-tail-right m
 
-pub tests-head : (s l n u k : ℕ) → every (head-tests s l n u k) ≡ true → Head-right s l n u k
-tests-head s l n u k e =
-    let (a, (b, (c, (d, (f, _))))) = every-hold (head-tests s l n u k) e in
+pub tests-head : (s l n u k : ℕ) (m : Head-tail) → every (head-tests s l n u k m) ≡ true → Head-right s l n u k m
+tests-head s l n u k m e =
+    let (a, (b, (c, (d, (f, g))))) = every-hold (head-tests s l n u k m) e in
     record {
       last-most = leb-true l most-last a;
       slot-most = leb-true s (suc l) b;
       next-least = leb-true 1 n c;
       next-most = leb-true n ticket-limit d;
       fit = leb-true u k f;
+      tail = head-tail-holds m g;
     }
 
-pub head-tested : (s l n u k : ℕ) → Head-right s l n u k → every (head-tests s l n u k) ≡ true
+pub head-tested : (s l n u k : ℕ) (m : Head-tail) → Head-right s l n u k m → every (head-tests s l n u k m) ≡ true
 unfolding every
-head-tested s l n u k h =
+head-tested s l n u k m h =
     rw (
       le-leb l most-last (h .last-most),
       le-leb s (suc l) (h .slot-most),
@@ -130,3 +148,4 @@ head-tested s l n u k h =
       le-leb n ticket-limit (h .next-most),
       le-leb u k (h .fit),
     )
+    (hold-every (head-tail-tests m) (holds-head-tail m (h .tail)))

@@ -10,9 +10,9 @@ use borrow.Author.Tests.{ltb-false, leb-true, leb-false, eqb-true, eqb-false}
 use lib.ListN.{length}
 use Rattle.rules.specs.Limits.{most-last, most-weight, ticket-limit}
 use Rattle.rules.specs.Rows.{Frame, Setup, Row, Round, slots-left, round, row, In}
-use Rattle.rules.specs.Plan.{plan, first-end, best, mark}
-use Rattle.rules.specs.Steps.{opened, taken-row, taken, sent, without, still-due, leapt}
-use Rattle.rules.specs.Calls.{Act, taking, sending, Question, marking, totalling, Call, opening, acting, asking, Test, first-of, over, not-ahead, open-tests, take-tests, send-tests, mark-tests, act, question, deed, round-refusal, leaves, next-round, after}
+use Rattle.rules.specs.Plan.{plan, first-end, mark}
+use Rattle.rules.specs.Steps.{opened, taken-row, taken, sealed, goes, sent, without, still-due, leapt}
+use Rattle.rules.specs.Calls.{Act, taking, sending, sealing, Question, marking, totalling, Call, opening, acting, asking, Test, first-of, over, not-ahead, open-tests, take-tests, send-tests, seal-tests, mark-tests, act, question, deed, round-refusal, leaves, next-round, after}
 use Rattle.rules.specs.Demands.{No-opening}
 use Rattle.theory.specs.Tests.{and-true, both-ways}
 use Rattle.theory.specs.Sum.{sum-append}
@@ -21,7 +21,8 @@ use Rattle.theory.specs.Bounds.{Row-fine}
 use Rattle.theory.specs.Full.{Fine, Rising, plan-length}
 use Rattle.theory.specs.Marks.{box, mark-stays}
 use Rattle.theory.specs.Change.{all-still, all-without, rising-still, rising-without, still-box}
-use Rattle.theory.specs.Send.{best-in, ordinary-fills}
+use Rattle.theory.specs.Send.{ordinary-fills}
+use Rattle.theory.specs.Turn.{goes-in}
 use Rattle.theory.specs.Bounds.{Row-ok}
 use Rattle.theory.specs.Leap.{Left, leapt-left, fills-alone, rows-kept}
 
@@ -64,6 +65,7 @@ ahead r s e =
 -- AN ACCEPTED TAKING
 pub record Takes (r : Round) (f : Frame) : Type 0 where
   pub time : r .slot ≤ r .last
+  pub unsealed : r .tail .sealed ≢ 1
   pub some : 1 ≤ f .weight
   pub limit : f .weight ≤ most-weight
   pub from : r .slot ≤ f .due
@@ -74,24 +76,29 @@ pub record Takes (r : Round) (f : Frame) : Type 0 where
 pub takes : (r : Round) (f : Frame) → round-refusal (acting (taking f)) r ≡ 0 → Takes r f
 unfolding round-refusal deed act
 takes r f e =
-    let h = none-holds (take-tests (r .slot) (r .last) (r .next) (length (r .rows)) (r .room) f) refl e in
-    let w = or-false (eqb (f .weight) 0) (ltb most-weight (f .weight)) (h .1 .0) in
-    let d = ahead r (f .due) (h .1 .1 .0) in
+    let h = none-holds (take-tests (r .slot) (r .last) (r .next) (length (r .rows)) (r .room) (r .tail) f) refl e in
+    let w = or-false (eqb (f .weight) 0) (ltb most-weight (f .weight)) (h .1 .1 .0) in
+    let d = ahead r (f .due) (h .1 .1 .1 .0) in
     let n = eqb-false (f .weight) 0 (w .0) in
     record {
       time = not-over r (h .0);
+      unsealed = eqb-false (r .tail .sealed) 1 (h .1 .0);
       some = omega arith;
       limit = ltb-false most-weight (f .weight) (w .1);
       from = d .0;
       by = d .1;
-      tickets = eqb-false (r .next) ticket-limit (h .1 .1 .1 .0);
-      free = leb-false (r .room) (length (r .rows)) (h .1 .1 .1 .1 .0);
+      tickets = eqb-false (r .next) ticket-limit (h .1 .1 .1 .1 .0);
+      free = leb-false (r .room) (length (r .rows)) (h .1 .1 .1 .1 .1 .0);
     }
 
--- an accepted sending; an opening; a mark answered
+-- an accepted sending; a sealing; an opening; a mark answered
 pub sends : (r : Round) → round-refusal (acting sending) r ≡ 0 → r .slot ≤ r .last
 unfolding round-refusal deed act
 sends r e = not-over r (none-holds (send-tests (r .slot) (r .last)) refl e .0)
+
+pub seals : (r : Round) → round-refusal (acting sealing) r ≡ 0 → r .slot ≤ r .last
+unfolding round-refusal deed act
+seals r e = not-over r (none-holds (seal-tests (r .slot) (r .last)) refl e .0)
 
 pub opens : (u : Setup) (r : Round) → round-refusal (opening u) r ≡ 0 → u .last ≤ most-last
 unfolding round-refusal deed
@@ -151,13 +158,12 @@ ordinary-left r f o p i h =
 
 abbrev pub sent-rows : Round → List Row
 sent-rows r =
-    cond (leb (best r (plan r) .due) (first-end r (plan r))) (without (best r (plan r) .ticket) (r .rows)) (leapt r (plan r) (best r (plan r)))
+    cond (leb (goes r .due) (first-end r (plan r))) (without (goes r .ticket) (r .rows)) (leapt r (plan r) (goes r))
 
 pub sent-left : (r : Round) → Fine r → r .slot ≤ r .last → Left r (sent-rows r)
-unfolding slots-left
 sent-left r f o =
-    let p = best r (plan r) in
-    let i : In p (plan r) = best-in r (plan r) (omega (arith, plan-length r f .0)) in
+    let p = goes r in
+    let i = goes-in r f o in
     both-ways (Left r) (leb (p .due) (first-end r (plan r))) (without (p .ticket) (r .rows)) (leapt r (plan r) p)
     (λ e. ordinary-left r f o p i (leb-true (p .due) (first-end r (plan r)) e))
     (λ e. leapt-left r f p i (leb-false (p .due) (first-end r (plan r)) e))
@@ -174,10 +180,16 @@ sent-fine r f o =
       rising = rising-still 1 (r .next) (suc (r .slot)) (sent-rows r) (l .rising);
     }
 
+-- sealing changes no row and no slot
+pub sealed-fine : (r : Round) → Fine r → Fine (sealed r)
+unfolding sealed round
+sealed-fine r f = record { time = f .time; fine = f .fine; rising = f .rising }
+
 pub act-fine : (a : Act) (r : Round) → round-refusal (acting a) r ≡ 0 → Fine r → Fine (leaves (acting a) r)
 unfolding leaves deed act
 act-fine (taking f) r e g = taken-fine r g f (takes r f e)
 act-fine sending r e g = sent-fine r g (sends r e)
+act-fine sealing r e g = sealed-fine r g
 
 pub next-fine : (c : Call) (r : Round) → Fine r → Fine (next-round c r)
 next-fine = next-keeps Fine (λ u r h g. opened-fine u (r .room)) act-fine
@@ -204,6 +216,14 @@ sent-stays s r f o = (
       (λ u e m v a b. omega (arith, sent-left r f o .fills u s e v m a b, still-box u (suc (r .slot)) v (suc e) a b (sent-rows r))),
 )
 
+pub sealed-stays : (s : ℕ) (r : Round) → Fine r → Stays s r (sealed r)
+unfolding sealed round
+sealed-stays s r f = (
+  refl,
+  omega arith,
+  λ h i. mark-stays r (sealed r) f (sealed-fine r f) (omega arith) refl s h i (λ u e m v a b. fills-alone r f u s e v m a b),
+)
+
 pub same-stays : (s : ℕ) (r : Round) → Stays s r r
 same-stays s r = (refl, omega arith, λ h i. omega arith)
 
@@ -211,6 +231,7 @@ pub act-stays : (s : ℕ) (a : Act) (r : Round) → Fine r → round-refusal (ac
 unfolding leaves deed act
 act-stays s (taking f) r g e = taken-stays s r g f (takes r f e)
 act-stays s sending r g e = sent-stays s r g (sends r e)
+act-stays s sealing r g e = sealed-stays s r g
 
 -- where an opening among the calls is refused
 pub next-stays : (s : ℕ) (c : Call) (cs : List Call) (r : Round) → Fine r → No-opening (c ∷ cs) → Stays s r (next-round c r) × No-opening cs

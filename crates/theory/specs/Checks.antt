@@ -10,8 +10,8 @@ use lib.ListN.{length, drop}
 use Rattle.rules.specs.Limits.{head-size, most-last, most-weight, ticket-limit}
 use Rattle.rules.specs.Rows.{Setup, round}
 use Rattle.rules.specs.Table.{rows-in, rows-of, round-in, length-good, table-refusal}
-use Rattle.rules.specs.Calls.{Act, taking, sending, Question, marking, totalling, Call, opening, acting, asking, Test, _⇒_, first-of, over, not-ahead, act, question, deed, first, round-refusal, table-first, refusal}
-use Rattle.rules.specs.Conditions.{Bytes, Past, Weight-bad, Slot-bad, when, Condition, _gives_, Given, if-sound, act-conditions, question-conditions, conditions, refusal-given, slot-in, last-in, next-in, used-in}
+use Rattle.rules.specs.Calls.{Act, taking, sending, sealing, Question, marking, totalling, Call, opening, acting, asking, Test, _⇒_, first-of, over, is-sealed, not-ahead, act, question, deed, first, round-refusal, table-first, refusal}
+use Rattle.rules.specs.Conditions.{Bytes, Past, Weight-bad, Slot-bad, when, Condition, _gives_, Given, if-sound, act-conditions, question-conditions, conditions, refusal-given, slot-in, last-in, next-in, used-in, sealed-in}
 use Rattle.theory.specs.Tests.{either, leb?, ltb?, eqb?}
 use Rattle.theory.specs.Clauses.{rows-count, accepted-clauses, refusal-three}
 use Rattle.theory.specs.Soundness.{length-not-bad, length-bad, sound-accepted, accepted-sound}
@@ -80,7 +80,7 @@ table-given t h cs n c =
       )
     ]
 
--- 5 TO 9, of the round in a table
+-- 5 TO 9 AND 13, of the round in a table
 pub past? : (t : List ℕ) → Decides (ltb (round-in t .last) (round-in t .slot)) (Past t)
 unfolding round-in round
 past? t = less? (last-in t) (slot-in t)
@@ -106,12 +106,19 @@ full? t e =
       | inr h ↦ inr (h .0, λ p. omega (arith, h .1))
     ]
 
+pub sealed? : (t : List ℕ) → Decides (eqb (round-in t .tail .sealed) 1) (sealed-in t ≡ 1)
+unfolding round-in round
+sealed? t = eqb? (sealed-in t) 1
+
 -- THE GROUNDS, of the round in an accepted table
 abbrev pub Ground-of : List ℕ → Type 1
 Ground-of t = Ground (table-refusal t ≡ 0)
 
 abbrev pub past : (t : List ℕ) → Ground-of t
 past t = ground 5 (over (round-in t .slot) (round-in t .last) .holds) (Past t) (λ e. past? t)
+
+abbrev pub sealed-off : (t : List ℕ) → Ground-of t
+sealed-off t = ground 13 (is-sealed (round-in t .tail) .holds) (sealed-in t ≡ 1) (λ e. sealed? t)
 
 abbrev pub bad-slot : (s : ℕ) (t : List ℕ) → Ground-of t
 bad-slot s t = ground 7 (not-ahead (round-in t .slot) (round-in t .last) s .holds) (Slot-bad s t) (λ e. slot? s t)
@@ -139,8 +146,9 @@ opening-given u t =
 
 pub act-given : (a : Act) (t : List ℕ) → table-refusal t ≡ 0 → Given (act-conditions a t) (first-of (act a (round-in t) .tests))
 unfolding act-conditions act
-act-given (taking f) t e = given (past t ∷ bad-weight (f .weight) t ∷ bad-slot (f .due) t ∷ no-ticket t ∷ no-row-free t ∷ []) e
+act-given (taking f) t e = given (past t ∷ sealed-off t ∷ bad-weight (f .weight) t ∷ bad-slot (f .due) t ∷ no-ticket t ∷ no-row-free t ∷ []) e
 act-given sending t e = given (past t ∷ []) e
+act-given sealing t e = given (past t ∷ []) e
 
 pub question-given : (q : Question) (t : List ℕ) → table-refusal t ≡ 0 →
     Given (question-conditions q t) (first-of (question q (round-in t) .tests))

@@ -15,7 +15,7 @@ use Rattle.rules.specs.Rows.{Row, Round, row, round, All}
 use Rattle.rules.specs.Table.{field, put, row-values, front-row, head-values, head-bytes, head-tail-in, row-bytes, rows-bytes, table, rows-in, rows-of, round-in, length-good, round-good, same, table-refusal, low}
 use Rattle.rules.specs.Conditions.{Bytes, slot-in, last-in, next-in, used-in}
 use Rattle.theory.specs.Tests.{either, and-true}
-use Rattle.theory.specs.Bounds.{Row-fine, Row-right, Tail-fine}
+use Rattle.theory.specs.Bounds.{Row-fine, Row-right, Tail-fine, Head-tail-right}
 use Rattle.theory.specs.Full.{Rising}
 use Rattle.theory.specs.Calls.{no-refusal}
 use Rattle.theory.specs.Back.{good, same-same, rising-le, length-row, length-rows, rest-is}
@@ -36,6 +36,7 @@ pub record Clauses (t : List ℕ) : Type 0 where
   pub slot-most : slot-in t ≤ suc (last-in t)
   pub next-least : 1 ≤ next-in t
   pub next-most : next-in t ≤ ticket-limit
+  pub tail : Head-tail-right (head-tail-in t)
   pub head-zeros : Zeros head-zeros-at head-size t
   pub rows : Rows-right (used-in t) (slot-in t) (last-in t) (next-in t) 0 (drop head-size t)
   pub rest-zeros : Zeros (head-size + row-size * used-in t) (length t) t
@@ -140,6 +141,7 @@ clauses-good t h c =
       next = c .next-most;
       long = omega (arith, rows-count (used-in t) (drop head-size t), c .fit);
       tails = q .1;
+      tail = c .tail;
     })
 
 pub clauses-accepted : (t : List ℕ) → Bytes t → length-good (length t) ≡ true → Clauses t → table-refusal t ≡ 0
@@ -206,6 +208,7 @@ module _ (t : List ℕ) (s : Stands-for t) where
         slot-most = f .time;
         next-least = rising-le 1 (r .next) (r .rows) (f .rising);
         next-most = z .next;
+        tail = z .tail;
         head-zeros = stands-head;
         rows = rows-clauses r (used-in t) 0 (drop head-size t) _ (f .fine) (z .tails) (f .rising) stands-rest;
         rest-zeros = stands-behind l;

@@ -11,8 +11,8 @@ use lib.ListN.{length, getD, take, drop, length-append, length-drop, take-append
 use lib.Seq.{take-suc, drop-cons, take-at, drop-at, drop-drop, take-add, take-length, take-take, paste, length-paste, take-paste, drop-paste, length-take-le}
 use Rattle.rules.specs.Limits.{head-size, row-size}
 use Rattle.rules.specs.Rows.{Row, Round, blank, row, All, In, going-on}
-use Rattle.rules.specs.Plan.{plan, tight-after, segment-start, mark, first-end, substitute, best}
-use Rattle.rules.specs.Steps.{set-to, kept-at, changed, without, still-due, sent}
+use Rattle.rules.specs.Plan.{plan, tight-after, segment-start, mark, first-end, substitute}
+use Rattle.rules.specs.Steps.{set-to, kept-at, changed, without, still-due, goes, sent}
 use Rattle.rules.specs.Table.{row-bytes, rows-bytes}
 use Rattle.rules.specs.Conditions.{row-at}
 use Rattle.theory.specs.Tests.{either, eqb?}
@@ -96,16 +96,16 @@ abbrev pub after-slot : Round → List Row → Round
 after-slot r xs = going-on (suc (r .slot)) (r .next) xs r
 
 module _ (r : Round) (f : Fine r) (rs : List Row) (c : Rows-of-plan r rs) where
-  pub sent-none : r .rows ≡ [] → (p : Row) → best r (plan r) ≡ p → p .due ≤ first-end r (plan r) → sent r ≡ after-slot r []
+  pub sent-none : r .rows ≡ [] → (p : Row) → goes r ≡ p → p .due ≤ first-end r (plan r) → sent r ≡ after-slot r []
   unfolding sent without still-due
   sent-none e p b h = rw (b, le-leb (p .due) (first-end r (plan r)) h, e)
 
-  pub sent-ordinary : (p : Row) → best r (plan r) ≡ p → p .due ≤ first-end r (plan r) → sent r ≡ after-slot r (closed (suc (r .slot)) (p .ticket) (r .rows))
+  pub sent-ordinary : (p : Row) → goes r ≡ p → p .due ≤ first-end r (plan r) → sent r ≡ after-slot r (closed (suc (r .slot)) (p .ticket) (r .rows))
   unfolding sent
   sent-ordinary p e h = rw (e, le-leb (p .due) (first-end r (plan r)) h, closed-without (suc (r .slot)) (p .ticket) 1 (r .next) (r .rows) (f .rising))
 
   -- a leap onto a row
-  pub sent-row : (p s : Row) (hs : List Row) → best r (plan r) ≡ p → first-end r (plan r) < p .due → substitute r (plan r) p ≡ s → In s (r .rows) →
+  pub sent-row : (p s : Row) (hs : List Row) → goes r ≡ p → first-end r (plan r) < p .due → substitute r (plan r) p ≡ s → In s (r .rows) →
       Linked r rs (tight-after r (plan r) (p .due)) (tight-after r (plan r) (s .due)) hs →
       sent r ≡ after-slot r (closed (suc (r .slot)) (p .ticket)
       (changed (s .ticket) (set-to (s .due) (mark r (s .due)) s) (moves r (tight-after r (plan r) (p .due)) hs (r .rows))))
@@ -122,7 +122,7 @@ module _ (r : Round) (f : Fine r) (rs : List Row) (c : Rows-of-plan r rs) where
       )
 
   -- onto a blank that is kept in p's row
-  pub sent-kept : (p : Row) → best r (plan r) ≡ p → In p (plan r) → first-end r (plan r) < p .due →
+  pub sent-kept : (p : Row) → goes r ≡ p → In p (plan r) → first-end r (plan r) < p .due →
       substitute r (plan r) p ≡ blank (segment-start r (plan r) (p .due)) → 1 ≤ mark r (p .due) →
       sent r ≡ after-slot r (closed (suc (r .slot)) 0
       (changed (p .ticket) (kept-at (segment-start r (plan r) (p .due)) (mark r (p .due)) p) (r .rows)))
@@ -139,7 +139,7 @@ module _ (r : Round) (f : Fine r) (rs : List Row) (c : Rows-of-plan r rs) where
       )
 
   -- onto one that isn't
-  pub sent-gone : (p : Row) → best r (plan r) ≡ p → In p (plan r) → first-end r (plan r) < p .due →
+  pub sent-gone : (p : Row) → goes r ≡ p → In p (plan r) → first-end r (plan r) < p .due →
       substitute r (plan r) p ≡ blank (segment-start r (plan r) (p .due)) → mark r (p .due) ≡ 0 →
       sent r ≡ after-slot r (closed (suc (r .slot)) (p .ticket) (r .rows))
   unfolding sent

@@ -5,7 +5,7 @@ use Prim.Native.Nat.{ℕ, zero, suc, _+_, _*_, _-_}
 use lib.Dec.{eqb}
 use lib.ListN.{take, drop}
 use Rattle.rules.specs.Limits.{head-size, row-size, head-zeros-at, ticket-at, row-zeros-at, wide-bytes}
-use Rattle.rules.specs.Table.{field, every, front-row, row-tests, head-tests, rows-of}
+use Rattle.rules.specs.Table.{field, every, front-row, head-tail-in, row-tests, head-tests, rows-of}
 use Rattle.rules.specs.Conditions.{slot-in, last-in, next-in, used-in}
 
 unfoldable pub zeros : List ℕ → Bool
@@ -23,7 +23,8 @@ rows-judged (suc k) s l n b bs =
 
 unfoldable pub head-judged : List ℕ → Bool
 head-judged t =
-    every (head-tests (slot-in t) (last-in t) (next-in t) (used-in t) (rows-of t)) && zeros (take (head-size - head-zeros-at) (drop head-zeros-at t))
+    every (head-tests (slot-in t) (last-in t) (next-in t) (used-in t) (rows-of t) (head-tail-in t))
+    && zeros (take (head-size - head-zeros-at) (drop head-zeros-at t))
 
 unfoldable pub judged : List ℕ → Bool
 judged t =

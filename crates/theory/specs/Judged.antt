@@ -9,7 +9,7 @@ use lib.ListN.{length, take, drop, length-take, length-drop}
 use lib.Seq.{getD-drop, getD-take}
 use Rattle.rules.specs.Limits.{head-size, row-size, head-zeros-at, ticket-at, due-at, weight-at, kind-at, row-zeros-at, slot-bytes, wide-bytes, kind-bytes}
 use Rattle.rules.specs.Rows.{row}
-use Rattle.rules.specs.Table.{field, every, front-row, tail-in, row-tests, head-tests, rows-of, length-good, table-refusal}
+use Rattle.rules.specs.Table.{field, every, front-row, tail-in, head-tail-in, row-tests, head-tests, rows-of, length-good, table-refusal}
 use Rattle.rules.specs.Conditions.{Bytes, row-at, slot-in, last-in, next-in, used-in}
 use Rattle.theory.specs.Tests.{either, and-true}
 use Rattle.theory.specs.Judge.{zeros, row-judged, rows-judged, head-judged, judged}
@@ -72,17 +72,18 @@ unfolding judged head-judged
 judged-clauses t e =
     let m = row-at (used-in t) in
     let rows = rows-judged (used-in t) (slot-in t) (last-in t) (next-in t) 0 (drop head-size t) in
-    let tests = head-tests (slot-in t) (last-in t) (next-in t) (used-in t) (rows-of t) in
+    let tests = head-tests (slot-in t) (last-in t) (next-in t) (used-in t) (rows-of t) (head-tail-in t) in
     let a = and-true (head-judged t) _ e in
     let r = and-true rows (zeros (drop m t)) (a .1) in
     let h = and-true (every tests) (zeros (take (head-size - head-zeros-at) (drop head-zeros-at t))) (a .0) in
-    let b = tests-head (slot-in t) (last-in t) (next-in t) (used-in t) (rows-of t) (h .0) in
+    let b = tests-head (slot-in t) (last-in t) (next-in t) (used-in t) (rows-of t) (head-tail-in t) (h .0) in
     record {
       fit = b .fit;
       last-most = b .last-most;
       slot-most = b .slot-most;
       next-least = b .next-least;
       next-most = b .next-most;
+      tail = b .tail;
       head-zeros = taken-zeros head-zeros-at (head-size - head-zeros-at) t .0 (h .1);
       rows = rows-true (used-in t) (slot-in t) (last-in t) (next-in t) 0 (drop head-size t) (r .0);
       rest-zeros = test-zeros m (length t) t (drop m t) (λ i h. getD-drop m t i 0) (r .1);
@@ -91,12 +92,13 @@ judged-clauses t e =
 pub head-yes : (t : List ℕ) → Clauses t → head-judged t ≡ true
 unfolding head-judged
 head-yes t c =
-    rw (head-tested (slot-in t) (last-in t) (next-in t) (used-in t) (rows-of t) (record {
+    rw (head-tested (slot-in t) (last-in t) (next-in t) (used-in t) (rows-of t) (head-tail-in t) (record {
       last-most = c .last-most;
       slot-most = c .slot-most;
       next-least = c .next-least;
       next-most = c .next-most;
       fit = c .fit;
+      tail = c .tail;
     }))
     (taken-zeros head-zeros-at (head-size - head-zeros-at) t .1 (c .head-zeros))
 

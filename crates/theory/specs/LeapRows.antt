@@ -8,8 +8,8 @@ use native.Mathlib.Omega.{arith}
 use borrow.Author.Tests.{lt-leb}
 use Rattle.rules.specs.Rows.{Row, Round, blank, row, round, All, In, going-on, Tail, blank-tail}
 use Rattle.rules.specs.Plan.{plan, in-plan, planned, mark, tight-after, segment-start, first-end, substitute}
-use Rattle.rules.specs.Steps.{changed, sent}
-use Rattle.rules.specs.StepsOf.{goes, stands-in, end-of, Other, Slot-over, at-mark, Leaves, Becomes, Leap}
+use Rattle.rules.specs.Steps.{changed, sent, goes}
+use Rattle.rules.specs.StepsOf.{stands-in, end-of, Other, Slot-over, at-mark, Leaves, Becomes, Leap}
 use Rattle.theory.specs.Tests.{ltb?}
 use Rattle.theory.specs.All.{all-map, all-in, all-of-in, blank-ticket, due-of-blank}
 use Rattle.theory.specs.Bounds.{Row-fine}

@@ -33,6 +33,8 @@ pub mod Picks
 pub mod PlanM
 -- steps
 pub mod Send
+pub mod Turn
+pub mod Gone
 pub mod Leap
 pub mod Chain
 pub mod Leaping
@@ -80,6 +82,7 @@ pub mod Keys
 pub mod Flags
 pub mod Index
 pub mod Near
+pub mod First
 pub mod Count
 pub mod Segments
 pub mod Lead

@@ -14,7 +14,7 @@ use Rattle.rules.specs.Limits.{short-digits}
 use Rattle.rules.specs.Calls.{refused, amount, number-of}
 use Rattle.rules.specs.Lines.{digits, all-digits, count-digits, numerals, fit-digits, number-at, numbers-at}
 use Rattle.rules.specs.Lines.{Form, forms, found, form-numbered, form-of, front-size, payload-fits, has-length}
-use Rattle.rules.specs.Lines.{Command, open-line, take-line, send-line, line-number, values-of, line-end, front, text, stands}
+use Rattle.rules.specs.Lines.{Command, open-line, take-line, send-line, seal-line, line-number, values-of, line-end, front, text, stands}
 use Rattle.rules.specs.Lines.{Reading, command, broken, body, command-of, read-digits, read, Place, place-of, payload-place, payload, payload-at}
 use Rattle.rules.specs.Lines.{write-refusal, write-answer, write-left}
 use Rattle.rules.specs.Demands.{Lines-exact, Written-read, Read-written, Write-refusals}
@@ -35,16 +35,18 @@ unfolding line-number
 number-fits (open-line l) = omega arith
 number-fits (take-line d w) = omega arith
 number-fits send-line = omega arith
+number-fits seal-line = omega arith
 
 pub command-back : (c : Command) → command-of (line-number c) (values-of c) ≡ command c
 unfolding line-number values-of command-of
 command-back (open-line l) = refl
 command-back (take-line d w) = refl
 command-back send-line = refl
+command-back seal-line = refl
 
-pub no-line : (k : ℕ) (vs : List ℕ) → (k ≡ 0 → ⊥) → (k ≡ 1 → ⊥) → (k ≡ 2 → ⊥) → command-of k vs ≡ broken
+pub no-line : (k : ℕ) (vs : List ℕ) → (k ≡ 0 → ⊥) → (k ≡ 1 → ⊥) → (k ≡ 2 → ⊥) → (k ≡ 3 → ⊥) → command-of k vs ≡ broken
 unfolding command-of
-no-line k vs f g h = rw (ne-eqb k 0 f, ne-eqb k 1 g, ne-eqb k 2 h)
+no-line k vs f g h i = rw (ne-eqb k 0 f, ne-eqb k 1 g, ne-eqb k 2 h, ne-eqb k 3 i)
 
 pub command-made : (k : ℕ) (vs : List ℕ) (c : Command) → length vs ≡ length (form-numbered k .widths) → command-of k vs ≡ command c →
     (line-number c ≡ k) × (values-of c ≡ vs)
@@ -52,26 +54,32 @@ unfolding forms found line-number values-of command-of got-from
 command-made zero vs c l e = told c (open-line (getD vs 0 0)) refl (got-all 0 1 vs (sym l)) e
 command-made (suc zero) vs c l e = told c (take-line (getD vs 0 0) (getD vs 1 0)) refl (got-all 0 2 vs (sym l)) e
 command-made (suc (suc zero)) vs c l e = told c send-line refl (got-all 0 0 vs (sym l)) e
-command-made (suc (suc (suc k))) vs c l e =
-    absurd (not-broken c (sym (no-line (suc (suc (suc k))) vs (λ q. omega arith) (λ q. omega arith) (λ q. omega arith)) ∙ e))
+command-made (suc (suc (suc zero))) vs c l e = told c seal-line refl (got-all 0 0 vs (sym l)) e
+command-made (suc (suc (suc (suc k)))) vs c l e =
+    absurd
+    (not-broken c
+    (sym (no-line (suc (suc (suc (suc k)))) vs (λ q. omega arith) (λ q. omega arith) (λ q. omega arith) (λ q. omega arith)) ∙ e))
 
 pub as-many : (c : Command) → length (values-of c) ≡ length (form-of c .widths)
 unfolding forms found line-number values-of
 as-many (open-line l) = refl
 as-many (take-line d w) = refl
 as-many send-line = refl
+as-many seal-line = refl
 
 pub front-small : (c : Command) → front-size (form-of c) ≤ payload-at
 unfolding count-digits forms found front-size line-number
 front-small (open-line l) = omega arith
 front-small (take-line d w) = omega arith
 front-small send-line = omega arith
+front-small seal-line = omega arith
 
 pub payload-start : (c : Command) → form-of c .payload ≡ true → front-size (form-of c) ≡ payload-at
 unfolding count-digits forms found front-size line-number
 payload-start (open-line l) e = absurd (false≢true e)
 payload-start (take-line d w) e = refl
 payload-start send-line e = absurd (false≢true e)
+payload-start seal-line e = absurd (false≢true e)
 
 -- A FRONT: how many digits it has, and that they are digits
 pub length-front : (c : Command) → fit-digits (form-of c .widths) (values-of c) ≡ true → length (front c) ≡ front-size (form-of c)

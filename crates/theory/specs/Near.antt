@@ -8,8 +8,8 @@ use native.Mathlib.Omega.{arith}
 use lib.ListN.{length, replicate, length-replicate}
 use borrow.Author.Tests.{lt-leb}
 use Rattle.rules.specs.Rows.{Row, Round, blank, heavier, canonical, chosen, All, In}
-use Rattle.rules.specs.Plan.{plan, in-plan, feasible, tight, tight-after, segment-start, least-weight, mark, first-end, substitute, best, flags, planned}
-use Rattle.rules.specs.Steps.{is-ordinary, sent}
+use Rattle.rules.specs.Plan.{plan, in-plan, feasible, tight, tight-after, segment-start, least-weight, mark, first-end, substitute, flags, planned}
+use Rattle.rules.specs.Steps.{is-ordinary, goes, sent}
 use Rattle.theory.specs.Tests.{leb?, ltb?, eqb?}
 use Rattle.theory.specs.Sum.{sum, sum-chosen}
 use Rattle.theory.specs.All.{all-map, all-in, all-of-in, blank-weight, blank-is}
@@ -34,6 +34,16 @@ pub record Near (r : Round) (z : ℕ) : Type 0 where
   pub by : z ≤ suc (r .last)
   pub full : (v : ℕ) → r .slot ≤ v → v ≤ z → num 0 v (r .rows) + (z - v) ≤ num 0 z (r .rows)
   pub free : (u : ℕ) → z ≤ u → u ≤ r .last → num 0 (suc u) (r .rows) ≤ num 0 z (r .rows) + (u - z)
+
+-- without rows it is the current slot
+pub near-empty : (r : Round) → r .slot ≤ r .last → r .rows ≡ [] → Near r (r .slot)
+near-empty r o e =
+    record {
+      from = omega arith;
+      by = omega (arith, o);
+      full = λ v h k. let d : v ≡ r .slot = omega (arith, h, k) in omega (arith, ap (λ (n : ℕ). num 0 n (r .rows)) d, d);
+      free = λ u h k. omega (arith, ap (num 0 (suc u)) e);
+    }
 
 -- NOTHING LEFT OUT: all rows fit, so they are the plan's
 pub all-true-chosen : (xs : List Row) → (chosen (replicate (length xs) true) xs ≡ xs) × (unchosen (replicate (length xs) true) xs ≡ [])
@@ -320,7 +330,7 @@ module _ (r : Round) (f : Fine r) (rs : List Row) (c : Rows-of-plan r rs) (z : �
       n
 
   -- and it leaves nothing behind
-  pub far-sent : r .slot ≤ r .last → (p : Row) → best r (plan r) ≡ p → In p rs → z ≤ p .due →
+  pub far-sent : r .slot ≤ r .last → (p : Row) → goes r ≡ p → In p rs → z ≤ p .due →
       (is-ordinary r ≡ false) × (sent r ≡ after-slot r (closed (suc (r .slot)) (p .ticket) (r .rows)))
   far-sent o p e i h = (
     ordinary-is r f o rs c p e ∙ lt-leb (p .due) (first-end r (plan r)) (far-later o p i h),

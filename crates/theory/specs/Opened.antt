@@ -8,7 +8,7 @@ use Rattle.rules.specs.Calls.{act, deed, says, out-of}
 use Rattle.rules.specs.Demands.{Opened-silent}
 use Rattle.theory.specs.Calls.{opened-fine}
 use Rattle.theory.specs.Members.{planned-rows}
-use Rattle.theory.specs.Best.{silent-best, silence-ordinary}
+use Rattle.theory.specs.First.{silent-goes, silence-ordinary}
 
 pub opened-silent : Opened-silent
 unfolding Opened-silent says deed act opened round out-of blank
@@ -16,4 +16,4 @@ opened-silent u k =
     let r = opened u k in
     let f = opened-fine u k in
     let c = planned-rows r f in
-    rw (silence-ordinary r f (omega arith) (planned r) c refl, silent-best r f (omega arith) (planned r) c refl)
+    rw (silence-ordinary r f (omega arith) (planned r) c refl, silent-goes r f (omega arith) (planned r) c refl)

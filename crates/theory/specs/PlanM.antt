@@ -17,6 +17,8 @@ use Rattle.theory.specs.Sane.{good-fine}
 use Rattle.theory.specs.Listed.{listed-strictly}
 use Rattle.theory.specs.Select.{plan-selection}
 use Rattle.theory.specs.Picks.{mark-attained, mark-least, first-substitute, later-substitute, best-picked, next-shifted}
+use Rattle.theory.specs.Turn.{unsealed-goes}
+use Rattle.theory.specs.First.{goes-first}
 
 pub planm : (r : Round) → Fine r → PlanM r
 planm r f =
@@ -34,6 +36,8 @@ planm r f =
       first-substitute = first-substitute r f;
       later-substitute = later-substitute r f;
       pick = best-picked r f;
+      unsealed = λ e. unsealed-goes r (λ q. omega (arith, e, q));
+      sealed = λ o e. goes-first r f o e;
       next-shifted = next-shifted r f;
       in-order = listed-strictly r f;
     }

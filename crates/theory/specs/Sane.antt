@@ -54,12 +54,12 @@ rows-good-true r b (x ∷ xs) h e =
 pub good-true : (r : Round) → round-good r ≡ true → Fine r × (r .room ≤ most-rows → Sized r) × All Tail-fine (r .rows)
 unfolding round-good
 good-true r e =
-    let tests = head-tests (r .slot) (r .last) (r .next) (length (r .rows)) (r .room) in
+    let tests = head-tests (r .slot) (r .last) (r .next) (length (r .rows)) (r .room) (r .tail) in
     let a = and-true (every tests) (rows-good r 0 (r .rows)) e in
-    let h = tests-head (r .slot) (r .last) (r .next) (length (r .rows)) (r .room) (a .0) in
+    let h = tests-head (r .slot) (r .last) (r .next) (length (r .rows)) (r .room) (r .tail) (a .0) in
     let q = rows-good-true r 0 (r .rows) (h .next-least) (a .1) in (
       record { time = h .slot-most; fine = q .0; rising = q .2 },
-      λ k. record { last = h .last-most; room = k; next = h .next-most; long = h .fit; tails = q .1 },
+      λ k. record { last = h .last-most; room = k; next = h .next-most; long = h .fit; tails = q .1; tail = h .tail },
       q .1,
     )
 

@@ -8,8 +8,8 @@ use borrow.Author.Tests.{le-ltb}
 use lib.ListN.{length, replicate}
 use Rattle.rules.specs.Limits.{row-size}
 use Rattle.rules.specs.Rows.{Row}
-use Rattle.rules.specs.Plan.{plan, first-end, best}
-use Rattle.rules.specs.Steps.{sent, is-ordinary}
+use Rattle.rules.specs.Plan.{plan, first-end}
+use Rattle.rules.specs.Steps.{goes, sent, is-ordinary}
 use Rattle.rules.specs.Table.{rows-bytes, table, round-in, table-refusal}
 use Rattle.rules.specs.Calls.{sending, acting, act, deed, first, table-first, round-refusal, step, ordinary, leap, out-of, says, leaves, refusal, answer, left}
 use Rattle.theory.specs.Back.{head-of, table-is}
@@ -21,7 +21,7 @@ module _ (t : List ℕ) (s : table-refusal t ≡ 0) (o : round-in t .slot ≤ ro
   send-accepted = rw (s, le-ltb (round-in t .last) (round-in t .slot) o)
 
   -- WHAT IS ANSWERED
-  pub answer-sent : (p : Row) → best (round-in t) (plan (round-in t)) ≡ p →
+  pub answer-sent : (p : Row) → goes (round-in t) ≡ p →
       answer (acting sending) t ≡ step (cond (leb (p .due) (first-end (round-in t) (plan (round-in t)))) (ordinary (out-of p)) (leap (out-of p)))
   unfolding answer says deed act is-ordinary
   answer-sent p e = rw (send-accepted, e)

@@ -93,6 +93,7 @@ module _ (t : List ℕ) (c : Clauses t) where
         slot-most = c .slot-most;
         next-least = c .next-least;
         next-most = c .next-most;
+        sealed-flag = c .tail .sealed-flag;
         tickets-from = λ i h. omega (arith, each i h .0 .from);
         tickets-rise = λ i h. each (suc i) h .0 .from;
         tickets-below = λ i h. each i h .0 .below;
@@ -128,6 +129,7 @@ module _ (t : List ℕ) (s : Sound t) where
         slot-most = s .slot-most;
         next-least = s .next-least;
         next-most = s .next-most;
+        tail = record { sealed-flag = s .sealed-flag };
         head-zeros = s .head-zeros;
         rows = rows-all t (used-in t) 0 (λ i a b. row-good i (omega arith));
         rest-zeros = s .unused-zeros;

@@ -5,28 +5,23 @@ use mathlib.Core.List.{List}
 use Prim.Native.Nat.{ℕ, suc, _≤_}
 use native.Mathlib.Omega.{arith}
 use borrow.Author.Tests.{le-leb, lt-leb, ne-eqb}
-use Rattle.rules.specs.Rows.{Row, Round, round, slots-left, All, In}
+use Rattle.rules.specs.Rows.{Row, Round, round, All, In}
 use Rattle.rules.specs.Plan.{plan, first-end, planned}
-use Rattle.rules.specs.Steps.{sent, is-ordinary}
+use Rattle.rules.specs.Steps.{goes, sent, is-ordinary}
 use Rattle.rules.specs.Calls.{out-of, says, deed, act}
-use Rattle.rules.specs.StepsOf.{goes, Goes-out, Unchanged, Slot-over, Steps-of, Went, Answers-of}
+use Rattle.rules.specs.StepsOf.{Goes-out, Unchanged, Slot-over, Steps-of, Went, Answers-of}
 use Rattle.rules.specs.Demands.{Steps}
 use Rattle.theory.specs.Tests.{eqb?}
 use Rattle.theory.specs.All.{all-in, blank-ticket}
-use Rattle.theory.specs.Full.{Fine, plan-length, plan-member}
+use Rattle.theory.specs.Full.{Fine, plan-member}
 use Rattle.theory.specs.Change.{rising-above}
-use Rattle.theory.specs.Send.{best-in}
+use Rattle.theory.specs.Turn.{goes-in}
 use Rattle.theory.specs.Members.{planned-rows}
 use Rattle.theory.specs.Close.{closed, sent-ordinary}
 use Rattle.theory.specs.Bounds.{Tail-fine}
 use Rattle.theory.specs.Sane.{good-fine, good-tails}
 use Rattle.theory.specs.SlotOver.{same-over}
 use Rattle.theory.specs.LeapRows.{sent-rows-are, leap-of}
-
--- what goes is a member
-pub goes-in : (r : Round) → Fine r → r .slot ≤ r .last → In (goes r) (plan r)
-unfolding slots-left
-goes-in r f o = best-in r (plan r) (omega (arith, plan-length r f .0, o))
 
 -- AN ORDINARY STEP
 pub ordinary-of : (r : Round) → Fine r → goes r .due ≤ first-end r (plan r) →

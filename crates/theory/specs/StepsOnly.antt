@@ -6,8 +6,8 @@ use Prim.Native.Nat.{ℕ, suc, _≤_}
 use native.Mathlib.Omega.{arith}
 use Rattle.rules.specs.Rows.{Row, Round, Heavier, In}
 use Rattle.rules.specs.Plan.{plan, first-end}
-use Rattle.rules.specs.Steps.{sent}
-use Rattle.rules.specs.StepsOf.{goes, stands-in, end-of, Is, Other, Slot-over, Goes-out, Unchanged, Shift, Chain, Every, Distinct, Shifted, Leaves, Becomes, Leap, Makes, shifted-to}
+use Rattle.rules.specs.Steps.{sent, goes}
+use Rattle.rules.specs.StepsOf.{stands-in, end-of, Is, Other, Slot-over, Goes-out, Unchanged, Shift, Chain, Every, Distinct, Shifted, Leaves, Becomes, Leap, Makes, shifted-to}
 use Rattle.rules.specs.Demands.{Steps-only}
 use Rattle.theory.specs.Tests.{leb?}
 use Rattle.theory.specs.Order.{Not-over, heavier?, not-over-both}

@@ -7,7 +7,7 @@ use borrow.Author.Tests.{ne-eqb}
 use lib.ListN.{length}
 use Rattle.rules.specs.Rows.{Round}
 use Rattle.rules.specs.Table.{round-in}
-use Rattle.rules.specs.Calls.{taking, sending, marking, totalling, Call, opening, acting, asking, act, question, deed, number-of, says, refusal, answer}
+use Rattle.rules.specs.Calls.{taking, sending, sealing, marking, totalling, Call, opening, acting, asking, act, question, deed, number-of, says, refusal, answer}
 use Rattle.rules.specs.Looking.{list-refusal, list-answer, list-left}
 use Rattle.rules.specs.Lines.{Command, write-refusal, write-answer, write-left}
 use Rattle.rules.specs.Demands.{Refused, Refused-unchanged, Numbers, List-refused-unchanged}
@@ -33,6 +33,7 @@ unfolding says deed act question number-of
 says-number (opening u) r = refl
 says-number (acting (taking f)) r = refl
 says-number (acting sending) r = refl
+says-number (acting sealing) r = refl
 says-number (asking (marking s)) r = refl
 says-number (asking totalling) r = refl
 

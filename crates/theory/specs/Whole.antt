@@ -1,5 +1,6 @@
--- A sending's four ways, from what passes over rows, counts and segments find: Sends, sends-first, sends-far, sends-kept, sends-row.
+-- A sending's ways, from what passes over rows, counts and segments find: Sends, sends-planned, sends-idle, sends-first, sends-far, sends-kept, sends-row.
 use mathlib.Core.Path.{_≡_, refl, sym, ap, ap₂, _∙_, subst}
+use mathlib.Core.Logic.{_≢_}
 use mathlib.Core.Bool.{Bool, true, false, cond}
 use mathlib.Core.List.{List, [], _∷_}
 use Prim.Native.Nat.{ℕ, suc, _≤_, _<_}
@@ -8,24 +9,27 @@ use lib.Dec.{leb}
 use lib.ListN.{length}
 use borrow.Author.Tests.{le-leb, lt-leb, leb-true}
 use Rattle.rules.specs.Rows.{Row, Round, blank, heavier, row, In, blank-tail}
-use Rattle.rules.specs.Plan.{plan, in-plan, tight-after, first-end, best}
-use Rattle.rules.specs.Steps.{changed, sent, is-ordinary}
+use Rattle.rules.specs.Plan.{plan, in-plan, tight-after, first-end}
+use Rattle.rules.specs.Steps.{changed, goes, sent, is-ordinary}
 use Rattle.rules.specs.Table.{round-in, table-refusal}
 use Rattle.rules.specs.Calls.{step, sending, ordinary, leap, out-of, answer, acting}
+use Rattle.theory.specs.Order.{Not-before}
 use Rattle.theory.specs.Full.{Fine}
 use Rattle.theory.specs.Back.{length-changed}
 use Rattle.theory.specs.Members.{Rows-of-plan, of-rows-fine, found-member}
-use Rattle.theory.specs.Best.{silent-best, silence-ordinary, ordinary-is}
+use Rattle.theory.specs.Best.{ordinary-is}
 use Rattle.theory.specs.Chain.{Linked, moves, shifted-to-end}
 use Rattle.theory.specs.Close.{after-slot, closed, sent-ordinary, sent-none, sent-row, sent-kept}
 use Rattle.theory.specs.Near.{Near, far-sent}
 use Rattle.theory.specs.Segments.{Segment, segment-end, segment-begin, first-segment, later-segment, segment-row, segment-none, segment-mark}
+use Rattle.theory.specs.Turn.{unsealed-goes}
+use Rattle.theory.specs.First.{silent-goes, silence-ordinary, first-due, goes-as-first, sealed-ordinary, first-row, first-blank-now, blank-now}
 use Rattle.theory.specs.Lead.{Leads, lead-best}
 use Rattle.theory.specs.Sender.{answer-sent}
 
 -- WHAT A STEP DOES: p goes; of the rows xs those still due are left, but for one ticket
 pub record Sends (r : Round) (p : Row) (plain : Bool) (gone : ℕ) (xs : List Row) : Type 0 where
-  pub goes : best r (plan r) ≡ p
+  pub goes : goes r ≡ p
   pub step : is-ordinary r ≡ plain
   pub leaves : sent r ≡ after-slot r (closed (suc (r .slot)) gone xs)
   pub long : length xs ≡ length (r .rows)
@@ -41,7 +45,7 @@ module _ (r : Round) (f : Fine r) (o : r .slot ≤ r .last) (rs : List Row) (c :
   pub sends-silence : r .rows ≡ [] → Sends r (blank (r .slot)) true 0 []
   unfolding closed
   sends-silence e =
-      let g = silent-best r f o rs c e in
+      let g = silent-goes r f o rs c e in
       let t = silence-ordinary r f o rs c e in
       record {
         goes = g;
@@ -51,11 +55,41 @@ module _ (r : Round) (f : Fine r) (o : r .slot ≤ r .last) (rs : List Row) (c :
         long = ap length (sym e);
       }
 
-  module _ (z : ℕ) (k : Near r z) (p : Row) (l : Leads r rs (r .slot) p) where
+  -- SEALED: the plan's canonical first, a row due before the blanks
+  pub sends-planned : r .tail .sealed ≡ 1 → (z : ℕ) → Near r z → (p : Row) → In p rs → p .due < z → ((q : Row) → In q rs → Not-before q p) →
+      Sends r p true (p .ticket) (r .rows)
+  sends-planned u z k p i h n =
+      let w = first-row r f o rs c z k p i h n in
+      let g = goes-as-first r f o u p w in
+      record {
+        goes = g;
+        step = sealed-ordinary r f o u;
+        leaves = sent-ordinary r f rs c p g (first-due r f o p w);
+        long = refl;
+      }
+
+  -- or silence while rows wait: no slot is filled by them
+  pub sends-idle : r .tail .sealed ≡ 1 → Near r (r .slot) → Sends r (blank (r .slot)) true 0 (r .rows)
+  unfolding blank
+  sends-idle u k =
+      let w = first-blank-now r f o rs c (blank-now r f o rs c k) in
+      let g = goes-as-first r f o u (blank (r .slot)) w in
+      record {
+        goes = g;
+        step = sealed-ordinary r f o u;
+        leaves = sent-ordinary r f rs c (blank (r .slot)) g (first-due r f o (blank (r .slot)) w);
+        long = refl;
+      }
+
+  -- UNSEALED: the leader
+  module _ (unsealed : r .tail .sealed ≢ 1) (z : ℕ) (k : Near r z) (p : Row) (l : Leads r rs (r .slot) p) where
+    leader-goes : goes r ≡ p
+    leader-goes = unsealed-goes r unsealed ∙ lead-best r f o rs c p l
+
     -- ORDINARY: the leader is in the first segment
     pub sends-first : (e : ℕ) → e < z → Segment r rs (r .slot) e → p .due ≤ e → Sends r p true (p .ticket) (r .rows)
     sends-first e n s h =
-        let g = lead-best r f o rs c p l in
+        let g = leader-goes in
         let a = first-segment r f o rs c z k (r .slot) e n s refl in
         record {
           goes = g;
@@ -67,7 +101,7 @@ module _ (r : Round) (f : Fine r) (o : r .slot ≤ r .last) (rs : List Row) (c :
     -- A LEAP FROM AFAR: nothing stays behind
     pub sends-far : z ≤ p .due → Sends r p false (p .ticket) (r .rows)
     sends-far h =
-        let g = lead-best r f o rs c p l in
+        let g = leader-goes in
         let a = far-sent r f rs c z k o p g (l .inside) h in
         record { goes = g; step = a .0; leaves = a .1; long = refl }
 
@@ -76,7 +110,7 @@ module _ (r : Round) (f : Fine r) (o : r .slot ≤ r .last) (rs : List Row) (c :
       pub sends-kept : ((y : Row) → In y (r .rows) → in-plan y rs ≡ false → y .due < b) → (x : Row) → In x rs → x .due ≤ e →
           ((y : Row) → In y rs → y .due ≤ e → x .weight ≤ y .weight) → Sends r p false 0 (changed (p .ticket) (row (p .ticket) b (x .weight) blank-tail) (r .rows))
       sends-kept g x u v m =
-          let q = lead-best r f o rs c p l in
+          let q = leader-goes in
           let d = segment-begin r f o rs c z k b e n s (p .due) i j in
           let t = later-segment r f o rs c z k b e n s a in
           let w = segment-mark r f o rs c z k b e n s (p .due) i j x u v m in
@@ -98,7 +132,7 @@ module _ (r : Round) (f : Fine r) (o : r .slot ≤ r .last) (rs : List Row) (c :
           (x : Row) → In x rs → x .due ≤ g → ((w : Row) → In w rs → w .due ≤ g → x .weight ≤ w .weight) →
           Sends r p false (p .ticket) (changed (y .ticket) (row (y .ticket) (y .due) (x .weight) (y .tail)) (moves r e hs (r .rows)))
       sends-row y u v w m b2 g n2 s2 i2 j2 hs ch x d h mm =
-          let q = lead-best r f o rs c p l in
+          let q = leader-goes in
           let t = later-segment r f o rs c z k b e n s a in
           let e1 = segment-end r f o rs c z k b e n s (p .due) i j in
           let g1 = segment-end r f o rs c z k b2 g n2 s2 (y .due) i2 j2 in

@@ -3,17 +3,17 @@ use mathlib.Core.Path.{_≡_, refl}
 use mathlib.Core.List.{List, [], _∷_, _++_, map}
 use Prim.Native.Nat.{ℕ, _*_, _-_}
 use lib.ListN.{take, replicate}
-use Rattle.rules.specs.Rows.{Round, row, round, frame-tail, blank-tail, no-tail}
+use Rattle.rules.specs.Rows.{Round, row, round, frame-tail, blank-tail, unsealed-tail, sealed-tail}
 use Rattle.rules.specs.Table.{low, value, put, row-bytes, rows-bytes, head-bytes, table}
 
--- slot 0102, last slot 0304, next ticket 00060608, one frame and one kept blank in 259 rows (hexadecimal)
+-- slot 0102, last slot 0304, next ticket 00060608, sealed, one frame and one kept blank in 259 rows (hexadecimal)
 abbrev pub vector-round : Round
-vector-round = round 258 772 394760 259 (row 66051 515 16777216 frame-tail ∷ row 394759 772 197121 blank-tail ∷ []) no-tail
+vector-round = round 258 772 394760 259 (row 66051 515 16777216 frame-tail ∷ row 394759 772 197121 blank-tail ∷ []) sealed-tail
 
 abbrev pub vector-bytes : List ℕ
 vector-bytes =
-    -- current slot, last slot, next ticket, rows in use, zeros
-    2 ∷ 1 ∷ 4 ∷ 3 ∷ 8 ∷ 6 ∷ 6 ∷ 0 ∷ 2 ∷ 0 ∷ 0 ∷ 0 ∷ 0 ∷ 0 ∷ 0 ∷ 0 ∷
+    -- current slot, last slot, next ticket, rows in use, sealed, zeros
+    2 ∷ 1 ∷ 4 ∷ 3 ∷ 8 ∷ 6 ∷ 6 ∷ 0 ∷ 2 ∷ 0 ∷ 1 ∷ 0 ∷ 0 ∷ 0 ∷ 0 ∷ 0 ∷
     -- ticket, due slot, weight, kind, zeros
     3 ∷ 2 ∷ 1 ∷ 0 ∷ 3 ∷ 2 ∷ 0 ∷ 0 ∷ 0 ∷ 1 ∷ 0 ∷ 0 ∷ 0 ∷ 0 ∷ 0 ∷ 0 ∷ 0 ∷ 0 ∷ 0 ∷ 0 ∷ 0 ∷ 0 ∷ 0 ∷ 0 ∷
     7 ∷ 6 ∷ 6 ∷ 0 ∷ 4 ∷ 3 ∷ 1 ∷ 2 ∷ 3 ∷ 0 ∷ 1 ∷ 0 ∷ 0 ∷ 0 ∷ 0 ∷ 0 ∷ 0 ∷ 0 ∷ 0 ∷ 0 ∷ 0 ∷ 0 ∷ 0 ∷ 0 ∷
@@ -23,8 +23,8 @@ pub vector-written : table vector-round ≡ vector-bytes
 unfolding row round low put row-bytes rows-bytes head-bytes table
 vector-written = refl
 
--- and the head alone with 0102 rows in use
-pub vector-head : take 16 (table (round 258 772 394760 259 (replicate 258 (row 1 515 1 frame-tail)) no-tail)) ≡ 2 ∷ 1 ∷ 4 ∷ 3 ∷ 8 ∷ 6 ∷ 6 ∷ 0 ∷ 2 ∷ 1 ∷ replicate 6 0
+-- and the head alone with 0102 rows in use, unsealed
+pub vector-head : take 16 (table (round 258 772 394760 259 (replicate 258 (row 1 515 1 frame-tail)) unsealed-tail)) ≡ 2 ∷ 1 ∷ 4 ∷ 3 ∷ 8 ∷ 6 ∷ 6 ∷ 0 ∷ 2 ∷ 1 ∷ replicate 6 0
 unfolding row round low put row-bytes rows-bytes head-bytes table
 vector-head = refl
 

@@ -6,8 +6,8 @@ use mathlib.Core.Option.{none, some}
 use Prim.Native.Nat.{ℕ, _+_, _*_, _≤_}
 use native.Mathlib.Omega.{arith}
 use Rattle.rules.specs.Rows.{row, blank, round, slots-left, heavier, canonical, into, sorted}
-use Rattle.rules.specs.Plan.{due-by, fits-from, feasible, kept, blanks-from, plan, total-weight, total, tight, tight-from, tight-after, segment-from, segment-start, first-end, least-weight, mark-in, mark, same-row, in-plan, lightest-by, heaviest-outside, substitute, beats-golden, golden-more, sends-before, best-from, best}
-use Rattle.rules.specs.Steps.{opened, taken, changed, without, heaviest-between, shifted, replaced, leapt, still-due, is-ordinary, sent}
+use Rattle.rules.specs.Plan.{due-by, fits-from, feasible, kept, blanks-from, plan, total-weight, total, tight, tight-from, tight-after, segment-from, segment-start, first-end, least-weight, mark-in, mark, same-row, in-plan, lightest-by, heaviest-outside, substitute, beats-golden, golden-more, sends-before, best-from, best, first-from, canonical-first}
+use Rattle.rules.specs.Steps.{opened, taken, sealed, changed, without, heaviest-between, shifted, replaced, leapt, turn-of, still-due, is-ordinary, sent}
 use Rattle.rules.specs.Table.{low, value, field, put, row-bytes, rows-bytes, head-bytes, table, rows-in, rows-of, round-in, length-good, every, rows-good, round-good, same, table-refusal}
 use Rattle.rules.specs.Calls.{Call, silence, frame, kept-blank, ordinary, leap, Reply, refused, done, ticket, step, amount, blank-due, first, act, question, deed, round-refusal, out-of, says, leaves, table-first, refusal, answer, left, run, replies}
 use Rattle.rules.specs.Demands.{member}
@@ -115,9 +115,10 @@ told-of x = story (x .calls) (replies (x .calls) (left (opens (x .last)) found))
 pub told-by-hand : map told-of rounds ≡ map (λ (x : Played-out). x .tells) rounds
 unfolding row blank round slots-left heavier canonical into sorted due-by fits-from feasible kept blanks-from plan total-weight total tight tight-from
     tight-after segment-from segment-start first-end least-weight mark-in mark same-row in-plan lightest-by heaviest-outside substitute beats-golden
-    golden-more sends-before best-from best opened taken changed without heaviest-between shifted replaced leapt still-due is-ordinary sent low value
-    field put row-bytes rows-bytes head-bytes table rows-in rows-of round-in length-good every rows-good round-good same table-refusal first act
-    question deed round-refusal out-of says leaves table-first refusal answer left replies took-in went-out told story
+    golden-more sends-before best-from best first-from canonical-first opened taken sealed changed without heaviest-between shifted replaced leapt
+    turn-of still-due is-ordinary sent low value field put row-bytes rows-bytes head-bytes table rows-in rows-of round-in length-good every rows-good
+    round-good same table-refusal first act question deed round-refusal out-of says leaves table-first refusal answer left replies took-in went-out
+    told story
 told-by-hand = refl
 
 -- S
@@ -157,9 +158,9 @@ no-room h = omega arith
 pub p2-past : Past (run (p2 .calls) (left (opens (p2 .last)) found))
 unfolding row blank round slots-left heavier canonical into sorted due-by fits-from feasible kept blanks-from plan total-weight total tight tight-from
     tight-after segment-from segment-start first-end least-weight mark-in mark same-row in-plan lightest-by heaviest-outside substitute beats-golden
-    golden-more sends-before best-from best opened taken changed without heaviest-between shifted replaced leapt still-due is-ordinary sent low value
-    field put row-bytes rows-bytes head-bytes table rows-in rows-of round-in length-good every rows-good round-good same table-refusal first act
-    question deed round-refusal out-of says leaves table-first refusal answer left run
+    golden-more sends-before best-from best first-from canonical-first opened taken sealed changed without heaviest-between shifted replaced leapt
+    turn-of still-due is-ordinary sent low value field put row-bytes rows-bytes head-bytes table rows-in rows-of round-in length-good every rows-good
+    round-good same table-refusal first act question deed round-refusal out-of says leaves table-first refusal answer left run
 p2-past = omega arith
 
 -- the offers of the fifth: two from slot 0 on, one from slot 1

@@ -10,7 +10,7 @@ use lib.ListN.{length}
 use borrow.Author.Tests.{leb-true, leb-false, eqb-true, eqb-false, le-leb, lt-leb, eq-eqb, ne-eqb}
 use Rattle.rules.specs.Limits.{slot-digits, wide-digits, most-payload}
 use Rattle.rules.specs.Lines.{digits, all-digits, count-digits, numerals, fit-digits, number-at, numbers-at}
-use Rattle.rules.specs.Lines.{forms, found, front-size, payload-fits, has-length, open-line, take-line, send-line, line-number, values-of}
+use Rattle.rules.specs.Lines.{forms, found, front-size, payload-fits, has-length, open-line, take-line, send-line, seal-line, line-number, values-of}
 use Rattle.rules.specs.Lines.{front, text, stands, line-end, Reading, command, broken, command-of, read-digits, payload-at, Place, place-of}
 
 -- TEXT
@@ -26,6 +26,10 @@ take-text d w ps = refl
 pub send-text : (ps : List ℕ) → text send-line ps ≡ digits 2 2 ++ ps ++ (line-end ∷ [])
 unfolding digits numerals forms found line-number values-of front text
 send-text ps = refl
+
+pub seal-text : (ps : List ℕ) → text seal-line ps ≡ digits 2 3 ++ ps ++ (line-end ∷ [])
+unfolding digits numerals forms found line-number values-of front text
+seal-text ps = refl
 
 -- WHAT CAN STAND
 true-last : (a : Bool) → a && true ≡ a
@@ -55,6 +59,10 @@ pub send-stands : (ps : List ℕ) → stands send-line ps ≡ eqb (length ps) 0
 unfolding fit-digits forms found payload-fits line-number values-of stands
 send-stands ps = no-payload ps
 
+pub seal-stands : (ps : List ℕ) → stands seal-line ps ≡ eqb (length ps) 0
+unfolding fit-digits forms found payload-fits line-number values-of stands
+seal-stands ps = no-payload ps
+
 -- THE READER'S TESTS: a line of the form without payload has just so many digits, line 01 that many or up to 48 more, an even number
 either : (t : Bool) → (t ≡ true) ⊎ (t ≡ false)
 either true = inl refl
@@ -76,6 +84,10 @@ open-long n = just 6 n
 send-long : (n : ℕ) → has-length (found 2 forms) n ≡ eqb n 2
 unfolding forms found count-digits front-size payload-fits has-length
 send-long n = just 2 n
+
+seal-long : (n : ℕ) → has-length (found 3 forms) n ≡ eqb n 2
+unfolding forms found count-digits front-size payload-fits has-length
+seal-long n = just 2 n
 
 halves : (n : ℕ) → leb payload-at n ≡ true → eqb ((n - payload-at) % 2) 0 ≡ eqb (n % 2) 0
 halves n l = elim (either (eqb (n % 2) 0)) [
@@ -118,7 +130,8 @@ module _ (ds : List ℕ) (n : ℕ) where
   Reads-as k =
       cond (has-length (found k forms) n) (made k) broken
       ≡ cond (eqb n 6 && eqb k 0) open-made
-      (cond (take-fits && (eqb (n % 2) 0 && eqb k 1)) take-made (cond (eqb n 2 && eqb k 2) (command send-line) broken))
+      (cond (take-fits && (eqb (n % 2) 0 && eqb k 1)) take-made
+      (cond (eqb n 2 && eqb k 2) (command send-line) (cond (eqb n 2 && eqb k 3) (command seal-line) broken)))
 
   opens : made 0 ≡ open-made
   unfolding forms found command-of numbers-at
@@ -132,6 +145,10 @@ module _ (ds : List ℕ) (n : ℕ) where
   unfolding forms found command-of numbers-at
   sends = refl
 
+  seals : made 3 ≡ command seal-line
+  unfolding forms found command-of numbers-at
+  seals = refl
+
   open-reads : Reads-as 0
   open-reads = rw (open-long n, opens, true-last (eqb n 6), false-last (eqb (n % 2) 0), false-last (eqb n 2), false-last take-fits)
 
@@ -139,17 +156,21 @@ module _ (ds : List ℕ) (n : ℕ) where
   take-reads = rw (take-long n, takes, false-last (eqb n 6), true-last (eqb (n % 2) 0), false-last (eqb n 2))
 
   send-reads : Reads-as 2
-  send-reads = rw (send-long n, sends, false-last (eqb n 6), false-last (eqb (n % 2) 0), true-last (eqb n 2), false-last take-fits)
+  send-reads = rw (send-long n, sends, false-last (eqb n 6), false-last (eqb (n % 2) 0), true-last (eqb n 2), false-last (eqb n 2), false-last take-fits)
+
+  seal-reads : Reads-as 3
+  seal-reads = rw (seal-long n, seals, false-last (eqb n 6), false-last (eqb (n % 2) 0), false-last (eqb n 2), true-last (eqb n 2), false-last take-fits)
 
   -- no other number is a line's
-  other-reads : (k : ℕ) → Reads-as (suc (suc (suc k)))
+  other-reads : (k : ℕ) → Reads-as (suc (suc (suc (suc k))))
   unfolding command-of
   other-reads k =
-      let a : eqb (suc (suc (suc k))) 0 ≡ false = ne-eqb (suc (suc (suc k))) 0 (λ e. omega arith) in
-      let b : eqb (suc (suc (suc k))) 1 ≡ false = ne-eqb (suc (suc (suc k))) 1 (λ e. omega arith) in
-      let c : eqb (suc (suc (suc k))) 2 ≡ false = ne-eqb (suc (suc (suc k))) 2 (λ e. omega arith) in
-      rw (a, b, c, false-last (eqb n 6), false-last (eqb (n % 2) 0), false-last (eqb n 2), false-last take-fits)
-      (either-way (has-length (found (suc (suc (suc k))) forms) n) broken)
+      let a : eqb (suc (suc (suc (suc k)))) 0 ≡ false = ne-eqb (suc (suc (suc (suc k)))) 0 (λ e. omega arith) in
+      let b : eqb (suc (suc (suc (suc k)))) 1 ≡ false = ne-eqb (suc (suc (suc (suc k)))) 1 (λ e. omega arith) in
+      let c : eqb (suc (suc (suc (suc k)))) 2 ≡ false = ne-eqb (suc (suc (suc (suc k)))) 2 (λ e. omega arith) in
+      let d : eqb (suc (suc (suc (suc k)))) 3 ≡ false = ne-eqb (suc (suc (suc (suc k)))) 3 (λ e. omega arith) in
+      rw (a, b, c, d, false-last (eqb n 6), false-last (eqb (n % 2) 0), false-last (eqb n 2), false-last take-fits)
+      (either-way (has-length (found (suc (suc (suc (suc k)))) forms) n) broken)
     where
       either-way : (t : Bool) (r : Reading) → cond t r r ≡ r
       either-way true r = refl
@@ -159,14 +180,16 @@ module _ (ds : List ℕ) (n : ℕ) where
   reads-as zero = open-reads
   reads-as (suc zero) = take-reads
   reads-as (suc (suc zero)) = send-reads
-  reads-as (suc (suc (suc k))) = other-reads k
+  reads-as (suc (suc (suc zero))) = seal-reads
+  reads-as (suc (suc (suc (suc k)))) = other-reads k
 
 pub read-shape : (ds : List ℕ) →
     read-digits ds
     ≡ cond (eqb (length ds) 6 && eqb (number-at 0 2 ds) 0) (command (open-line (number-at 2 slot-digits ds)))
     (cond ((leb payload-at (length ds) && leb (length ds) (payload-at + most-payload)) && (eqb (length ds % 2) 0 && eqb (number-at 0 2 ds) 1))
     (command (take-line (number-at 2 slot-digits ds) (number-at 6 wide-digits ds)))
-    (cond (eqb (length ds) 2 && eqb (number-at 0 2 ds) 2) (command send-line) broken))
+    (cond (eqb (length ds) 2 && eqb (number-at 0 2 ds) 2) (command send-line)
+    (cond (eqb (length ds) 2 && eqb (number-at 0 2 ds) 3) (command seal-line) broken)))
 unfolding read-digits
 read-shape ds = reads-as ds (length ds) (number-at 0 2 ds)
 
@@ -185,6 +208,10 @@ take-place d w n = refl
 pub send-place : (n : ℕ) → place-of (command send-line) n ≡ at 0 0
 unfolding forms found line-number place-of
 send-place n = refl
+
+pub seal-place : (n : ℕ) → place-of (command seal-line) n ≡ at 0 0
+unfolding forms found line-number place-of
+seal-place n = refl
 
 pub broken-place : (n : ℕ) → place-of broken n ≡ at 0 0
 unfolding place-of

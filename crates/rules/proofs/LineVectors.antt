@@ -5,7 +5,7 @@ use Prim.Native.Nat.{ℕ}
 use lib.ListN.{replicate}
 use Rattle.rules.specs.Calls.{Reply, refused, amount}
 use Rattle.rules.specs.Lines.{digit, is-digit, digit-value, digits, number-from, all-digits, count-digits, numerals, fit-digits, number-at, numbers-at}
-use Rattle.rules.specs.Lines.{forms, found, front-size, payload-fits, has-length, Command, open-line, take-line, send-line, line-number, values-of}
+use Rattle.rules.specs.Lines.{forms, found, front-size, payload-fits, has-length, Command, open-line, take-line, send-line, seal-line, line-number, values-of}
 use Rattle.rules.specs.Lines.{front, text, stands, Reading, command, broken, body, command-of, read-digits, read, read-refusal, Place, place-of, payload-place, payload, write-refusal, write-answer, write-left}
 
 -- A LINE BY HAND: what it is read as, the refusal's number, the payload's place, and the payload
@@ -68,8 +68,10 @@ lines-read =
     reads (48 ∷ 48 ∷ 48 ∷ 70 ∷ 70 ∷ 70 ∷ 48 ∷ 48 ∷ 10 ∷ []) broken 1 0 0 [] ∷
     reads (48 ∷ 50 ∷ 10 ∷ []) (command send-line) 0 0 0 [] ∷
     reads (48 ∷ 50 ∷ 48 ∷ 48 ∷ 10 ∷ []) broken 1 0 0 [] ∷
-    -- no line of number 03 or 20; no 0A, none at the end, a 0D before it; empty
-    reads (48 ∷ 51 ∷ 10 ∷ []) broken 1 0 0 [] ∷
+    -- a sealing
+    reads (48 ∷ 51 ∷ 10 ∷ []) (command seal-line) 0 0 0 [] ∷
+    -- no line of number 04 or 20; no 0A, none at the end, a 0D before it; empty
+    reads (48 ∷ 52 ∷ 10 ∷ []) broken 1 0 0 [] ∷
     reads (50 ∷ 48 ∷ 10 ∷ []) broken 1 0 0 [] ∷
     reads (48 ∷ 50 ∷ []) broken 1 0 0 [] ∷
     reads (48 ∷ 50 ∷ 10 ∷ 48 ∷ []) broken 1 0 0 [] ∷
@@ -134,5 +136,6 @@ lines-written =
     []
 
 pub lines-written-by-hand : written-by lines-written ≡ lines-written
-unfolding digit is-digit digits all-digits numerals fit-digits forms found payload-fits line-number values-of front text stands write-refusal write-answer write-left
+unfolding digit is-digit digits all-digits numerals fit-digits forms found payload-fits line-number values-of front text stands write-refusal
+    write-answer write-left
 lines-written-by-hand = refl

@@ -4,7 +4,7 @@ use mathlib.Core.List.{List, [], _∷_, map}
 use Prim.Native.Nat.{ℕ, zero, suc, _+_, _*_}
 use lib.ListN.{replicate}
 use Rattle.rules.specs.Limits.{head-size, row-size}
-use Rattle.rules.specs.Rows.{Row, Round, row, round, until, framed, slots-left, frame-tail, blank-tail, no-tail}
+use Rattle.rules.specs.Rows.{Row, Round, row, round, until, framed, slots-left, frame-tail, blank-tail, unsealed-tail}
 use Rattle.rules.specs.Plan.{mark, listed}
 use Rattle.rules.specs.Table.{round-in, same}
 use Rattle.rules.specs.Calls.{taking, sending, marking, totalling, Call, opening, acting, asking, Reply, number-of, answer, left}
@@ -28,7 +28,7 @@ totals = asking totalling
 
 -- a round of some rows
 abbrev pub plain : (slot last next room : ℕ) → List Row → Round
-plain t l n k xs = round t l n k xs no-tail
+plain t l n k xs = round t l n k xs unsealed-tail
 
 -- a waiting frame and a kept blank: ticket, due slot, weight
 abbrev pub waits : (ticket due weight : ℕ) → Row

@@ -2,8 +2,8 @@
 use mathlib.Core.Path.{_≡_, refl}
 use mathlib.Core.List.{List, [], _∷_}
 use Rattle.rules.specs.Rows.{row, blank, round, slots-left, heavier, canonical, into, sorted, rows-only}
-use Rattle.rules.specs.Plan.{due-by, fits-from, feasible, kept, blanks-from, plan, total-weight, total, tight, tight-from, tight-after, segment-from, segment-start, first-end, least-weight, mark-in, mark, same-row, in-plan, lightest-by, heaviest-outside, substitute, beats-golden, golden-more, sends-before, best-from, best, listed}
-use Rattle.rules.specs.Steps.{opened, taken, changed, without, heaviest-between, shifted, replaced, leapt, still-due, is-ordinary, sent}
+use Rattle.rules.specs.Plan.{due-by, fits-from, feasible, kept, blanks-from, plan, total-weight, total, tight, tight-from, tight-after, segment-from, segment-start, first-end, least-weight, mark-in, mark, same-row, in-plan, lightest-by, heaviest-outside, substitute, beats-golden, golden-more, sends-before, best-from, best, first-from, canonical-first, listed}
+use Rattle.rules.specs.Steps.{opened, taken, sealed, changed, without, heaviest-between, shifted, replaced, leapt, turn-of, still-due, is-ordinary, sent}
 use Rattle.rules.specs.Table.{low, value, field, put, row-bytes, rows-bytes, head-bytes, table, rows-in, rows-of, round-in, length-good, every, rows-good, round-good, same, table-refusal}
 use Rattle.rules.specs.Calls.{silence, frame, kept-blank, ordinary, leap, refused, done, ticket, step, amount, blank-due, first, act, question, deed, round-refusal, out-of, says, leaves, table-first, refusal, answer, left}
 use Rattle.rules.specs.Looking.{with-ticket, stand-in, substitute-answer}
@@ -364,8 +364,8 @@ rounds =
 pub rounds-by-hand : played rounds ≡ rounds
 unfolding row blank round slots-left heavier canonical into sorted rows-only due-by fits-from feasible kept blanks-from plan total-weight total tight
     tight-from tight-after segment-from segment-start first-end least-weight mark-in mark same-row in-plan lightest-by heaviest-outside substitute
-    beats-golden golden-more sends-before best-from best listed opened taken changed without heaviest-between shifted replaced leapt still-due
-    is-ordinary sent low value field put row-bytes rows-bytes head-bytes table rows-in rows-of round-in length-good every rows-good round-good same
-    table-refusal first act question deed round-refusal out-of says leaves table-first refusal answer left with-ticket stand-in
-    substitute-answer
+    beats-golden golden-more sends-before best-from best first-from canonical-first listed opened taken sealed changed without heaviest-between
+    shifted replaced leapt turn-of still-due is-ordinary sent low value field put row-bytes rows-bytes head-bytes table rows-in rows-of round-in
+    length-good every rows-good round-good same table-refusal first act question deed round-refusal out-of says leaves table-first refusal answer left
+    with-ticket stand-in substitute-answer
 rounds-by-hand = refl

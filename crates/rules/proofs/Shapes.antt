@@ -8,12 +8,12 @@ use lib.Dec.{ltb, leb, eqb}
 use borrow.Author.Tests.{le-ltb, lt-leb}
 use lib.ListN.{length, drop, replicate}
 use Rattle.rules.specs.Limits.{most-last, most-weight, ticket-limit}
-use Rattle.rules.specs.Rows.{Frame, Setup, Row, Round, row, round, no-tail}
-use Rattle.rules.specs.Plan.{plan, total, mark, best}
-use Rattle.rules.specs.Steps.{opened, taken, sent, is-ordinary}
+use Rattle.rules.specs.Rows.{Frame, Setup, Row, Round, row, round}
+use Rattle.rules.specs.Plan.{plan, total, first-end, mark, best, canonical-first}
+use Rattle.rules.specs.Steps.{opened, taken, sealed, turn-of, goes, sent, is-ordinary}
 use Rattle.rules.specs.Table.{low, field, put, row-bytes, rows-bytes, head-bytes, table, rows-in, rows-of, round-in, every, rows-good, round-good}
-use Rattle.rules.specs.Calls.{taking, sending, marking, totalling, Call, opening, acting, asking, act, question, deed, done, ticket, step, amount, ordinary, leap, out-of, round-refusal, says, leaves}
-use Rattle.rules.specs.Conditions.{Length-bad, Unsound, Past, Weight-bad, Slot-bad, No-row, Not-planned, next-in, used-in, when, accepted, act-conditions, question-conditions, conditions, refusal-given, substitute-given}
+use Rattle.rules.specs.Calls.{taking, sending, sealing, marking, totalling, Call, opening, acting, asking, act, question, deed, done, closed, ticket, step, amount, ordinary, leap, out-of, round-refusal, says, leaves}
+use Rattle.rules.specs.Conditions.{Length-bad, Unsound, Past, Weight-bad, Slot-bad, No-row, Not-planned, next-in, used-in, sealed-in, when, accepted, act-conditions, question-conditions, conditions, refusal-given, substitute-given}
 
 -- A ROW's bytes, of a kind that fits its byte
 pub row-bytes-are : (x : Row) → x .tail .kind < 256 →
@@ -23,12 +23,15 @@ row-bytes-are x h =
     let e : x .tail .kind % 256 ≡ x .tail .kind = omega arith in
     ap (λ (b : ℕ). low 4 (x .ticket) ++ low 2 (x .due) ++ low 4 (x .weight) ++ (b ∷ []) ++ replicate 13 0) e
 
--- THE TABLE's
-pub table-is : (r : Round) → table r ≡
-    low 2 (r .slot) ++ low 2 (r .last) ++ low 4 (r .next) ++ low 2 (length (r .rows)) ++ replicate 6 0 ++ rows-bytes (r .rows)
-    ++ replicate (24 * (r .room - length (r .rows))) 0
+-- THE TABLE's, of a seal that fits its byte
+pub table-is : (r : Round) → r .tail .sealed < 256 → table r ≡
+    low 2 (r .slot) ++ low 2 (r .last) ++ low 4 (r .next) ++ low 2 (length (r .rows)) ++ (r .tail .sealed ∷ []) ++ replicate 5 0
+    ++ rows-bytes (r .rows) ++ replicate (24 * (r .room - length (r .rows))) 0
 unfolding table head-bytes put low
-table-is r = refl
+table-is r h =
+    let e : r .tail .sealed % 256 ≡ r .tail .sealed = omega arith in
+    ap (λ (b : ℕ). low 2 (r .slot) ++ low 2 (r .last) ++ low 4 (r .next) ++ low 2 (length (r .rows)) ++ (b ∷ []) ++ replicate 5 0
+    ++ rows-bytes (r .rows) ++ replicate (24 * (r .room - length (r .rows))) 0) e
 
 pub rows-in-are : (k : ℕ) (bs : List ℕ) →
     rows-in (suc k) bs ≡ row (field 0 4 bs) (field 4 2 bs) (field 6 4 bs) (record { kind = field 10 1 bs }) ∷ rows-in k (drop 24 bs)
@@ -36,7 +39,8 @@ unfolding rows-in
 rows-in-are k bs = refl
 
 pub round-in-is : (bs : List ℕ) →
-    round-in bs ≡ round (field 0 2 bs) (field 2 2 bs) (field 4 4 bs) (rows-of bs) (rows-in (field 8 2 bs) (drop 16 bs)) no-tail
+    round-in bs ≡ round (field 0 2 bs) (field 2 2 bs) (field 4 4 bs) (rows-of bs) (rows-in (field 8 2 bs) (drop 16 bs))
+    (record { sealed = field 10 1 bs })
 unfolding round-in
 round-in-is bs = refl
 
@@ -66,21 +70,24 @@ rows-good-are r b x xs =
     (regrouped (ltb b (x .ticket)) (ltb (x .ticket) (r .next)) (leb (r .slot) (x .due)) (leb (x .due) (r .last)) (leb 1 (x .weight))
     (leb (x .weight) 16777216) (leb (x .tail .kind) 1) (rows-good r (x .ticket) xs))
 
-regrouped-head : (a b c d e z : Bool) → ((a && (b && (c && (d && (e && true))))) && z) ≡ (((a && b) && (c && d)) && (e && z))
-regrouped-head false b c d e z = refl
-regrouped-head true false c d e z = refl
-regrouped-head true true false d e z = refl
-regrouped-head true true true false e z = refl
-regrouped-head true true true true false z = refl
-regrouped-head true true true true true z = refl
+regrouped-head : (a b c d e f z : Bool) →
+    ((a && (b && (c && (d && (e && (f && true)))))) && z) ≡ (((a && b) && (c && d)) && ((e && f) && z))
+regrouped-head false b c d e f z = refl
+regrouped-head true false c d e f z = refl
+regrouped-head true true false d e f z = refl
+regrouped-head true true true false e f z = refl
+regrouped-head true true true true false f z = refl
+regrouped-head true true true true true false z = refl
+regrouped-head true true true true true true z = refl
 
 pub round-good-is : (r : Round) → round-good r
     ≡ (((leb (r .last) 4095 && leb (r .slot) (suc (r .last))) && (leb 1 (r .next) && leb (r .next) 16777216))
-    && (leb (length (r .rows)) (r .room) && rows-good r 0 (r .rows)))
+    && ((leb (length (r .rows)) (r .room) && ltb (r .tail .sealed) 2) && rows-good r 0 (r .rows)))
 unfolding round-good every
 round-good-is r =
-    regrouped-head (leb (r .last) 4095) (leb (r .slot) (suc (r .last))) (leb 1 (r .next)) (leb (r .next) 16777216) (leb (length (r .rows)) (r .room))
-    (rows-good r 0 (r .rows))
+    rw (sym (below-two (r .tail .sealed)))
+    (regrouped-head (leb (r .last) 4095) (leb (r .slot) (suc (r .last))) (leb 1 (r .next)) (leb (r .next) 16777216) (leb (length (r .rows)) (r .room))
+    (leb (r .tail .sealed) 1) (rows-good r 0 (r .rows)))
 
 -- REFUSALS in their order, replies and rounds left
 pub opening-is : (u : Setup) (r : Round) →
@@ -90,9 +97,10 @@ opening-is u r = (refl, refl, refl)
 
 pub taking-is : (f : Frame) (r : Round) →
     (round-refusal (acting (taking f)) r ≡ cond (ltb (r .last) (r .slot)) 5
+    (cond (eqb (r .tail .sealed) 1) 13
     (cond (eqb (f .weight) 0 || ltb most-weight (f .weight)) 6
     (cond (ltb (f .due) (r .slot) || ltb (r .last) (f .due)) 7
-    (cond (eqb (r .next) ticket-limit) 8 (cond (leb (r .room) (length (r .rows))) 9 0)))))
+    (cond (eqb (r .next) ticket-limit) 8 (cond (leb (r .room) (length (r .rows))) 9 0))))))
     × (says (acting (taking f)) r ≡ ticket (r .next))
     × (leaves (acting (taking f)) r ≡ taken r f)
 unfolding round-refusal says leaves deed act
@@ -100,10 +108,27 @@ taking-is f r = (refl, refl, refl)
 
 pub sending-is : (r : Round) →
     (round-refusal (acting sending) r ≡ cond (ltb (r .last) (r .slot)) 5 0)
-    × (says (acting sending) r ≡ step (cond (is-ordinary r) (ordinary (out-of (best r (plan r)))) (leap (out-of (best r (plan r))))))
+    × (says (acting sending) r ≡ step (cond (is-ordinary r) (ordinary (out-of (goes r))) (leap (out-of (goes r)))))
     × (leaves (acting sending) r ≡ sent r)
 unfolding round-refusal says leaves deed act
 sending-is r = (refl, refl, refl)
+
+-- what goes, and whether its step is ordinary
+pub goes-is : (r : Round) → goes r ≡ cond (eqb (r .tail .sealed) 1) (canonical-first r (plan r)) (best r (plan r))
+unfolding turn-of
+goes-is r = refl
+
+pub ordinary-is : (r : Round) → is-ordinary r ≡ leb (goes r .due) (first-end r (plan r))
+unfolding is-ordinary
+ordinary-is r = refl
+
+-- the round sealed: nothing of it changes but that
+pub sealing-is : (r : Round) →
+    (round-refusal (acting sealing) r ≡ cond (ltb (r .last) (r .slot)) 5 0)
+    × (says (acting sealing) r ≡ closed)
+    × (leaves (acting sealing) r ≡ round (r .slot) (r .last) (r .next) (r .room) (r .rows) (record { sealed = 1 }))
+unfolding round-refusal says leaves deed act sealed
+sealing-is r = (refl, refl, refl)
 
 pub marking-is : (s : ℕ) (r : Round) →
     (round-refusal (asking (marking s)) r ≡ cond (ltb (r .last) (r .slot)) 5 (cond (ltb s (r .slot) || ltb (r .last) s) 7 0))
@@ -131,13 +156,18 @@ unfolding refusal-given conditions
 opening-given u t = refl
 
 pub taking-given : (f : Frame) (t : List ℕ) → Same (refusal-given (acting (taking f)) t)
-    (if-sound t (when 6 (Weight-bad (f .weight)) (when 7 (Slot-bad (f .due) t) (when 8 (next-in t ≡ ticket-limit) (when 9 (used-in t ≡ rows-of t) accepted)))))
+    (if-sound t (when 13 (sealed-in t ≡ 1) (when 6 (Weight-bad (f .weight)) (when 7 (Slot-bad (f .due) t) (when 8 (next-in t ≡ ticket-limit)
+    (when 9 (used-in t ≡ rows-of t) accepted))))))
 unfolding refusal-given conditions act-conditions
 taking-given f t = refl
 
 pub sending-given : (t : List ℕ) → Same (refusal-given (acting sending) t) (if-sound t accepted)
 unfolding refusal-given conditions act-conditions
 sending-given t = refl
+
+pub sealing-given : (t : List ℕ) → Same (refusal-given (acting sealing) t) (if-sound t accepted)
+unfolding refusal-given conditions act-conditions
+sealing-given t = refl
 
 pub marking-given : (s : ℕ) (t : List ℕ) → Same (refusal-given (asking (marking s)) t) (if-sound t (when 7 (Slot-bad s t) accepted))
 unfolding refusal-given conditions question-conditions

@@ -1,6 +1,6 @@
--- The four ways cover every round, since what each asks for can be found: some-sweep, some-lead, some-segment, some-sends.
+-- Four ways cover every unsealed round, since what each asks for can be found: some-sweep, some-lead, some-segment, some-sends.
 use mathlib.Core.Path.{_≡_, sym, ap, _∙_, subst}
-use mathlib.Core.Logic.{inl, inr}
+use mathlib.Core.Logic.{inl, inr, _≢_}
 use mathlib.Core.Bool.{Bool, true, false}
 use mathlib.Core.List.{List}
 use Prim.Native.Nat.{ℕ, zero, suc, _+_, _-_, _≤_, _<_}
@@ -107,14 +107,14 @@ module _ (r : Round) (f : Fine r) (o : r .slot ≤ r .last) (rs : List Row) (c :
           ];
         }
 
-    -- ONE OF THE WAYS, where there are rows
-    pub some-sends : (x : Row) → In x (r .rows) → (plain : Bool) × (gone : ℕ) × (xs : List Row) × Sends r (best r (plan r)) plain gone xs
-    some-sends x i =
+    -- ONE OF THE WAYS, where there are rows and the round is unsealed
+    pub some-sends : r .tail .sealed ≢ 1 → (x : Row) → In x (r .rows) → (plain : Bool) × (gone : ℕ) × (xs : List Row) × Sends r (best r (plan r)) plain gone xs
+    some-sends un x i =
         let p = best r (plan r) in
         let l = some-lead x i in
         let u = of-rows-fine r f rs c p (l .inside) in
         elim (ltb? (p .due) z) [
-          | inr h ↦ (false, p .ticket, r .rows, sends-far r f o rs c z k p l (h .1))
+          | inr h ↦ (false, p .ticket, r .rows, sends-far r f o rs c un z k p l (h .1))
           | inl h ↦ near-sends p l (u .due-from) (h .1)
         ]
       where
@@ -130,13 +130,13 @@ module _ (r : Round) (f : Fine r) (o : r .slot ≤ r .last) (rs : List Row) (c :
             elim (ltb? (r .slot) b) [
               | inr g ↦
                   let q : b ≡ r .slot = omega (arith, g .1, st .low) in
-                  (true, p .ticket, r .rows, sends-first r f o rs c z k p l e (en .0) (subst (λ (v : ℕ). Segment r rs v e) q s) (nx .from))
+                  (true, p .ticket, r .rows, sends-first r f o rs c un z k p l e (en .0) (subst (λ (v : ℕ). Segment r rs v e) q s) (nx .from))
               | inl g ↦
                   let t : first-end r (plan r) < p .due = omega (arith, later-segment r f o rs c z k b e (en .0) s (g .1), st .by) in
                   elim (later? r f rs c p t) [
                     | inl d ↦
                         let m = some-least e p (l .inside) (nx .from) in
-                        (false, 0, _, sends-kept r f o rs c z k p l b e (en .0) s (g .1) (st .by) (nx .from) (blank-alone p t d) (m .0) (m .1) (m .2) (m .3))
+                        (false, 0, _, sends-kept r f o rs c un z k p l b e (en .0) s (g .1) (st .by) (nx .from) (blank-alone p t d) (m .0) (m .1) (m .2) (m .3))
                     | inr d ↦
                         let y = substitute r (plan r) p in
                         let v = all-in (Row-fine r) y (r .rows) (f .fine) (d .waiting) in
@@ -150,7 +150,7 @@ module _ (r : Round) (f : Fine r) (o : r .slot ≤ r .last) (rs : List Row) (c :
                           false,
                           p .ticket,
                           _,
-                          sends-row r f o rs c z k p l b e (en .0) s (g .1) (st .by) (nx .from) y (d .waiting) (d .outside) (d .from) (d .most)
+                          sends-row r f o rs c un z k p l b e (en .0) s (g .1) (st .by) (nx .from) y (d .waiting) (d .outside) (d .from) (d .most)
                               (segment-start r (plan r) (y .due)) (tight-after r (plan r) (y .due)) (ey .0) (some-segment (y .due) (v .due-from) yz)
                               (sy .by) (ny .from) (ch .0) (ch .1)
                               (m .0) (m .1) (m .2) (m .3),

@@ -94,9 +94,9 @@ module _ (r : Round) (f : Fine r) (o : r .slot ≤ r .last) where
   pub goes-as-first : r .tail .sealed ≡ 1 → (p : Row) → Goes-first r p → goes r ≡ p
   goes-as-first e p g = first-same r f (goes r) p (goes-first e) g
 
-  pub sealed-ordinary : r .tail .sealed ≡ 1 → is-ordinary r ≡ true
+  pub first-ordinary : r .tail .sealed ≡ 1 → is-ordinary r ≡ true
   unfolding is-ordinary
-  sealed-ordinary e = le-leb (goes r .due) (first-end r (plan r)) (first-due (goes r) (goes-first e))
+  first-ordinary e = le-leb (goes r .due) (first-end r (plan r)) (first-due (goes r) (goes-first e))
 
   module _ (rs : List Row) (c : Rows-of-plan r rs) where
     -- BLANKS are due where rows fill no slot
@@ -181,7 +181,7 @@ module _ (r : Round) (f : Fine r) (o : r .slot ≤ r .last) where
     -- what goes in a leap is a row
     pub leap-goes : is-ordinary r ≡ false → In (goes r) rs
     leap-goes n = elim (eqb? (r .tail .sealed) 1) [
-      | inl a ↦ absurd (true≢false (sym (sealed-ordinary (a .1)) ∙ n))
+      | inl a ↦ absurd (true≢false (sym (first-ordinary (a .1)) ∙ n))
       | inr a ↦ subst (λ (p : Row). In p rs) (sym (unsealed-goes r (a .1))) (of-rows (r .rows) refl)
     ]
       where

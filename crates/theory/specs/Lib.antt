@@ -42,6 +42,7 @@ pub mod Close
 pub mod SlotOver
 pub mod Links
 pub mod LeapRows
+pub mod Ordinary
 pub mod Steps
 pub mod StepsOnly
 pub mod RowByRow
@@ -66,6 +67,7 @@ pub mod Listings
 pub mod Replies
 pub mod Third
 pub mod Opened
+pub mod Sealed
 pub mod PlayedOut
 -- lines
 pub mod Digits

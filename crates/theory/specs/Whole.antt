@@ -23,7 +23,7 @@ use Rattle.theory.specs.Close.{after-slot, closed, sent-ordinary, sent-n
 use Rattle.theory.specs.Near.{Near, far-sent}
 use Rattle.theory.specs.Segments.{Segment, segment-end, segment-begin, first-segment, later-segment, segment-row, segment-none, segment-mark}
 use Rattle.theory.specs.Turn.{unsealed-goes}
-use Rattle.theory.specs.First.{silent-goes, silence-ordinary, first-due, goes-as-first, sealed-ordinary, first-row, first-blank-now, blank-now}
+use Rattle.theory.specs.First.{silent-goes, silence-ordinary, first-due, goes-as-first, first-ordinary, first-row, first-blank-now, blank-now}
 use Rattle.theory.specs.Lead.{Leads, lead-best}
 use Rattle.theory.specs.Sender.{answer-sent}
 
@@ -63,7 +63,7 @@ module _ (r : Round) (f : Fine r) (o : r .slot ≤ r .last) (rs : List Row) (c :
       let g = goes-as-first r f o u p w in
       record {
         goes = g;
-        step = sealed-ordinary r f o u;
+        step = first-ordinary r f o u;
         leaves = sent-ordinary r f rs c p g (first-due r f o p w);
         long = refl;
       }
@@ -76,7 +76,7 @@ module _ (r : Round) (f : Fine r) (o : r .slot ≤ r .last) (rs : List Row) (c :
       let g = goes-as-first r f o u (blank (r .slot)) w in
       record {
         goes = g;
-        step = sealed-ordinary r f o u;
+        step = first-ordinary r f o u;
         leaves = sent-ordinary r f rs c (blank (r .slot)) g (first-due r f o (blank (r .slot)) w);
         long = refl;
       }

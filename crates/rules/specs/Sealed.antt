@@ -50,8 +50,7 @@ pub record Sealed-by (k : ℕ) (u : Setup) (t : List ℕ) (cs xs ys : List Call)
 -- OF A LIST: a sealing ahead of the last slot is accepted; from then on the round is sealed, takings are refused by it,
 -- and every row then in the plan has gone out once its due slot is sent
 pub record Sealed-list (k : ℕ) (u : Setup) (t : List ℕ) (cs : List Call) : Type 0 where
-  pub seals : (xs ys : List Call) → cs ≡ xs ++ (acting sealing ∷ ys) → at k u xs .slot ≤ at k u xs .last →
-      answer (acting sealing) (run xs (left (opening u) t)) ≡ closed
+  pub seals : (xs ys zs : List Call) → cs ≡ xs ++ (acting sealing ∷ (ys ++ zs)) → at k u xs .slot ≤ at k u xs .last → No-opening ys → Sealed-by k u t cs xs ys
   pub stays : (xs ys : List Call) → Sealed-by k u t cs xs ys → at k u (xs ++ (acting sealing ∷ ys)) .tail .sealed ≡ 1
   pub takes-none : (xs ys : List Call) (f : Frame) → Sealed-by k u t cs xs ys → let r = at k u (xs ++ (acting sealing ∷ ys)) in
       r .slot ≤ r .last → answer (acting (taking f)) (run (xs ++ (acting sealing ∷ ys)) (left (opening u) t)) ≡ refused 13

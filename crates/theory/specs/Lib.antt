@@ -68,6 +68,8 @@ pub mod Replies
 pub mod Third
 pub mod Opened
 pub mod Sealed
+pub mod SealedCalls
+pub mod SealedList
 pub mod PlayedOut
 -- lines
 pub mod Digits

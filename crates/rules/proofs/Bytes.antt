@@ -4,24 +4,40 @@ use mathlib.Core.List.{List, [], _∷_, _++_, map}
 use Prim.Native.Nat.{ℕ, _*_, _-_}
 use lib.ListN.{take, replicate}
 use Rattle.rules.specs.Rows.{Round, row, round, frame-tail, blank-tail, unsealed-tail, sealed-tail}
-use Rattle.rules.specs.Table.{low, value, put, row-bytes, rows-bytes, head-bytes, table}
+use Rattle.rules.specs.Steps.{sealed}
+use Rattle.rules.specs.Table.{low, value, field, put, row-bytes, rows-bytes, head-bytes, table, rows-in, rows-of, round-in, length-good, every, rows-good, round-good, same, table-refusal}
+use Rattle.rules.specs.Calls.{first, act, deed, round-refusal, leaves, table-first, refusal, left}
+use Rattle.rules.proofs.Played.{seals}
 
 -- slot 0102, last slot 0304, next ticket 00060608, sealed, one frame and one kept blank in 259 rows (hexadecimal)
 abbrev pub vector-round : Round
 vector-round = round 258 772 394760 259 (row 66051 515 16777216 frame-tail ∷ row 394759 772 197121 blank-tail ∷ []) sealed-tail
 
-abbrev pub vector-bytes : List ℕ
-vector-bytes =
+-- its bytes, whatever byte 10 is
+abbrev pub vector-with : (sealed : ℕ) → List ℕ
+vector-with b =
     -- current slot, last slot, next ticket, rows in use, sealed, zeros
-    2 ∷ 1 ∷ 4 ∷ 3 ∷ 8 ∷ 6 ∷ 6 ∷ 0 ∷ 2 ∷ 0 ∷ 1 ∷ 0 ∷ 0 ∷ 0 ∷ 0 ∷ 0 ∷
+    2 ∷ 1 ∷ 4 ∷ 3 ∷ 8 ∷ 6 ∷ 6 ∷ 0 ∷ 2 ∷ 0 ∷ b ∷ 0 ∷ 0 ∷ 0 ∷ 0 ∷ 0 ∷
     -- ticket, due slot, weight, kind, zeros
     3 ∷ 2 ∷ 1 ∷ 0 ∷ 3 ∷ 2 ∷ 0 ∷ 0 ∷ 0 ∷ 1 ∷ 0 ∷ 0 ∷ 0 ∷ 0 ∷ 0 ∷ 0 ∷ 0 ∷ 0 ∷ 0 ∷ 0 ∷ 0 ∷ 0 ∷ 0 ∷ 0 ∷
     7 ∷ 6 ∷ 6 ∷ 0 ∷ 4 ∷ 3 ∷ 1 ∷ 2 ∷ 3 ∷ 0 ∷ 1 ∷ 0 ∷ 0 ∷ 0 ∷ 0 ∷ 0 ∷ 0 ∷ 0 ∷ 0 ∷ 0 ∷ 0 ∷ 0 ∷ 0 ∷ 0 ∷
     replicate (24 * 257) 0
 
-pub vector-written : table vector-round ≡ vector-bytes
+pub vector-written : table vector-round ≡ vector-with 1
 unfolding row round low put row-bytes rows-bytes head-bytes table
 vector-written = refl
+
+-- SEALING sets byte 10 and no other, and a sealed table stays as it is
+pub vector-sealed : map (left seals) (vector-with 0 ∷ vector-with 1 ∷ []) ≡ vector-with 1 ∷ vector-with 1 ∷ []
+unfolding row round low value field put row-bytes rows-bytes head-bytes table rows-in rows-of round-in length-good every rows-good round-good same
+    table-refusal first sealed act deed round-refusal leaves table-first refusal left
+vector-sealed = refl
+
+-- 0 and 1 in byte 10 are sound, and nothing else is
+pub vector-sound : map table-refusal (map vector-with (0 ∷ 1 ∷ 2 ∷ 3 ∷ 128 ∷ 255 ∷ [])) ≡ 0 ∷ 0 ∷ 3 ∷ 3 ∷ 3 ∷ 3 ∷ []
+unfolding row round low value field put row-bytes rows-bytes head-bytes table rows-in rows-of round-in length-good every rows-good round-good same
+    table-refusal
+vector-sound = refl
 
 -- and the head alone with 0102 rows in use, unsealed
 pub vector-head : take 16 (table (round 258 772 394760 259 (replicate 258 (row 1 515 1 frame-tail)) unsealed-tail)) ≡ 2 ∷ 1 ∷ 4 ∷ 3 ∷ 8 ∷ 6 ∷ 6 ∷ 0 ∷ 2 ∷ 1 ∷ replicate 6 0

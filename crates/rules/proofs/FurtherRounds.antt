@@ -10,7 +10,7 @@ use Rattle.rules.specs.Steps.{opened, taken, sealed, changed, without, h
 use Rattle.rules.specs.Table.{low, value, field, put, row-bytes, rows-bytes, head-bytes, table, rows-in, rows-of, round-in, length-good, every, rows-good, round-good, same, table-refusal}
 use Rattle.rules.specs.Calls.{frame, kept-blank, ordinary, leap, refused, done, ticket, step, amount, blank-due, number-of, first, act, question, deed, round-refusal, out-of, says, leaves, table-first, refusal, answer, left}
 use Rattle.rules.specs.Looking.{with-ticket, stand-in, substitute-answer, list-refusal, list-answer, list-left, shows}
-use Rattle.rules.proofs.Played.{opens, takes, sends, marks, totals, plain, waits, keeps, old, turn, listing, substituting, lists, refuses, Hand, found, played}
+use Rattle.rules.proofs.Played.{opens, takes, sends, seals, marks, totals, plain, plain-sealed, waits, keeps, old, turn, listing, substituting, lists, refuses, Hand, found, played}
 
 -- what waits in P4 before its sending
 abbrev pub p4-rows : List Row
@@ -216,12 +216,12 @@ further-rounds =
           lists 1 (refused 3) (old 0 ∷ []) ∷
           [];
     } ∷
-    -- each number by its condition, in its order, and every byte as it was: 2, 3, 5, 6, 7, 8 and 9, and 4
-    record { start = replicate 41 7; turns = refuses (opens 4096) 2 true ∷ refuses (takes 9 0) 2 true ∷ refuses sends 2 true ∷ [] } ∷
+    -- each number by its condition, in its order, and every byte as it was: 2, 3, 5, 6, 7, 8 and 9, and 4; 13 below
+    record { start = replicate 41 7; turns = refuses (opens 4096) 2 true ∷ refuses (takes 9 0) 2 true ∷ refuses sends 2 true ∷ refuses seals 2 true ∷ [] } ∷
     record { start = replicate 41 7; turns = refuses (marks 9) 2 true ∷ refuses totals 2 true ∷ substituting 9 (refused 2) ∷ lists 0 (refused 2) [] ∷ [] } ∷
-    record { start = found; turns = refuses (opens 4096) 4 true ∷ refuses (takes 9 0) 3 true ∷ refuses sends 3 true ∷ [] } ∷
+    record { start = found; turns = refuses (opens 4096) 4 true ∷ refuses (takes 9 0) 3 true ∷ refuses sends 3 true ∷ refuses seals 3 true ∷ [] } ∷
     record { start = found; turns = refuses (marks 9) 3 true ∷ refuses totals 3 true ∷ substituting 9 (refused 3) ∷ [] } ∷
-    record { start = table (plain 3 2 9 8 []); turns = refuses (takes 9 0) 5 true ∷ refuses sends 5 true ∷ [] } ∷
+    record { start = table (plain 3 2 9 8 []); turns = refuses (takes 9 0) 5 true ∷ refuses sends 5 true ∷ refuses seals 5 true ∷ [] } ∷
     record { start = table (plain 3 2 9 8 []); turns = refuses (marks 9) 5 true ∷ refuses totals 5 true ∷ substituting 9 (refused 5) ∷ [] } ∷
     record {
       start = table (plain 1 2 16777216 1 (waits 1 2 5 ∷ []));
@@ -237,6 +237,32 @@ further-rounds =
           [];
     } ∷
     record { start = table (plain 1 2 16777215 1 (waits 1 2 5 ∷ [])); turns = refuses (takes 1 1) 9 true ∷ [] } ∷
+    -- sealed: 5 comes before 13, and 13 before 6, 7, 8 and 9, each alone and all at once; nothing else gets it
+    record { start = table (plain-sealed 3 2 9 8 []); turns = refuses (takes 9 0) 5 true ∷ refuses (takes 2 1) 5 true ∷ refuses sends 5 true ∷ refuses seals 5 true ∷ [] } ∷
+    record {
+      start = table (plain-sealed 1 2 16777216 1 (waits 1 2 5 ∷ []));
+      turns =
+          refuses (takes 0 0) 13 true ∷
+          refuses (takes 3 16777217) 13 true ∷
+          refuses (takes 1 1) 13 true ∷
+          refuses (marks 0) 7 true ∷
+          refuses (marks 3) 7 true ∷
+          refuses (opens 4096) 4 true ∷
+          [];
+    } ∷
+    record { start = table (plain-sealed 1 2 16777215 1 (waits 1 2 5 ∷ [])); turns = refuses (takes 1 1) 13 true ∷ [] } ∷
+    record {
+      start = table (plain-sealed 1 2 2 8 (waits 1 2 5 ∷ []));
+      turns =
+          refuses (takes 1 0) 13 true ∷
+          refuses (takes 1 16777217) 13 true ∷
+          refuses (takes 0 1) 13 true ∷
+          refuses (takes 3 1) 13 true ∷
+          refuses (takes 1 1) 13 true ∷
+          substituting 9 (refused 10) ∷
+          lists 0 (refused 12) [] ∷
+          [];
+    } ∷
     []
 
 -- THE FACT: played by the definitions, each is as written

@@ -1,6 +1,7 @@
 pub mod Played
 pub mod Rounds
 pub mod FurtherRounds
+pub mod SealedRounds
 pub mod HindsightRounds
 pub mod ListShapes
 pub mod Bytes

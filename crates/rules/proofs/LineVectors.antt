@@ -68,10 +68,22 @@ lines-read =
     reads (48 ∷ 48 ∷ 48 ∷ 70 ∷ 70 ∷ 70 ∷ 48 ∷ 48 ∷ 10 ∷ []) broken 1 0 0 [] ∷
     reads (48 ∷ 50 ∷ 10 ∷ []) (command send-line) 0 0 0 [] ∷
     reads (48 ∷ 50 ∷ 48 ∷ 48 ∷ 10 ∷ []) broken 1 0 0 [] ∷
-    -- a sealing
+    -- a sealing; with one digit more, with payload digits, with lower-case ones; a 3 alone, two sealings in a line, no 0A, a 0D before it
     reads (48 ∷ 51 ∷ 10 ∷ []) (command seal-line) 0 0 0 [] ∷
-    -- no line of number 04 or 20; no 0A, none at the end, a 0D before it; empty
+    reads (48 ∷ 51 ∷ 48 ∷ 10 ∷ []) broken 1 0 0 [] ∷
+    reads (48 ∷ 51 ∷ 65 ∷ 66 ∷ 10 ∷ []) broken 1 0 0 [] ∷
+    reads (48 ∷ 51 ∷ 97 ∷ 98 ∷ 10 ∷ []) broken 1 0 0 [] ∷
+    reads (51 ∷ 10 ∷ []) broken 1 0 0 [] ∷
+    reads (48 ∷ 51 ∷ 48 ∷ 51 ∷ 10 ∷ []) broken 1 0 0 [] ∷
+    reads (48 ∷ 51 ∷ []) broken 1 0 0 [] ∷
+    reads (48 ∷ 51 ∷ 13 ∷ 10 ∷ []) broken 1 0 0 [] ∷
+    reads (48 ∷ 51 ∷ 10 ∷ 10 ∷ []) broken 1 0 0 [] ∷
+    -- digits of line 03 and the length of 00 or 01: a slot, and a slot with a weight
+    reads (48 ∷ 51 ∷ 48 ∷ 48 ∷ 48 ∷ 49 ∷ 10 ∷ []) broken 1 0 0 [] ∷
+    reads (48 ∷ 51 ∷ 48 ∷ 49 ∷ 48 ∷ 50 ∷ 48 ∷ 65 ∷ 48 ∷ 66 ∷ 48 ∷ 67 ∷ 48 ∷ 68 ∷ 10 ∷ []) broken 1 0 0 [] ∷
+    -- no line of number 04, 30 or 20; no 0A, none at the end, a 0D before it; empty
     reads (48 ∷ 52 ∷ 10 ∷ []) broken 1 0 0 [] ∷
+    reads (51 ∷ 48 ∷ 10 ∷ []) broken 1 0 0 [] ∷
     reads (50 ∷ 48 ∷ 10 ∷ []) broken 1 0 0 [] ∷
     reads (48 ∷ 50 ∷ []) broken 1 0 0 [] ∷
     reads (48 ∷ 50 ∷ 10 ∷ 48 ∷ []) broken 1 0 0 [] ∷
@@ -126,13 +138,18 @@ lines-written =
     writes (take-line 1 4294967296) [] 20 (refused 1) (sevens 20) ∷
     -- every digit by its value
     writes (take-line 13398 2023406814) [] 15 (amount 15) (48 ∷ 49 ∷ 51 ∷ 52 ∷ 53 ∷ 54 ∷ 55 ∷ 56 ∷ 57 ∷ 65 ∷ 66 ∷ 67 ∷ 68 ∷ 69 ∷ 10 ∷ []) ∷
-    -- an opening and a sending have no payload
+    -- an opening, a sending and a sealing have no payload
     writes (open-line 4095) [] 8 (amount 7) (48 ∷ 48 ∷ 48 ∷ 70 ∷ 70 ∷ 70 ∷ 10 ∷ 7 ∷ []) ∷
     writes (open-line 4095) (48 ∷ 48 ∷ []) 9 (refused 1) (sevens 9) ∷
     writes (open-line 65536) [] 9 (refused 1) (sevens 9) ∷
     writes send-line [] 3 (amount 3) (48 ∷ 50 ∷ 10 ∷ []) ∷
     writes send-line [] 2 (refused 12) (sevens 2) ∷
     writes send-line (48 ∷ 48 ∷ []) 9 (refused 1) (sevens 9) ∷
+    writes seal-line [] 3 (amount 3) (48 ∷ 51 ∷ 10 ∷ []) ∷
+    writes seal-line [] 5 (amount 3) (48 ∷ 51 ∷ 10 ∷ 7 ∷ 7 ∷ []) ∷
+    writes seal-line [] 2 (refused 12) (sevens 2) ∷
+    writes seal-line (48 ∷ 48 ∷ []) 9 (refused 1) (sevens 9) ∷
+    writes seal-line (48 ∷ []) 2 (refused 1) (sevens 2) ∷
     []
 
 pub lines-written-by-hand : written-by lines-written ≡ lines-written

@@ -4,10 +4,10 @@ use mathlib.Core.List.{List, [], _∷_, map}
 use Prim.Native.Nat.{ℕ, zero, suc, _+_, _*_}
 use lib.ListN.{replicate}
 use Rattle.rules.specs.Limits.{head-size, row-size}
-use Rattle.rules.specs.Rows.{Row, Round, row, round, until, framed, slots-left, frame-tail, blank-tail, unsealed-tail}
+use Rattle.rules.specs.Rows.{Row, Round, row, round, until, framed, slots-left, frame-tail, blank-tail, unsealed-tail, sealed-tail}
 use Rattle.rules.specs.Plan.{mark, listed}
 use Rattle.rules.specs.Table.{round-in, same}
-use Rattle.rules.specs.Calls.{taking, sending, marking, totalling, Call, opening, acting, asking, Reply, number-of, answer, left}
+use Rattle.rules.specs.Calls.{taking, sending, sealing, marking, totalling, Call, opening, acting, asking, Reply, number-of, answer, left}
 use Rattle.rules.specs.Looking.{substitute-answer, list-answer, list-left, the-plan, shows}
 
 -- the calls by their arguments
@@ -20,15 +20,21 @@ takes d w = acting (taking (framed d w))
 abbrev pub sends : Call
 sends = acting sending
 
+abbrev pub seals : Call
+seals = acting sealing
+
 abbrev pub marks : (slot : ℕ) → Call
 marks s = asking (marking s)
 
 abbrev pub totals : Call
 totals = asking totalling
 
--- a round of some rows
+-- a round of some rows, unsealed and sealed
 abbrev pub plain : (slot last next room : ℕ) → List Row → Round
 plain t l n k xs = round t l n k xs unsealed-tail
+
+abbrev pub plain-sealed : (slot last next room : ℕ) → List Row → Round
+plain-sealed t l n k xs = round t l n k xs sealed-tail
 
 -- a waiting frame and a kept blank: ticket, due slot, weight
 abbrev pub waits : (ticket due weight : ℕ) → Row
@@ -49,13 +55,15 @@ lent (suc n) = old n ∷ lent n
 -- or the tickets of the plan in canonical order with the substitute of each;
 -- or the substitute asked of a ticket, with the reply;
 -- or the plan listed into so many entries, with the reply and all entries afterwards;
--- or a call that is refused by a number, and whether every byte is as it was
+-- or a call that is refused by a number, and whether every byte is as it was;
+-- or the head: current slot, last slot, next ticket, and whether it is sealed
 pub data Turn : Type 0 where
   turn : Call → Reply → (rows : List Row) → (marks : List ℕ) → Turn
   listing : (tickets : List ℕ) → (substitutes : List Reply) → Turn
   substituting : (ticket : ℕ) → Reply → Turn
   lists : (room : ℕ) → Reply → (entries : List Row) → Turn
   refuses : Call → (number : ℕ) → (unchanged : Bool) → Turn
+  head : (slot last next sealed : ℕ) → Turn
 
 -- A ROUND BY HAND: a table and turns on it
 pub record Hand : Type 0 where
@@ -87,6 +95,8 @@ replayed t (substituting k a ∷ ts) = substituting k (substitute-answer k t) �
 replayed t (lists n a es ∷ ts) =
     lists n (list-answer (shows the-plan) t n) (list-left (shows the-plan) (λ (x : Row). x) t (lent n)) ∷ replayed t ts
 replayed t (refuses c n b ∷ ts) = refuses c (number-of (answer c t)) (same (left c t) t) ∷ replayed t ts
+replayed t (head s l n b ∷ ts) =
+    let r = round-in t in head (r .slot) (r .last) (r .next) (r .tail .sealed) ∷ replayed t ts
 
 abbrev pub played : List Hand → List Hand
 played [] = []

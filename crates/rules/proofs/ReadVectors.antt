@@ -170,6 +170,26 @@ reads =
       over = true;
       rows = [];
     } ∷
+    -- a sealing cut into two reads, a taking after it that gets 13, a second sealing, and silence
+    record {
+      reads =
+          (48 ∷ 48 ∷ 48 ∷ 48 ∷ 48 ∷ 49 ∷ 10 ∷ 48 ∷ []) ∷
+          (51 ∷ 10 ∷ 48 ∷ 49 ∷ 48 ∷ 48 ∷ 48 ∷ 48 ∷ 48 ∷ 48 ∷ 48 ∷ 48 ∷ 48 ∷ 48 ∷ []) ∷
+          (48 ∷ 52 ∷ 10 ∷ 48 ∷ []) ∷
+          (51 ∷ 10 ∷ 48 ∷ 50 ∷ 10 ∷ []) ∷
+          [] ∷
+          [];
+      writes =
+          (48 ∷ 48 ∷ 10 ∷ []) ∷
+          (48 ∷ 51 ∷ 10 ∷ []) ∷
+          (70 ∷ 70 ∷ 48 ∷ 68 ∷ 10 ∷ []) ∷
+          (48 ∷ 51 ∷ 10 ∷ 48 ∷ 50 ∷ 48 ∷ 48 ∷ 48 ∷ 48 ∷ 48 ∷ 48 ∷ 48 ∷ 48 ∷ 48 ∷ 48 ∷ 48 ∷ 48 ∷ 10 ∷ []) ∷
+          [] ∷
+          [];
+      held = [];
+      over = true;
+      rows = [];
+    } ∷
     -- empty input
     record {
       reads =

@@ -112,16 +112,83 @@ one-refused =
     70 ∷ 70 ∷ 48 ∷ 49 ∷ 10 ∷
     []
 
+-- L1: 03 seals and prints 03, twice; a taking prints FF0D, also with every row in use; the sample then goes in canonical order; 03 prints FF03 and FF05
+abbrev pub closing : List ℕ
+closing =
+    48 ∷ 51 ∷ 10 ∷
+    48 ∷ 48 ∷ 48 ∷ 48 ∷ 48 ∷ 49 ∷ 10 ∷
+    48 ∷ 49 ∷ 48 ∷ 48 ∷ 48 ∷ 48 ∷ 48 ∷ 48 ∷ 48 ∷ 48 ∷ 48 ∷ 48 ∷ 48 ∷ 52 ∷ 10 ∷
+    48 ∷ 49 ∷ 48 ∷ 48 ∷ 48 ∷ 49 ∷ 48 ∷ 48 ∷ 48 ∷ 48 ∷ 48 ∷ 48 ∷ 48 ∷ 66 ∷ 65 ∷ 66 ∷ 10 ∷
+    48 ∷ 51 ∷ 10 ∷
+    48 ∷ 51 ∷ 10 ∷
+    48 ∷ 49 ∷ 48 ∷ 48 ∷ 48 ∷ 48 ∷ 48 ∷ 48 ∷ 48 ∷ 48 ∷ 48 ∷ 48 ∷ 48 ∷ 49 ∷ 10 ∷
+    48 ∷ 50 ∷ 10 ∷
+    48 ∷ 50 ∷ 10 ∷
+    48 ∷ 51 ∷ 10 ∷
+    []
+
+abbrev pub closing-printed : List ℕ
+closing-printed =
+    70 ∷ 70 ∷ 48 ∷ 51 ∷ 10 ∷
+    48 ∷ 48 ∷ 10 ∷
+    48 ∷ 49 ∷ 48 ∷ 48 ∷ 48 ∷ 48 ∷ 48 ∷ 48 ∷ 48 ∷ 49 ∷ 10 ∷
+    48 ∷ 49 ∷ 48 ∷ 48 ∷ 48 ∷ 48 ∷ 48 ∷ 48 ∷ 48 ∷ 50 ∷ 10 ∷
+    48 ∷ 51 ∷ 10 ∷
+    48 ∷ 51 ∷ 10 ∷
+    70 ∷ 70 ∷ 48 ∷ 68 ∷ 10 ∷
+    48 ∷ 50 ∷ 48 ∷ 49 ∷ 48 ∷ 48 ∷ 48 ∷ 48 ∷ 48 ∷ 48 ∷ 48 ∷ 48 ∷ 48 ∷ 49 ∷ 10 ∷
+    48 ∷ 50 ∷ 48 ∷ 49 ∷ 48 ∷ 48 ∷ 48 ∷ 48 ∷ 48 ∷ 48 ∷ 48 ∷ 48 ∷ 48 ∷ 50 ∷ 10 ∷
+    70 ∷ 70 ∷ 48 ∷ 53 ∷ 10 ∷
+    []
+
+-- a sealed round sends silence first; opened anew it takes and leaps; line 04 is none
+abbrev pub sealed-anew : List ℕ
+sealed-anew =
+    48 ∷ 48 ∷ 48 ∷ 48 ∷ 48 ∷ 49 ∷ 10 ∷
+    48 ∷ 49 ∷ 48 ∷ 48 ∷ 48 ∷ 49 ∷ 48 ∷ 48 ∷ 48 ∷ 48 ∷ 48 ∷ 48 ∷ 48 ∷ 53 ∷ 10 ∷
+    48 ∷ 51 ∷ 10 ∷
+    48 ∷ 50 ∷ 10 ∷
+    48 ∷ 48 ∷ 48 ∷ 48 ∷ 48 ∷ 49 ∷ 10 ∷
+    48 ∷ 49 ∷ 48 ∷ 48 ∷ 48 ∷ 48 ∷ 48 ∷ 48 ∷ 48 ∷ 48 ∷ 48 ∷ 48 ∷ 48 ∷ 52 ∷ 10 ∷
+    48 ∷ 49 ∷ 48 ∷ 48 ∷ 48 ∷ 49 ∷ 48 ∷ 48 ∷ 48 ∷ 48 ∷ 48 ∷ 48 ∷ 48 ∷ 66 ∷ 10 ∷
+    48 ∷ 50 ∷ 10 ∷
+    []
+
+abbrev pub sealed-anew-printed : List ℕ
+sealed-anew-printed =
+    48 ∷ 48 ∷ 10 ∷
+    48 ∷ 49 ∷ 48 ∷ 48 ∷ 48 ∷ 48 ∷ 48 ∷ 48 ∷ 48 ∷ 49 ∷ 10 ∷
+    48 ∷ 51 ∷ 10 ∷
+    48 ∷ 50 ∷ 48 ∷ 48 ∷ 48 ∷ 48 ∷ 48 ∷ 48 ∷ 48 ∷ 48 ∷ 48 ∷ 48 ∷ 48 ∷ 48 ∷ 10 ∷
+    48 ∷ 48 ∷ 10 ∷
+    48 ∷ 49 ∷ 48 ∷ 48 ∷ 48 ∷ 48 ∷ 48 ∷ 48 ∷ 48 ∷ 49 ∷ 10 ∷
+    48 ∷ 49 ∷ 48 ∷ 48 ∷ 48 ∷ 48 ∷ 48 ∷ 48 ∷ 48 ∷ 50 ∷ 10 ∷
+    48 ∷ 50 ∷ 48 ∷ 49 ∷ 48 ∷ 49 ∷ 48 ∷ 48 ∷ 48 ∷ 48 ∷ 48 ∷ 48 ∷ 48 ∷ 50 ∷ 10 ∷
+    []
+
+abbrev pub unnumbered : List ℕ
+unnumbered =
+    48 ∷ 48 ∷ 48 ∷ 48 ∷ 48 ∷ 49 ∷ 10 ∷
+    48 ∷ 52 ∷ 10 ∷
+    []
+
+abbrev pub unnumbered-printed : List ℕ
+unnumbered-printed =
+    48 ∷ 48 ∷ 10 ∷
+    70 ∷ 70 ∷ 48 ∷ 49 ∷ 10 ∷
+    []
+
 abbrev pub shown : List ℕ → List ℕ
 shown input = printed-from (lines-from [] input) zeroed
 
 -- THE FACT: each prints as written
 abbrev pub inputs : List (List ℕ)
-inputs = sample ∷ over ∷ early ∷ first-goes ∷ good-behind ∷ empty-line ∷ return-line ∷ [] ∷ []
+inputs = sample ∷ over ∷ early ∷ first-goes ∷ good-behind ∷ empty-line ∷ return-line ∷ [] ∷ closing ∷ sealed-anew ∷ unnumbered ∷ []
 
 abbrev pub outputs : List (List ℕ)
 outputs =
-    sample-printed ∷ over-printed ∷ early-printed ∷ first-goes-printed ∷ good-behind-printed ∷ one-refused ∷ one-refused ∷ [] ∷ []
+    sample-printed ∷ over-printed ∷ early-printed ∷ first-goes-printed ∷ good-behind-printed ∷ one-refused ∷ one-refused ∷ [] ∷ closing-printed
+    ∷ sealed-anew-printed ∷ unnumbered-printed ∷ []
 
 pub lines-by-hand : map shown inputs ≡ outputs
 unfolding row blank round slots-left heavier canonical into sorted due-by fits-from feasible kept blanks-from plan total-weight tight tight-from

@@ -6,16 +6,17 @@ use Prim.Native.Nat.{ℕ, suc, _≤_}
 use native.Mathlib.Omega.{arith}
 use Rattle.rules.specs.Rows.{In, Round, Row, row}
 use Rattle.rules.specs.Plan.{first-end, plan}
-use Rattle.rules.specs.Steps.{sent}
+use Rattle.rules.specs.Steps.{goes, sent}
 use Rattle.rules.specs.Calls.{frame, out-of}
-use Rattle.rules.specs.StepsOf.{Becomes, Chain, Every, Goes-out, Leap, Leaves, Other, Shift, Shifted, Unchanged, end-of, goes, stands-in}
+use Rattle.rules.specs.StepsOf.{Becomes, Chain, Every, Goes-out, Leap, Leaves, Other, Shift, Shifted, Unchanged, end-of, stands-in}
 use Rattle.rules.specs.Hindsight.{counts-for}
 use Rattle.theory.specs.Tests.{eqb?, leb?}
 use Rattle.theory.specs.All.{blank-ticket}
 use Rattle.theory.specs.Full.{Fine, plan-member}
 use Rattle.theory.specs.Change.{rising-same}
+use Rattle.theory.specs.Turn.{goes-in}
 use Rattle.theory.specs.RowByRow.{nothing-else}
-use Rattle.theory.specs.Steps.{goes-in, makes}
+use Rattle.theory.specs.Steps.{makes}
 
 -- WHERE A FRAME THAT WAITS COMES FROM: a frame of the round before, its ticket the same and its due slot no earlier; not what goes out
 abbrev pub Was : Round → Row → Row → Type 0

@@ -1,14 +1,14 @@
--- A leap as a step, and every step.
+-- A leap as a step, and every step of an unsealed round.
 use mathlib.Core.Path.{_≡_, refl, sym, ap, _∙_, subst}
-use mathlib.Core.Logic.{_⊎_, inl, inr}
+use mathlib.Core.Logic.{_⊎_, inl, inr, _≢_}
 use mathlib.Core.List.{List}
 use Prim.Native.Nat.{ℕ, zero, suc, _+_, _*_, _-_, _≤_, _<_}
 use native.Mathlib.Omega.{arith}
 use borrow.Author.Tests.{lt-leb}
 use Rattle.rules.specs.Limits.{most-weight}
 use Rattle.rules.specs.Rows.{All, In, Round, Row, blank}
-use Rattle.rules.specs.Plan.{best, first-end, mark, plan, planned, segment-start, substitute, tight-after}
-use Rattle.rules.specs.Steps.{is-ordinary, leapt}
+use Rattle.rules.specs.Plan.{first-end, mark, plan, planned, segment-start, substitute, tight-after}
+use Rattle.rules.specs.Steps.{goes, is-ordinary, leapt}
 use Rattle.theory.specs.Tests.{leb?}
 use Rattle.theory.specs.Sum.{sum}
 use Rattle.theory.specs.All.{all-in, all-of-in}
@@ -17,11 +17,11 @@ use Rattle.theory.specs.Full.{Fine, outside, plan-due, plan-feas, plan-full}
 use Rattle.theory.specs.Marks.{Next-tight, Start, next, start}
 use Rattle.theory.specs.Send.{Waits-outside, outside-in}
 use Rattle.theory.specs.Leap.{After-leap, outside-heavy}
+use Rattle.theory.specs.Turn.{goes-in}
 use Rattle.theory.specs.Calls.{sent-rows}
 use Rattle.theory.specs.Members.{of-rows-in, planned-rows}
 use Rattle.theory.specs.Substitute.{first-weight, later-is}
-use Rattle.theory.specs.Best.{leap-goes}
-use Rattle.theory.specs.Picks.{best-picked}
+use Rattle.theory.specs.First.{leap-goes}
 use Rattle.theory.specs.MarksFall.{mark-falls}
 use Rattle.hindsight.specs.Worth.{worth}
 use Rattle.hindsight.specs.Fibonacci.{fib-50, fib-51, fib-52, fib-53, fib-54, pair-50, pair-52}
@@ -77,14 +77,14 @@ start-past r f o p h l k =
     ]
 
 -- no member due by the end of the substitute's segment is heavier than the row sent
-pub none-heavier : (r : Round) → Fine r → r .slot ≤ r .last → first-end r (plan r) < best r (plan r) .due →
-    All (λ y. y .due ≤ tight-after r (plan r) (substitute r (plan r) (best r (plan r)) .due) → y .weight ≤ best r (plan r) .weight) (plan r)
+pub none-heavier : (r : Round) → Fine r → r .tail .sealed ≢ 1 → r .slot ≤ r .last → first-end r (plan r) < goes r .due →
+    All (λ y. y .due ≤ tight-after r (plan r) (substitute r (plan r) (goes r) .due) → y .weight ≤ goes r .weight) (plan r)
 unfolding blank mark
-none-heavier r f o h =
-    let p = best r (plan r) in
+none-heavier r f u o h =
+    let p = goes r in
     let s = substitute r (plan r) p in
     all-of-in (λ y. y .due ≤ tight-after r (plan r) (s .due) → y .weight ≤ p .weight) (plan r) (λ y j k.
-    no-heavier r f o y j (elim (standing-in r p h) [
+    no-heavier r f u o y j (elim (standing-in r p h) [
       | inl a ↦ omega (arith, ap (λ (z : Row). z .weight) a)
       | inr a ↦
           let oo = all-in (Row-fine r) s (r .rows) (f .fine) (a .0) in
@@ -107,18 +107,18 @@ none-heavier r f o h =
           ]
     ]))
 
-module _ (r : Round) (f : Fine r) (o : r .slot ≤ r .last) (es : List Stash-entry) (fs : List Row) (w : Own-slot r es fs)
-    (h : first-end r (plan r) < best r (plan r) .due) where
+module _ (r : Round) (f : Fine r) (unsealed : r .tail .sealed ≢ 1) (o : r .slot ≤ r .last) (es : List Stash-entry) (fs : List Row)
+    (w : Own-slot r es fs) (h : first-end r (plan r) < goes r .due) where
   -- the rows after the step are those after the leap
-  leap-sums : (μ : Row → ℕ) → sum μ (sent-rows r) ≡ sum μ (After-leap r (best r (plan r)) (substitute r (plan r) (best r (plan r))))
+  leap-sums : (μ : Row → ℕ) → sum μ (sent-rows r) ≡ sum μ (After-leap r (goes r) (substitute r (plan r) (goes r)))
   unfolding leapt
-  leap-sums μ = rw (lt-leb (best r (plan r) .due) (first-end r (plan r)) h) refl
+  leap-sums μ = rw (lt-leb (goes r .due) (first-end r (plan r)) h) refl
 
   -- from the leap to the step
-  made-of : Leap-made r (best r (plan r)) (substitute r (plan r) (best r (plan r))) (w .free) (w .rest) → Step-made r es fs
+  made-of : Leap-made r (goes r) (substitute r (plan r) (goes r)) (w .free) (w .rest) → Step-made r es fs
   made-of u =
       let e = suc (r .last) in
-      let p = best r (plan r) in
+      let p = goes r in
       let s = substitute r (plan r) p in
       let z = after-step r f o (u .zs) (u .xs) (u .good) (λ μ. u .sums μ ∙ sym (leap-sums μ)) in
       record {
@@ -133,25 +133,25 @@ module _ (r : Round) (f : Fine r) (o : r .slot ≤ r .last) (es : List Stash-ent
         bound = leap-bound (worth (r .slot) e fs) (worth (r .slot) e (w .free)) (worth (suc (r .slot)) e (w .free)) (worth (suc (r .slot)) e (u .xs))
             (worth (suc (r .slot)) e (z .free)) (w .credit) (p .weight) (s .weight) (mark r (r .slot)) (u .got) (u .given) (u .cost) (u .gain) (u .rise)
             (u .pending) (u .anchor) (u .mh) (w .bound) (worth-time r f o (w .free) (held (w .rest)) (w .split)) (u .worthy) (z .worthy) (u .balance)
-            (u .anchored) (u .rise-most) (u .under) (u .pending-most) (u .first) (picked-first fib-50 fib-51 pair-50 r f o)
-            (picked-first fib-52 fib-53 pair-52 r f o);
+            (u .anchored) (u .rise-most) (u .under) (u .pending-most) (u .first) (picked-first fib-50 fib-51 pair-50 r f unsealed o)
+            (picked-first fib-52 fib-53 pair-52 r f unsealed o);
       }
 
   -- the row sent waits
-  leap-waits : In (best r (plan r)) (r .rows) → Step-made r es fs
+  leap-waits : In (goes r) (r .rows) → Step-made r es fs
   unfolding blank
   leap-waits ir =
-      let p = best r (plan r) in
+      let p = goes r in
       let s = substitute r (plan r) p in
       let b = segment-start r (plan r) (p .due) in
-      let i = best-picked r f o .0 in
+      let i = goes-in r f o in
       let u = all-in (λ x. (r .slot ≤ x .due) × (x .due ≤ r .last)) p (plan r) (plan-due r f) i in
       let st = start r (plan r) (p .due) (plan-feas r f) (f .time) (u .0) in
       let sp : Segment-start r p b = record { inside = i; waits = ir; start = st; low = start-past r f o p h (u .1) (u .0); by = u .1 } in
       let sn = stands-from r f o p i in
       let out : (w : ℕ) → 1 ≤ w → w ≤ most-weight → s .weight < w → All (λ y. w ≤ y .weight → y .due < b) (outside r) = λ w a l k.
       subst (λ (z : ℕ). All (λ y. w ≤ y .weight → y .due < z) (outside r)) (stand-ins-later r p h) (sn .out w a l k) in
-      let tp = none-heavier r f o h in
+      let tp = none-heavier r f unsealed o h in
       elim (standing-in r p h) [
         | inl a ↦ made-of (subst (λ (z : Row). Leap-made r p z (w .free) (w .rest)) (sym a)
             (leap-to-blank r f o p b sp (w .free) (w .rest) (w .split) (w .good)
@@ -165,14 +165,14 @@ module _ (r : Round) (f : Fine r) (o : r .slot ≤ r .last) (es : List Stash-ent
   unfolding is-ordinary
   leap-step =
       let c = planned-rows r f in
-      let i = leap-goes r f o (planned r) c (lt-leb (best r (plan r) .due) (first-end r (plan r)) h) in
-      leap-waits (of-rows-in r f (planned r) c (best r (plan r)) i)
+      let i = leap-goes r f o (planned r) c (lt-leb (goes r .due) (first-end r (plan r)) h) in
+      leap-waits (of-rows-in r f (planned r) c (goes r) i)
 
 -- A STEP, ordinary or a leap
-pub step-made : (r : Round) (f : Fine r) → r .slot ≤ r .last → (es : List Stash-entry) (fs : List Row) → State r es fs → Step-made r es fs
-step-made r f o es fs st =
-    let w = own-slot r f o es fs st in
-    elim (leb? (best r (plan r) .due) (first-end r (plan r))) [
-      | inl a ↦ ordinary-step r f o es fs w (a .1)
-      | inr a ↦ leap-step r f o es fs w (a .1)
+pub step-made : (r : Round) (f : Fine r) → r .tail .sealed ≢ 1 → r .slot ≤ r .last → (es : List Stash-entry) (fs : List Row) → State r es fs → Step-made r es fs
+step-made r f u o es fs st =
+    let w = own-slot r f u o es fs st in
+    elim (leb? (goes r .due) (first-end r (plan r))) [
+      | inl a ↦ ordinary-step r f u o es fs w (a .1)
+      | inr a ↦ leap-step r f u o es fs w (a .1)
     ]

@@ -1,24 +1,24 @@
--- An ordinary step: the row sent is a blank, held by the rival, or free.
+-- An ordinary step of an unsealed round: the row sent is a blank, held by the rival, or free.
 use mathlib.Core.Path.{_≡_, refl, ap, _∙_}
-use mathlib.Core.Logic.{inl, inr}
+use mathlib.Core.Logic.{inl, inr, _≢_}
 use mathlib.Core.List.{List, _∷_}
 use Prim.Native.Nat.{ℕ, suc, _+_, _*_, _-_, _≤_, _<_}
 use native.Mathlib.Omega.{arith}
 use borrow.Author.Tests.{le-leb}
 use Rattle.rules.specs.Limits.{most-weight}
 use Rattle.rules.specs.Rows.{All, In, Round, Row}
-use Rattle.rules.specs.Plan.{best, first-end, mark, plan, substitute}
-use Rattle.rules.specs.Steps.{without}
+use Rattle.rules.specs.Plan.{first-end, mark, plan, substitute}
+use Rattle.rules.specs.Steps.{goes, without}
 use Rattle.theory.specs.Sum.{sum}
 use Rattle.theory.specs.All.{all-in, blank-ticket, blank-weight}
 use Rattle.theory.specs.Full.{Fine, plan-due, plan-member}
 use Rattle.theory.specs.Marks.{box}
 use Rattle.theory.specs.Change.{in-sum, rising-first, without-none, without-sum}
+use Rattle.theory.specs.Turn.{goes-in}
 use Rattle.theory.specs.Calls.{sent-rows}
 use Rattle.theory.specs.Totals.{sum-to-add, sum-to-le}
 use Rattle.theory.specs.Score.{Bounded, plan-bounded}
 use Rattle.theory.specs.Substitute.{first-weight}
-use Rattle.theory.specs.Picks.{best-picked}
 use Rattle.theory.specs.MarksFall.{first-mark, mark-reaches}
 use Rattle.hindsight.specs.Tails.{Latest-by, latest, none-by, none-past}
 use Rattle.hindsight.specs.Occurs.{part-in, pull}
@@ -39,37 +39,37 @@ held-bound : (v0 v1 v2 v3 c p s m g : ℕ) → fib-52 * v0 + fib-53 * c ≤ fib-
     m ≤ p → g ≤ p → m ≤ g → fib-52 * v0 + fib-53 * (c + (g - m)) + fib-54 * 0 ≤ fib-52 * v3 + fib-54 * p
 held-bound v0 v1 v2 v3 c p s m g a b d e h i j = omega arith
 
-module _ (r : Round) (f : Fine r) (o : r .slot ≤ r .last) (es : List Stash-entry) (fs : List Row) (w : Own-slot r es fs)
-    (h : best r (plan r) .due ≤ first-end r (plan r)) where
+module _ (r : Round) (f : Fine r) (unsealed : r .tail .sealed ≢ 1) (o : r .slot ≤ r .last) (es : List Stash-entry) (fs : List Row)
+    (w : Own-slot r es fs) (h : goes r .due ≤ first-end r (plan r)) where
   -- the row sent is a member
-  sent-in : In (best r (plan r)) (plan r)
-  sent-in = best-picked r f o .0
+  sent-in : In (goes r) (plan r)
+  sent-in = goes-in r f o
 
   -- it weighs the first mark at least
-  sent-mark : mark r (r .slot) ≤ best r (plan r) .weight
-  sent-mark = first-mark r f (best r (plan r)) sent-in h
+  sent-mark : mark r (r .slot) ≤ goes r .weight
+  sent-mark = first-mark r f (goes r) sent-in h
 
   -- and its substitute weighs the first mark
-  sent-substitute : substitute r (plan r) (best r (plan r)) .weight ≡ mark r (r .slot)
-  sent-substitute = first-weight r f (best r (plan r)) sent-in h
+  sent-substitute : substitute r (plan r) (goes r) .weight ≡ mark r (r .slot)
+  sent-substitute = first-weight r f (goes r) sent-in h
 
   -- the rows after the step are those without the row sent
-  without-sent : (μ : Row → ℕ) → sum μ (sent-rows r) ≡ sum μ (without (best r (plan r) .ticket) (r .rows))
-  without-sent μ = rw (le-leb (best r (plan r) .due) (first-end r (plan r)) h) refl
+  without-sent : (μ : Row → ℕ) → sum μ (sent-rows r) ≡ sum μ (without (goes r .ticket) (r .rows))
+  without-sent μ = rw (le-leb (goes r .due) (first-end r (plan r)) h) refl
 
   -- where it has no ticket, those are all
-  none-gone : best r (plan r) .ticket ≡ 0 → (μ : Row → ℕ) → sum μ (sent-rows r) ≡ sum μ (r .rows)
+  none-gone : goes r .ticket ≡ 0 → (μ : Row → ℕ) → sum μ (sent-rows r) ≡ sum μ (r .rows)
   none-gone t μ =
       without-sent μ
       ∙ ap (λ (l : List Row). sum μ l) (ap (λ (k : ℕ). without k (r .rows)) t ∙ without-none 1 (r .next) 0 (r .rows) (omega arith) (f .rising))
 
   -- where it waits, all but it
-  one-gone : In (best r (plan r)) (r .rows) → (μ : Row → ℕ) → sum μ (sent-rows r) + μ (best r (plan r)) ≡ sum μ (r .rows)
+  one-gone : In (goes r) (r .rows) → (μ : Row → ℕ) → sum μ (sent-rows r) + μ (goes r) ≡ sum μ (r .rows)
   one-gone i μ =
-      omega (arith, without-sent μ, without-sum μ (best r (plan r)) (r .rows) (rising-first 1 (r .next) (best r (plan r)) (r .rows) (f .rising) i))
+      omega (arith, without-sent μ, without-sum μ (goes r) (r .rows) (rising-first 1 (r .next) (goes r) (r .rows) (f .rising) i))
 
   -- a blank is sent
-  blank-sent : best r (plan r) .weight ≤ 0 → best r (plan r) .ticket ≡ 0 → Step-made r es fs
+  blank-sent : goes r .weight ≤ 0 → goes r .ticket ≡ 0 → Step-made r es fs
   blank-sent wz tz =
       let z = after-step r f o (w .rest) (w .free) (w .good) (λ μ. omega (arith, w .split .whole μ, none-gone tz μ)) in
       record {
@@ -85,10 +85,10 @@ module _ (r : Round) (f : Fine r) (o : r .slot ≤ r .last) (es : List Stash-ent
       }
 
   -- the rival holds the row sent: it is owed the first mark instead
-  held-sent : In (best r (plan r)) (r .rows) → In (best r (plan r)) (held (w .rest)) → Step-made r es fs
+  held-sent : In (goes r) (r .rows) → In (goes r) (held (w .rest)) → Step-made r es fs
   unfolding first-end
   held-sent i hp =
-      let p = best r (plan r) in
+      let p = goes r in
       let m = mark r (r .slot) in
       let u = all-in (λ x. (r .slot ≤ x .due) × (x .due ≤ r .last)) p (plan r) (plan-due r f) sent-in in
       let q = give-up r f p m (mark-reaches r f (r .slot) (p .due) o (u .0) h) sent-mark (u .1) (suc (r .slot)) (w .rest) (omega arith) hp (w .good) in
@@ -106,11 +106,11 @@ module _ (r : Round) (f : Fine r) (o : r .slot ≤ r .last) (es : List Stash-ent
       }
 
   -- the row sent is free, and nothing is held in the first segment
-  free-alone : In (best r (plan r)) (r .rows) → (xs : List Row) → ((μ : Row → ℕ) → sum μ xs + μ (best r (plan r)) ≡ sum μ (w .free)) →
+  free-alone : In (goes r) (r .rows) → (xs : List Row) → ((μ : Row → ℕ) → sum μ xs + μ (goes r) ≡ sum μ (w .free)) →
       All (λ x. first-end r (plan r) < x .due) (held (w .rest)) → Step-made r es fs
   unfolding first-end worth
   free-alone i xs pu n =
-      let p = best r (plan r) in
+      let p = goes r in
       let e = suc (r .last) in
       let t = r .slot in
       let z = after-step r f o (w .rest) xs (w .good) (λ μ. omega (arith, w .split .whole μ, pu μ, one-gone i μ)) in
@@ -138,17 +138,17 @@ module _ (r : Round) (f : Fine r) (o : r .slot ≤ r .last) (es : List Stash-ent
       }
 
   -- the row sent is free, and g is the latest row held in the first segment: it is given up for the first mark
-  free-beside : In (best r (plan r)) (r .rows) → (xs : List Row) → ((μ : Row → ℕ) → sum μ xs + μ (best r (plan r)) ≡ sum μ (w .free)) →
+  free-beside : In (goes r) (r .rows) → (xs : List Row) → ((μ : Row → ℕ) → sum μ xs + μ (goes r) ≡ sum μ (w .free)) →
       (g : Row) → In g (held (w .rest)) → g .due ≤ first-end r (plan r) → Latest-by (first-end r (plan r)) (g .due) (held (w .rest)) → Step-made r es fs
   unfolding mark first-end worth
   free-beside i xs pu g j d lat =
-      let p = best r (plan r) in
+      let p = goes r in
       let e = suc (r .last) in
       let t = r .slot in
       let m = mark r t in
       let gp : In g (plan r) = part-in (held (w .rest)) (plan r) (w .split .inside) g j in
       let gm : m ≤ g .weight = first-mark r f g gp d in
-      let gw : g .weight ≤ p .weight = no-heavier r f o g gp (omega (arith, sent-substitute, first-weight r f g gp d)) in
+      let gw : g .weight ≤ p .weight = no-heavier r f unsealed o g gp (omega (arith, sent-substitute, first-weight r f g gp d)) in
       let u = all-in (λ x. (r .slot ≤ x .due) × (x .due ≤ r .last)) g (plan r) (plan-due r f) gp in
       let q = give-up r f g m (mark-reaches r f t (g .due) o (u .0) d) gm (u .1) (suc t) (w .rest) (omega arith) j (w .good) in
       let z = after-step r f o (q .stash) (g ∷ xs) (q .good) (λ μ. omega (arith, w .split .whole μ, pu μ, q .sums μ, one-gone i μ)) in
@@ -182,9 +182,9 @@ module _ (r : Round) (f : Fine r) (o : r .slot ≤ r .last) (es : List Stash-ent
       }
 
   -- the row sent is free
-  free-sent : In (best r (plan r)) (r .rows) → In (best r (plan r)) (w .free) → Step-made r es fs
+  free-sent : In (goes r) (r .rows) → In (goes r) (w .free) → Step-made r es fs
   free-sent i fp =
-      let q = pull (best r (plan r)) (w .free) fp in
+      let q = pull (goes r) (w .free) fp in
       elim (latest (first-end r (plan r)) (held (w .rest))) [
         | inl n ↦ free-alone i (q .0) (q .1) n
         | inr x ↦ free-beside i (q .0) (q .1) (x .0) (x .1) (x .2) (x .3)
@@ -193,7 +193,7 @@ module _ (r : Round) (f : Fine r) (o : r .slot ≤ r .last) (es : List Stash-ent
   -- AN ORDINARY STEP
   pub ordinary-step : Step-made r es fs
   ordinary-step =
-      let p = best r (plan r) in
+      let p = goes r in
       elim (plan-member r p sent-in) [
         | inl a ↦ elim (split-either r (w .free) (held (w .rest)) (w .split) p a) [ inl b ↦ free-sent a b | inr b ↦ held-sent a b ]
         | inr a ↦ blank-sent (omega (arith, blank-weight p (a .0))) (blank-ticket p (a .0))

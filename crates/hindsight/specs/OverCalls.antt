@@ -9,13 +9,12 @@ use lib.ListN.{length}
 use borrow.Author.Tests.{eqb-true}
 use Rattle.rules.specs.Limits.{head-size, most-last, most-rows, row-size}
 use Rattle.rules.specs.Rows.{Frame, Setup, Round}
-use Rattle.rules.specs.Plan.{best, plan}
-use Rattle.rules.specs.Steps.{is-ordinary, opened, sent, taken}
-use Rattle.rules.specs.Calls.{taking, sending, Call, opening, acting, asking, act, deed, after, leap, leaves, left, next-round, ordinary, out-of, refused, replies, round-refusal, says, step}
+use Rattle.rules.specs.Steps.{goes, is-ordinary, opened, sealed, sent, taken}
+use Rattle.rules.specs.Calls.{taking, sending, sealing, Call, opening, acting, asking, act, deed, after, leap, leaves, left, next-round, ordinary, out-of, refused, replies, round-refusal, says, step}
 use Rattle.rules.specs.Demands.{No-opening}
-use Rattle.rules.specs.Hindsight.{Told, nothing, story, told, took, took-in, went, went-out}
+use Rattle.rules.specs.Hindsight.{Told, nothing, shut, shut-by, story, told, took, took-in, went, went-out}
 use Rattle.theory.specs.Full.{Fine}
-use Rattle.theory.specs.Calls.{Takes, opens, question-leaves, sends, sent-fine, taken-fine, takes}
+use Rattle.theory.specs.Calls.{Takes, opens, question-leaves, sealed-fine, sends, sent-fine, taken-fine, takes}
 use Rattle.theory.specs.Sane.{model-replies, model-reply, replies-is}
 use Rattle.theory.specs.Third.{opened-sane, opening-leaves}
 
@@ -29,20 +28,21 @@ pub opened-replies : (t : List ℕ) (k : ℕ) (u : Setup) (cs : List Call) → l
 opened-replies t k u cs e i j h = ap (replies cs) (opening-leaves t k u e i j h) ∙ replies-is cs (opened u k) (opened-sane u k h i j)
 
 -- a sending tells what goes, in either kind of step
-pub sending-told : (r : Round) → told (acting sending) (says (acting sending) r) ≡ went (out-of (best r (plan r)))
+pub sending-told : (r : Round) → told (acting sending) (says (acting sending) r) ≡ went (out-of (goes r))
 unfolding told says deed act went-out
 sending-told r = either-step (is-ordinary r)
   where
-    either-step : (c : Bool) → went-out (step (cond c (ordinary (out-of (best r (plan r)))) (leap (out-of (best r (plan r)))))) ≡ went (out-of (best r (plan r)))
+    either-step : (c : Bool) → went-out (step (cond c (ordinary (out-of (goes r))) (leap (out-of (goes r))))) ≡ went (out-of (goes r))
     either-step true = refl
     either-step false = refl
 
 -- A REFUSED CALL tells nothing
 pub refused-untold : (c : Call) (n : ℕ) → told c (refused n) ≡ nothing
-unfolding told took-in went-out
+unfolding told took-in went-out shut-by
 refused-untold (opening u) n = refl
 refused-untold (acting (taking f)) n = refl
 refused-untold (acting sending) n = refl
+refused-untold (acting sealing) n = refl
 refused-untold (asking q) n = refl
 
 -- A CLAIM BY WHAT IS TOLD, of a round, the round at the end and what is told between: it holds of all calls where each thing told keeps it
@@ -52,7 +52,8 @@ module _
     (keep-end : (r : Round) → Fine r → P r r [])
     (keep-took : (r z : Round) → Fine r → (n : Frame) → Takes r n → (ts : List Told) → P (taken r n) z ts →
     P r z (took (r .next) (n .due) (n .weight) ∷ ts))
-    (keep-went : (r z : Round) → Fine r → r .slot ≤ r .last → (ts : List Told) → P (sent r) z ts → P r z (went (out-of (best r (plan r))) ∷ ts)) where
+    (keep-went : (r z : Round) → Fine r → r .slot ≤ r .last → (ts : List Told) → P (sent r) z ts → P r z (went (out-of (goes r)) ∷ ts))
+    (keep-shut : (r z : Round) → Fine r → (ts : List Told) → P (sealed r) z ts → P r z (shut ∷ ts)) where
   -- ONE CALL and those after it: accepted, or refused
   pub one-call : (c : Call) (cs : List Call) (r : Round) →
       (round-refusal c r ≡ 0 → P r (after cs (leaves c r)) (told c (says c r) ∷ tale cs (leaves c r))) → P r (after cs r) (tale cs r) →
@@ -67,7 +68,7 @@ module _
 
   -- ALL CALLS, with no accepted opening among them
   pub over-calls : (cs : List Call) (r : Round) → Fine r → No-opening cs → P r (after cs r) (tale cs r)
-  unfolding No-opening after story model-replies leaves deed act told took-in says
+  unfolding No-opening after story model-replies leaves deed act told took-in shut-by says
   over-calls [] r f n = keep-end r f
   over-calls (opening u ∷ cs) r f n =
       one-call (opening u) cs r (λ e. let h = opens u r e in absurd (omega (arith, n .0))) (over-calls cs r f (n .1))
@@ -82,6 +83,10 @@ module _
       (λ e.
       let t = sends r e in
       rw (sending-told r) (keep-went r (after cs (sent r)) f t (tale cs (sent r)) (over-calls cs (sent r) (sent-fine r f t) n)))
+      (over-calls cs r f n)
+  over-calls (acting sealing ∷ cs) r f n =
+      one-call (acting sealing) cs r
+      (λ e. keep-shut r (after cs (sealed r)) f (tale cs (sealed r)) (over-calls cs (sealed r) (sealed-fine r f) n))
       (over-calls cs r f n)
   over-calls (asking q ∷ cs) r f n =
       one-call (asking q) cs r (λ e. rw (question-leaves q r) (keep-nothing r (after cs r) (tale cs r) (over-calls cs r f n))) (over-calls cs r f n)

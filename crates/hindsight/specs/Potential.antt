@@ -1,10 +1,10 @@
--- The invariant of the analysis, and that taking and sending keep it.
+-- The invariant of the analysis, and that taking and sending keep it in an unsealed round.
 -- A rival books a slot for each frame that it chooses. Its stash holds such a frame while the plan has it, and is owed a number after
 -- that; what this loses it is paid at once. The potential is what the other waiting rows, the free ones, are worth. Each step that sends a
 -- row of weight p, raises weights by m and pays c keeps c + φ m at most φ p and 1 / φ of what the potential gains, with neighbours in
 -- Fibonacci's sequence for φ. In the end stash and potential are empty, so the rival was paid for all its frames.
 use mathlib.Core.Path.{_≡_, refl, ap}
-use mathlib.Core.Logic.{inl, inr}
+use mathlib.Core.Logic.{inl, inr, _≢_}
 use mathlib.Core.Bool.{Bool, true, false, cond}
 use mathlib.Core.List.{List, [], _∷_}
 use Prim.Native.Nat.{ℕ, zero, suc, _+_, _*_, _-_, _≤_, _<_}
@@ -13,8 +13,7 @@ use lib.Dec.{leb, eqb}
 use borrow.Author.Tests.{eq-eqb, ne-eqb}
 use Rattle.rules.specs.Limits.{most-weight}
 use Rattle.rules.specs.Rows.{Round, Row, round, row, Frame, Setup}
-use Rattle.rules.specs.Plan.{best, plan}
-use Rattle.rules.specs.Steps.{opened, sent, still-due, taken, taken-row}
+use Rattle.rules.specs.Steps.{goes, opened, sent, still-due, taken, taken-row}
 use Rattle.rules.specs.Calls.{silence, frame, kept-blank, out-of}
 use Rattle.rules.specs.Demands.{member}
 use Rattle.rules.specs.Hindsight.{counts-for, noted}
@@ -42,8 +41,9 @@ pub counted-fixed : (f : ℕ → ℕ) → Fixed (counted f)
 unfolding counted out-of
 counted-fixed f x y a b = rw (a, b) refl
 
--- HOW IT STANDS: the rival has booked the slots us for frames of weight o in all, and s has been sent
+-- HOW IT STANDS in an unsealed round: the rival has booked the slots us for frames of weight o in all, and s has been sent
 pub record Account (r : Round) (f : ℕ → ℕ) (us : List ℕ) (s o : ℕ) : Type 0 where
+  pub unsealed : r .tail .sealed ≢ 1
   pub stash : List Stash-entry
   pub free : List Row
   pub state : State r stash free
@@ -102,6 +102,7 @@ module _ (r : Round) (f : Fine r) (g : ℕ → ℕ) (us : List ℕ) (s o : ℕ) 
       (good-stays r (taken r n) refl (r .slot) (r .slot) (y .stash) (omega arith) (λ v i j. taken-stays v r f n k .2 i j) (y .state .good))
       (λ μ. omega (arith, y .state .split .whole μ, sum-append μ (r .rows) (x ∷ []))) in
       record {
+        unsealed = y .unsealed;
         stash = z .stash;
         free = z .free;
         state = z .state;
@@ -124,6 +125,7 @@ module _ (r : Round) (f : Fine r) (g : ℕ → ℕ) (us : List ℕ) (s o : ℕ) 
       (good-stays r (taken r n) refl (r .slot) (r .slot) (q .stash) (omega arith) (λ u i j. taken-stays u r f n k .2 i j) (q .good))
       (λ μ. omega (arith, y .state .split .whole μ, q .sums μ, sum-append μ (r .rows) (x ∷ []))) in
       record {
+        unsealed = y .unsealed;
         stash = z .stash;
         free = z .free;
         state = z .state;
@@ -145,16 +147,17 @@ still-less μ t xs = omega (arith, still-sum μ t xs, sum-le (from-on t μ) μ (
 
 -- A SLOT IS SENT
 pub send-on : (r : Round) (f : Fine r) → r .slot ≤ r .last → (g : ℕ → ℕ) (us : List ℕ) (s o : ℕ) → Account r g us s o →
-    Account (sent r) g us (s + counted g (best r (plan r))) o
+    Account (sent r) g us (s + counted g (goes r)) o
 unfolding sent round
 send-on r f t g us s o y =
-    let u = step-made r f t (y .stash) (y .free) (y .state) in
+    let u = step-made r f (y .unsealed) t (y .stash) (y .free) (y .state) in
     record {
+      unsealed = y .unsealed;
       stash = u .stash;
       free = u .free;
       state = u .state;
       idles = u .keeps us (y .idles);
-      went = y .went + best r (plan r) .weight;
+      went = y .went + goes r .weight;
       raised = y .raised + u .raised;
       credit = y .credit + u .credit;
       potential = omega (arith, y .potential, u .bound);
@@ -216,6 +219,7 @@ pub opened-account : (f : ℕ → ℕ) (u : Setup) (k : ℕ) → Account (opened
 unfolding opened round
 opened-account f u k =
     record {
+      unsealed = λ e. omega (arith, e);
       stash = all-idle (suc (u .last));
       free = [];
       state = record {

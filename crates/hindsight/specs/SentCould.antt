@@ -8,11 +8,11 @@ use native.Mathlib.Omega.{arith}
 use borrow.Author.Tests.{eq-eqb, ne-eqb}
 use Rattle.rules.specs.Limits.{most-last, most-rows}
 use Rattle.rules.specs.Rows.{All, In, Round, Row, round, row, Setup, Frame}
-use Rattle.rules.specs.Steps.{opened, sent, taken, taken-row}
+use Rattle.rules.specs.Steps.{goes, opened, sealed, sent, taken, taken-row}
 use Rattle.rules.specs.Calls.{Call, frame, out-of}
-use Rattle.rules.specs.StepsOf.{Other, goes}
+use Rattle.rules.specs.StepsOf.{Other}
 use Rattle.rules.specs.Demands.{No-opening, member}
-use Rattle.rules.specs.Hindsight.{Choice, Most, Most-reckoned, Sent-could-have, Told, could-have, counts-for, earned, gained, most, noted, nothing, offer, offers, sent-in, took, went}
+use Rattle.rules.specs.Hindsight.{Choice, Most, Most-reckoned, Sent-could-have, Told, could-have, counts-for, earned, gained, most, noted, nothing, offer, offers, sent-in, shut, took, went}
 use Rattle.theory.specs.All.{all-append, all-in, all-map, all-of-in}
 use Rattle.theory.specs.Bounds.{Row-fine}
 use Rattle.theory.specs.Full.{Fine}
@@ -156,6 +156,13 @@ could-sent r z f o ts c g es u s =
       | inr a ↦ sent-none r f o g es s z u ts (a g) c
     ]
 
+-- A ROUND IS SEALED: rows, slot and next ticket stay
+pub could-shut : (r z : Round) → Fine r → (ts : List Told) → Could (sealed r) z ts → Could r z (shut ∷ ts)
+unfolding sealed round offers earned
+could-shut r z f ts c g es u s =
+    let q = c g es u (record { each = s .each; rows = s .rows }) in
+    record { choice = q .choice; keeps = q .keeps; enough = q .enough }
+
 -- OF A ROUND BY THE MODEL: it stands so from the opening on
 pub sent-could : (v : Setup) (k : ℕ) (cs : List Call) → v .last ≤ most-last → 1 ≤ k → k ≤ most-rows → No-opening cs →
     sent-in (tale cs (opened v k)) ≤ could-have (tale cs (opened v k))
@@ -163,7 +170,7 @@ unfolding opened round sent-in could-have Most Most-reckoned
 sent-could v k cs h i j n =
     let r = opened v k in
     let ts = tale cs r in
-    let q = over-calls Could could-untold could-end (λ r z _ n _ ts c. could-taken r n z ts c) could-sent cs r (opened-sane v k h i j .fine) n
+    let q = over-calls Could could-untold could-end (λ r z _ n _ ts c. could-taken r n z ts c) could-sent could-shut cs r (opened-sane v k h i j .fine) n
     (λ x. 0) [] 0 (record { each = tt; rows = tt }) in
     let m : Most (offers ts 0) (most (offers ts 0) []) = most-reckoned (offers ts 0) in
     omega (arith, q .enough, m .1 (q .choice) (can-keep 0 (offers ts 0) (q .choice) [] (q .keeps)))

@@ -26,11 +26,12 @@ use Rattle.hindsight.specs.Potential.{Account, at-end, counted, opened-a
 use Rattle.hindsight.specs.OverCalls.{opened-replies, over-calls, tale}
 use Rattle.hindsight.specs.Most.{most-reckoned, none-gained, none-kept}
 
--- THE BOUND from an unsealed round on to the round at the end, by what is told: gained so far and by any choice of what is to come, against what went out
+-- THE BOUND from a round on to the round at the end, never sealed, by what is told: gained so far and by any choice of what is to come, against what
+-- went out
 abbrev pub Bound : (r end : Round) → List Told → Type 0
 Bound r z ts =
-    never-shut ts ≡ true → (cs : Choice) (f : ℕ → ℕ) (us : List ℕ) (s o : ℕ) → Account r f us s o → z .last < z .slot → kept-to (offers ts (r .slot)) cs us ≡ true →
-    fib-53 * (o + gained (offers ts (r .slot)) cs) ≤ fib-54 * earned ts f s
+    never-shut ts ≡ true → (cs : Choice) (f : ℕ → ℕ) (us : List ℕ) (s o : ℕ) → Account r f us s o → z .last < z .slot →
+    kept-to (offers ts (r .slot)) cs us ≡ true → fib-53 * (o + gained (offers ts (r .slot)) cs) ≤ fib-54 * earned ts f s
 
 -- NO CALL is left
 pub none-left : (r : Round) → Fine r → Bound r r []
@@ -61,7 +62,7 @@ pub sent-bound : (r z : Round) → Fine r → r .slot ≤ r .last → (ts : List
 unfolding never-shut sent round offers earned counted
 sent-bound r z f t ts b e cs g us s o y p v = b e cs g us (s + counted g (goes r)) o (send-on r f t g us s o y) p v
 
--- A ROUND IS SEALED: then it is not one of these
+-- A ROUND IS SEALED: nothing is claimed of it
 pub shut-bound : (r z : Round) → Fine r → (ts : List Told) → Bound (sealed r) z ts → Bound r z (shut ∷ ts)
 unfolding never-shut
 shut-bound r z f ts b e = absurd (true≢false (sym e))

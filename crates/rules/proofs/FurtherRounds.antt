@@ -1,5 +1,5 @@
 -- Further rounds by hand, in the form of Rounds.antt, for what P1 to P10 leave open: each keeps a wrong definition out.
--- Their values are from a model written from document 01 alone; those of the substitutes asked are worked out by hand.
+-- Their values are from a model written from document 01 alone; those of the substitutes asked, and what a sealed table refuses, are worked out by hand.
 use mathlib.Core.Path.{_≡_, refl}
 use mathlib.Core.Bool.{true}
 use mathlib.Core.List.{List, [], _∷_}
@@ -237,8 +237,17 @@ further-rounds =
           [];
     } ∷
     record { start = table (plain 1 2 16777215 1 (waits 1 2 5 ∷ [])); turns = refuses (takes 1 1) 9 true ∷ [] } ∷
-    -- sealed: 5 comes before 13, and 13 before 6, 7, 8 and 9, each alone and all at once; nothing else gets it
-    record { start = table (plain-sealed 3 2 9 8 []); turns = refuses (takes 9 0) 5 true ∷ refuses (takes 2 1) 5 true ∷ refuses sends 5 true ∷ refuses seals 5 true ∷ [] } ∷
+    -- sealed: 2 and 5 come before 13, and 13 before 6, 7, 8 and 9, each alone and together; only a taking gets it
+    record { start = replicate 41 1; turns = refuses (takes 9 0) 2 true ∷ [] } ∷
+    record {
+      start = table (plain-sealed 3 2 9 8 []);
+      turns =
+          refuses (takes 9 0) 5 true ∷
+          refuses (takes 2 1) 5 true ∷
+          refuses sends 5 true ∷
+          refuses seals 5 true ∷
+          [];
+    } ∷
     record {
       start = table (plain-sealed 1 2 16777216 1 (waits 1 2 5 ∷ []));
       turns =
@@ -250,6 +259,7 @@ further-rounds =
           refuses (opens 4096) 4 true ∷
           [];
     } ∷
+    record { start = table (plain-sealed 1 2 16777216 8 (waits 1 2 5 ∷ [])); turns = refuses (takes 1 1) 13 true ∷ [] } ∷
     record { start = table (plain-sealed 1 2 16777215 1 (waits 1 2 5 ∷ [])); turns = refuses (takes 1 1) 13 true ∷ [] } ∷
     record {
       start = table (plain-sealed 1 2 2 8 (waits 1 2 5 ∷ []));

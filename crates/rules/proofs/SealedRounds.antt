@@ -1,15 +1,18 @@
 -- Rounds by hand for L1, closing the list: what a sealed round sends, what it refuses, and what ends the seal. Each is worked out from the papers.
 use mathlib.Core.Path.{_≡_, refl}
-use mathlib.Core.Bool.{true}
-use mathlib.Core.List.{List, [], _∷_}
+use mathlib.Core.Bool.{true, false}
+use mathlib.Core.List.{List, [], _∷_, _++_}
+use native.Mathlib.Omega.{arith}
 use lib.ListN.{replicate}
-use Rattle.rules.specs.Rows.{row, blank, round, slots-left, heavier, canonical, into, sorted, rows-only}
+use Rattle.rules.specs.Rows.{until, row, blank, round, slots-left, heavier, canonical, into, sorted, rows-only}
 use Rattle.rules.specs.Plan.{due-by, fits-from, feasible, kept, blanks-from, plan, total-weight, total, tight, tight-from, tight-after, segment-from, segment-start, first-end, least-weight, mark-in, mark, same-row, in-plan, lightest-by, heaviest-outside, substitute, beats-golden, golden-more, sends-before, best-from, best, first-from, canonical-first, listed}
 use Rattle.rules.specs.Steps.{opened, taken, sealed, changed, without, heaviest-between, shifted, replaced, leapt, turn-of, still-due, is-ordinary, sent}
 use Rattle.rules.specs.Table.{low, value, field, put, row-bytes, rows-bytes, head-bytes, table, rows-in, rows-of, round-in, length-good, every, rows-good, round-good, same, table-refusal}
-use Rattle.rules.specs.Calls.{silence, frame, kept-blank, ordinary, leap, refused, done, closed, ticket, step, amount, blank-due, number-of, first, act, question, deed, round-refusal, out-of, says, leaves, table-first, refusal, answer, left}
+use Rattle.rules.specs.Calls.{Call, silence, frame, kept-blank, ordinary, leap, refused, done, closed, ticket, step, amount, blank-due, number-of, first, act, question, deed, round-refusal, out-of, says, leaves, table-first, refusal, answer, left, run, next-round, after, at}
 use Rattle.rules.specs.Looking.{with-ticket, stand-in, substitute-answer, list-refusal, list-answer, list-left, shows}
-use Rattle.rules.proofs.Played.{opens, takes, sends, seals, marks, totals, plain-sealed, waits, keeps, old, turn, listing, substituting, lists, refuses, head, Hand, found, played}
+use Rattle.rules.specs.Demands.{No-opening}
+use Rattle.rules.specs.Sealed.{Went-out, Sealed-by}
+use Rattle.rules.proofs.Played.{opens, takes, sends, seals, marks, totals, plain, plain-sealed, waits, keeps, old, turn, listing, substituting, lists, refuses, head, Hand, found, played}
 
 -- THE TABLE
 abbrev pub sealed-rounds : List Hand
@@ -216,6 +219,9 @@ sealed-rounds =
           head 1 0 1 0 ∷
           [];
     } ∷
+    -- sealing is accepted, so its number is 0; it writes a byte of an unsealed table, and none of a sealed one
+    record { start = table (plain 0 1 2 8 (waits 1 1 5 ∷ [])); turns = refuses seals 0 false ∷ [] } ∷
+    record { start = table (plain-sealed 0 1 2 8 (waits 1 1 5 ∷ [])); turns = refuses seals 0 true ∷ [] } ∷
     -- a 2 in byte 10 is unsound: every call gets 3, the listing too, and opening clears it
     record {
       start = table (round 0 1 2 8 (waits 1 1 5 ∷ []) (record { sealed = 2 }));
@@ -257,3 +263,36 @@ unfolding row blank round slots-left heavier canonical into sorted rows-only due
     length-good every rows-good round-good same table-refusal first act question deed round-refusal out-of says leaves table-first refusal answer left
     with-ticket stand-in substitute-answer list-refusal list-answer list-left shows number-of
 sealed-rounds-by-hand = refl
+
+-- THE PROMISE (Sealed.antt), of P2: its sealing is one that the promise is about, and ticket 2 has gone out by its due slot, slot 1
+abbrev pub p2-before : List Call
+p2-before = takes 0 4 ∷ takes 1 11 ∷ []
+
+abbrev pub p2-behind : List Call
+p2-behind = sends ∷ sends ∷ []
+
+pub p2-sealed-by : Sealed-by 8 (until 1) found (takes 0 4 ∷ takes 1 11 ∷ seals ∷ sends ∷ sends ∷ takes 1 3 ∷ []) p2-before p2-behind
+unfolding row blank round slots-left heavier canonical into sorted due-by fits-from feasible kept blanks-from plan tight tight-from tight-after
+    segment-from segment-start first-end least-weight mark-in same-row in-plan lightest-by heaviest-outside substitute beats-golden golden-more
+    sends-before best-from best first-from canonical-first opened taken sealed changed without heaviest-between shifted replaced leapt turn-of
+    still-due is-ordinary sent low value field put row-bytes rows-bytes head-bytes table rows-in rows-of round-in length-good every rows-good
+    round-good same table-refusal first act deed round-refusal out-of says leaves table-first refusal answer left run No-opening
+p2-sealed-by = record { behind = takes 1 3 ∷ []; among = refl; accepted = refl; unopened = tt }
+
+pub p2-went-out : Went-out 8 (until 1) found (p2-before ++ (seals ∷ [])) p2-behind (waits 2 1 11)
+unfolding row blank round slots-left heavier canonical into sorted due-by fits-from feasible kept blanks-from plan tight tight-from tight-after
+    segment-from segment-start first-end least-weight mark-in same-row in-plan lightest-by heaviest-outside substitute beats-golden golden-more
+    sends-before best-from best first-from canonical-first opened taken sealed changed without heaviest-between shifted replaced leapt turn-of
+    still-due is-ordinary sent low value field put row-bytes rows-bytes head-bytes table rows-in rows-of round-in length-good every rows-good
+    round-good same table-refusal first act deed round-refusal out-of says leaves table-first refusal answer left run next-round after at
+p2-went-out =
+    record {
+      before = sends ∷ [];
+      behind = [];
+      among = refl;
+      its-turn = refl;
+      in-time = omega arith;
+      sends = refl;
+      frame-named = λ e. refl;
+      blank-named = λ e. absurd (omega (arith, e));
+    }

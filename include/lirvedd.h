@@ -52,12 +52,13 @@ enum lirvedd_refusal_number {
     LIRVEDD_NO_TICKET_LEFT = 8, /* the next ticket is 16,777,216 */
     LIRVEDD_TABLE_FULL = 9,     /* every row is in use */
     LIRVEDD_NO_SUCH_TICKET = 10, /* the ticket is in no row */
-    LIRVEDD_NOT_IN_PLAN = 11    /* the ticket's row is not in the plan */
+    LIRVEDD_NOT_IN_PLAN = 11,    /* the ticket's row is not in the plan */
+    LIRVEDD_SEALED = 13          /* the round is sealed: no frame is taken */
 };
 
 /* What went out in a slot. */
 enum lirvedd_what {
-    LIRVEDD_SILENCE = 0,   /* nothing: no row was waiting */
+    LIRVEDD_SILENCE = 0,   /* nothing: no row was waiting, or, in a sealed round, none has to go yet */
     LIRVEDD_FRAME = 1,     /* the frame of the ticket */
     LIRVEDD_KEPT_BLANK = 2 /* an empty slot that was kept, by its ticket: nothing goes on air */
 };
@@ -66,7 +67,7 @@ enum lirvedd_what {
  * fits no slot, weight or ticket is refused, never cut down. A refused call leaves every byte of the table as it was. */
 
 /* Opens a round of the slots 0 to `last`, whatever the table held before: current slot 0, next ticket 1, no row in use, every
- * other byte 0. What the table held is not read.
+ * other byte 0, so that the round is not sealed. What the table held is not read.
  *
  *   last     the last slot, 0 to LIRVEDD_MOST_LAST
  *   reply    0
@@ -80,7 +81,7 @@ uint64_t lirvedd_open(uint32_t last, uint8_t *table, size_t length);
  *   due      the last slot in which the frame may go out, from the current slot to the last
  *   weight   1 to LIRVEDD_MOST_WEIGHT
  *   reply    the frame's ticket (lirvedd_ticket); it is never given again in this round
- *   refused  2, 3, 5, 6, 7, 8, 9
+ *   refused  2, 3, 5, 13, 6, 7, 8, 9
  */
 uint64_t lirvedd_take(uint32_t due, uint32_t weight, uint8_t *table, size_t length);
 
@@ -88,10 +89,22 @@ uint64_t lirvedd_take(uint32_t due, uint32_t weight, uint8_t *table, size_t leng
  * by 1. A leap may also lower due slots and raise weights of other rows, and may keep a blank in the row of what went out: its
  * ticket may then come again, as LIRVEDD_KEPT_BLANK.
  *
+ * In a sealed round no step is a leap: the plan goes out as it stands, the earliest due first, among these the heaviest, and no other
+ * row changes. A slot that no row of the plan needs is silent, though rows may wait.
+ *
  *   reply    what went out (lirvedd_out), its ticket (lirvedd_ticket; 0 for silence), and whether by a leap (lirvedd_is_leap)
  *   refused  2, 3, 5
  */
 uint64_t lirvedd_send(uint8_t *table, size_t length);
+
+/* Seals the round: no frame will follow. Taking is refused from now on, and every row that is in the plan now has gone out once its due
+ * slot is sent (a kept blank as an empty slot), unless the round is opened anew. Only byte 10 of the table changes, to 1; sealing twice
+ * is accepted. The seal stays until an accepted opening.
+ *
+ *   reply    0
+ *   refused  2, 3, 5
+ */
+uint64_t lirvedd_seal(uint8_t *table, size_t length);
 
 /* The mark of a slot: a frame due there that is taken now raises the plan's total by what its weight is above the mark, and by
  * nothing if it is not above. The mark of a slot still ahead never sinks as long as only these calls write the table and none opens it
@@ -158,7 +171,7 @@ static inline uint32_t lirvedd_blank_due(uint64_t reply)
 LIRVEDD_STATIC_ASSERT(sizeof(size_t) == 8, "the archive is for x86-64: a length has 64 bits");
 LIRVEDD_STATIC_ASSERT(LIRVEDD_TABLE_SIZE(1) == 40, "the least table has 40 bytes");
 LIRVEDD_STATIC_ASSERT(LIRVEDD_TABLE_SIZE(LIRVEDD_MOST_ROWS) == 24592, "the largest table has 24,592 bytes");
-LIRVEDD_STATIC_ASSERT(LIRVEDD_NOT_IN_PLAN <= 0xFFu, "a refusal has 8 bits in a reply");
+LIRVEDD_STATIC_ASSERT(LIRVEDD_SEALED <= 0xFFu, "a refusal has 8 bits in a reply");
 LIRVEDD_STATIC_ASSERT(LIRVEDD_TICKET_LIMIT - 1 <= 0xFFFFFFu, "a ticket has 24 bits in a reply");
 LIRVEDD_STATIC_ASSERT(LIRVEDD_MOST_LAST <= 0xFFFFu, "a blank's due slot has 16 bits in a reply");
 LIRVEDD_STATIC_ASSERT(LIRVEDD_KEPT_BLANK <= 3, "what went out has 2 bits in a reply");

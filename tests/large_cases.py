@@ -44,6 +44,15 @@ def full_table_played_out():
     return text(lines), text(replies)
 
 
+def full_table_sealed():
+    """A frame due in each of 1,024 slots, ever heavier, and sealed: 13 comes before 9, and each goes out in its due slot."""
+    lines = ["0003FF"] + [take(due, 1 + due) for due in range(ROWS)] + [take(ROWS - 1, 9), "03", take(ROWS - 1, 9)]
+    lines += ["02"] * (ROWS + 1)
+    replies = ["00"] + [ticket(number) for number in range(1, ROWS + 1)] + ["FF09", "03", "FF0D"]
+    replies += [frame(number) for number in range(1, ROWS + 1)] + ["FF05"]
+    return text(lines), text(replies)
+
+
 def longest_round():
     """The longest round, nothing taken."""
     return text(["000FFF"] + ["02"] * (SLOTS + 1)), text(["00"] + [SILENCE] * SLOTS + ["FF05"])
@@ -61,6 +70,7 @@ def after_opening(line):
 CASES = {
     "full_table": full_table(),
     "full_table_played_out": full_table_played_out(),
+    "full_table_sealed": full_table_sealed(),
     "longest_round": longest_round(),
     "many_openings": many_openings(),
     "line_of_100000_digits": after_opening(b"01" + b"0" * 99_998),

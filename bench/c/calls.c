@@ -1,6 +1,7 @@
 #include "calls.h"
 
-const char *const call_names[CALLS] = {"soundness", "open", "take", "send", "mark", "total", "substitute"};
+const char *const call_names[CALLS] = {"soundness", "open", "take",  "seal",      "send",
+                                       "sealed",    "mark", "total", "substitute"};
 
 int has_shapes(enum call call)
 {
@@ -16,6 +17,7 @@ static uint32_t mark_reach(enum shape shape, uint32_t rows)
 void draw_input(struct input *input, enum call call, enum shape shape, uint32_t rows, uint32_t slots, uint32_t number)
 {
     draw_table(&input->table, shape, rows, call == TAKE, slots, 1000 * shape + number);
+    put(input->table.bytes, head_sealed, call == SEALED);
     input->argument = call == MARK ? mark_reach(shape, rows) * (2 * number + 1) / (2 * DRAWS) : heaviest_ticket(&input->table);
 }
 
@@ -27,7 +29,9 @@ uint64_t do_call(const struct side *side, enum call call, struct input *input)
     case SOUND: return side->take(0, 0, table, length);
     case OPEN: return side->open(1023, table, length);
     case TAKE: return side->take(0, 7, table, length);
-    case SEND: return side->send(table, length);
+    case SEAL: return side->seal(table, length);
+    case SEND:
+    case SEALED: return side->send(table, length);
     case MARK: return side->mark(input->argument, table, length);
     case TOTAL: return side->total(table, length);
     default: return side->substitute(input->argument, table, length);

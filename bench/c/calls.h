@@ -5,8 +5,8 @@
 #include "sides.h"
 #include "tables.h"
 
-/* SOUND is a taking of weight 0: refusal 6, given once the table was found sound. */
-enum call { SOUND, OPEN, TAKE, SEND, MARK, TOTAL, SUBSTITUTE, CALLS };
+/* SOUND is a taking of weight 0: refusal 6, given once the table was found sound. SEALED is a sending of the same table, sealed. */
+enum call { SOUND, OPEN, TAKE, SEAL, SEND, SEALED, MARK, TOTAL, SUBSTITUTE, CALLS };
 
 extern const char *const call_names[CALLS];
 

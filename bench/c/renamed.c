@@ -2,10 +2,11 @@
 #define lirvedd_open tuned_open
 #define lirvedd_take tuned_take
 #define lirvedd_send tuned_send
+#define lirvedd_seal tuned_seal
 #define lirvedd_mark tuned_mark
 #define lirvedd_total tuned_total
 #define lirvedd_substitute tuned_substitute
 #include "lirvedd.h"
 #include "sides.h"
 
-const struct side renamed = {lirvedd_open, lirvedd_take, lirvedd_send, lirvedd_mark, lirvedd_total, lirvedd_substitute};
+const struct side renamed = {lirvedd_open, lirvedd_take, lirvedd_send, lirvedd_seal, lirvedd_mark, lirvedd_total, lirvedd_substitute};

@@ -5,10 +5,13 @@ from known import BY_CALL, NEW, PARTLY_USED, SEVEN
 from shown import most_stack
 
 # The library against tuned Rust at 1,024 rows: full tables in the seven shapes.
-FULL = {"soundness": 1.05, "open": 1.05, "take": 1.05, "send": 1.05, "mark": 1.05, "total": 1.12, "substitute": 1.3}
+FULL = {"soundness": 1.05, "open": 1.05, "take": 1.05, "seal": 1.05, "send": 1.05, "sealed": 1.05, "mark": 1.05, "total": 1.12,
+        "substitute": 1.3}
 PARTLY_USED_MOST = 1.3
 NEW_MOST = 1.5
 FEW_ROWS_MOST = 1.6
+# A sending of a sealed table against one of the same table unsealed: one in a hundred is for looking whether it is sealed.
+SEALED_MOST = 1.01
 BUSY_MOST = 1.15
 STACK = 28_000
 # Shapes whose rows are others in a round of more slots.
@@ -70,6 +73,17 @@ def against_fewer_slots(library):
         yield Limit(f"{call}, 4,096 slots against 1,024", found, 1.05)
 
 
+def against_unsealed(library):
+    """A sending of a sealed table is not dearer than one of the same table unsealed: the greatest over rows and slots."""
+    by_shape = {}
+    for cell, own in library.instructions.items():
+        if cell.call == "sealed":
+            unsealed = library.instructions[cell._replace(call="send")]
+            by_shape[cell.shape] = max(own / unsealed, by_shape.get(cell.shape, 0))
+    for shape, found in by_shape.items():
+        yield Limit(f"sealed {shape} against send", found, SEALED_MOST)
+
+
 def stacks(library):
     for call in dict.fromkeys(cell.call for cell in library.stack):
         yield Limit(f"{call}, bytes of stack", most_stack(library, call), STACK)
@@ -98,7 +112,7 @@ def judge(library, tuned, whole):
     program that is not built, are not judged. Returns whether all hold."""
     print("\nLimits")
     every = [*against_known(tuned), *against_tuned(library, tuned), *with_few_rows(library, tuned),
-             *against_fewer_slots(library), *stacks(library), *of_lines(whole)]
+             *against_fewer_slots(library), *against_unsealed(library), *stacks(library), *of_lines(whole)]
     found = [limit for limit in every if limit.value is not None]
     for limit in found:
         show(limit)

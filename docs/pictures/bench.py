@@ -8,9 +8,10 @@ import sys
 WIDTH, HEIGHT, TOP, BOTTOM = 960, 720, 76, 630
 LEFT, RIGHT = 80, 400
 ROWS = (1, 16, 128, 1024)
-CALLS = ("open", "take", "send", "mark", "total", "substitute")
+CALLS = ("open", "take", "seal", "send", "sealed", "mark", "total", "substitute")
 SHAPES = ("-", "inplan", "halfout", "asc2x", "fewdue", "equal", "spread", "chain")
-COLOURS = {"open": "#7a5195", "take": "#3a7d44", "total": "#b8860b", "mark": "#d9730d", "substitute": "#b0305c", "send": "#3b6ea5"}
+COLOURS = {"open": "#7a5195", "take": "#3a7d44", "seal": "#7f9f3f", "total": "#b8860b", "mark": "#d9730d", "sealed": "#4fa3a5",
+           "substitute": "#b0305c", "send": "#3b6ea5"}
 INK, GREY, GRID, PAPER = "#222222", "#666666", "#dddddd", "#ffffff"
 CELL = re.compile(r"(\w+) +(\w+|-) +(\d+) +(\d+) \| +([\d,]+) +([\d,]+) ")
 

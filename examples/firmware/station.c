@@ -1,11 +1,12 @@
 /* A small station: it opens a round, takes frames as the price desk hands them in, shows the marks as the promotions screen
- * would, and sends a slot at a time. expected.txt has what it prints; how that follows from document 01's rules stands below.
+ * would, sends a slot at a time, and seals the round once the desk has no more. expected.txt has what it prints; how that follows from
+ * the rules of documents 01 and 02 stands below.
  */
 #include "lirvedd.h"
 
 #include <stdio.h>
 
-enum { ROWS = 4, LAST = 5 };
+enum { ROWS = 4, LAST = 5, CLOSING = 3 };
 
 /* What the desk hands in: in which slot, the last slot in which it is of use, its weight, and the price to show. */
 struct frame {
@@ -23,15 +24,17 @@ struct frame {
  *    4 + 6.5; t3 and t4 have blanks: 7 and 5. The kept blank goes.
  * 2  3:7 3:5, marks 5 up to slot 3. 3:6 is above that by 1, and t4 is left out; 5:9 is above 0 by 9. Then every row is in use.
  *    Tight: 3, 4, 5; marks 6 up to 3. t3's substitute is t5: 7 + 9.7, t5's too: 6 + 9.7; t6 has a blank: 9. t3 goes.
- * 3  3:5 3:6 5:9, t4 left out. Tight: 3, 4, 5. t5 is its own substitute: 6 + 9.7; t6: 9. t5 goes, and t4 leaves, too late.
- * 4  5:9, and a blank fills this slot, so the marks are 0. t6: 9, the blank: 0. t6 goes, due after the first tight slot, 4: a leap,
- *    and its substitute, a blank, is raised to mark 0: it is not kept.
- * 5  Nothing waits: silence. Then the round is over.
+ * 3  The desk closes the list: from now on the plan goes out as it stands, the earliest due first. 3:5 3:6 5:9, t4 left out. t5 goes, and
+ *    t4 leaves, too late.
+ * 4  A frame comes too late: the round is sealed. 5:9, and a blank fills this slot, so the marks are 0. The blank is due first: silence.
+ *    (Unsealed, t6 would leap into this slot, to leave slot 5 to a frame that might still come.)
+ * 5  t6 goes. Then the round is over.
  */
 static const struct frame frames[] = {
     {0, 0, 4, "milk 1.09"}, {0, 1, 11, "bread 2.49"},
     {1, 3, 7, "eggs 3.19"}, {1, 3, 5, "tea 4.99"},    {1, 9, 8, "jam 2.79"},
     {2, 3, 6, "rice 1.89"}, {2, 5, 9, "coffee 5.49"}, {2, 4, 2, "salt 0.49"},
+    {4, 5, 3, "soap 0.99"},
 };
 
 static uint8_t table[LIRVEDD_TABLE_SIZE(ROWS)];
@@ -113,6 +116,9 @@ static void take(const struct frame *frame)
     case LIRVEDD_TABLE_FULL:
         printf("refused, the table is full\n");
         break;
+    case LIRVEDD_SEALED:
+        printf("refused, the list is closed\n");
+        break;
     default:
         printf("refused, reason %u\n", (unsigned)lirvedd_refusal(reply));
     }
@@ -141,8 +147,21 @@ static void send(void)
         printf("  on air: %s, ticket %u%s\n", stored(ticket), ticket, step);
     else if (lirvedd_out(reply) == LIRVEDD_KEPT_BLANK)
         printf("  on air: nothing, a slot kept empty as ticket %u%s\n", ticket, step);
+    else if (number(0, used) > 0)
+        printf("  on air: nothing, no frame has to go yet\n");
     else
         printf("  on air: nothing, no frame waits\n");
+}
+
+/* After the desk's last delivery. */
+static void close_list(void)
+{
+    uint64_t reply = lirvedd_seal(table, sizeof table);
+
+    if (lirvedd_refusal(reply) == LIRVEDD_ACCEPTED)
+        printf("  the desk closes the list\n");
+    else
+        printf("refused, reason %u\n", (unsigned)lirvedd_refusal(reply));
 }
 
 int main(void)
@@ -152,6 +171,8 @@ int main(void)
     printf("a round of the slots 0 to %d, room for %d frames\n", LAST, ROWS);
     for (uint32_t slot = 0; slot <= LAST; slot++) {
         printf("slot %u\n", (unsigned)slot);
+        if (slot == CLOSING)
+            close_list();
         for (size_t i = 0; i < sizeof frames / sizeof frames[0]; i++)
             if (frames[i].slot == slot)
                 take(&frames[i]);

@@ -1,4 +1,4 @@
-/* Rounds by hand through the archive: document 01's P1 to P10 and further ones, call by call. After each call the reply, the rows left,
+/* Rounds by hand through the archive: document 01's P1 to P10, further ones and sealed ones, call by call. After each call the reply, the rows left,
  * the marks of the slots ahead and the substitutes of all tickets are compared with what is written here; nothing here is computed by the library.
  */
 #include "lirvedd.h"
@@ -7,7 +7,7 @@
 #include <stdio.h>
 #include <string.h>
 
-enum { TAKE, SEND, TOTAL, MOST_TURNS = 16, MOST_HAND_ROWS = 8, MOST_MARKS = 5 };
+enum { TAKE, SEND, TOTAL, SEAL, OPEN, MOST_TURNS = 16, MOST_HAND_ROWS = 8, MOST_MARKS = 5 };
 
 /* Replies, packed by docs/REPLIES.md. */
 #define TICKET(k) ((uint64_t)(k) << 8)
@@ -48,6 +48,7 @@ struct hand {
 };
 
 #define TOTAL_IS(n) {TOTAL, 0, 0, AMOUNT(n), 0, {{0}}, 0, {0}, 0, {{0}}}
+#define OVER(call) {call, 0, 4, 5, 0, {{0}}, 0, {0}, 0, {{0}}}
 
 static const struct hand hands[] = {
     /* P1: ticket 1 goes, ordinary */
@@ -229,6 +230,48 @@ static const struct hand hands[] = {
         {TAKE, 3, 9, TICKET(1), 1, {{1, 3, 9, 0}}, 4, {0, 0, 0, 0}, 1, {{1, BLANK(3)}}},
         {TAKE, 3, 5, TICKET(2), 2, {{1, 3, 9, 0}, {2, 3, 5, 0}}, 4, {0, 0, 0, 0}, 2, {{1, BLANK(2)}, {2, BLANK(2)}}},
         {SEND, 0, 0, SENT(LEAP, FRAME, 1), 1, {{2, 3, 5, 0}}, 3, {0, 0, 0}, 1, {{2, BLANK(3)}}}}},
+    /* sealed: P2's frames both go, where PlanM would leap; takings get 13, before 6 and 7 and after 5 */
+    {1, 13, {
+        {TAKE, 0, 4, TICKET(1), 1, {{1, 0, 4, 0}}, 2, {4, 0}, 1, {{1, TICKET(1)}}},
+        {TAKE, 1, 11, TICKET(2), 2, {{1, 0, 4, 0}, {2, 1, 11, 0}}, 2, {4, 4}, 2, {{1, TICKET(1)}, {2, BLANK(1)}}},
+        {SEAL, 0, 0, 0, 2, {{1, 0, 4, 0}, {2, 1, 11, 0}}, 2, {4, 4}, 2, {{1, TICKET(1)}, {2, BLANK(1)}}},
+        {TAKE, 1, 20, 13, 2, {{1, 0, 4, 0}, {2, 1, 11, 0}}, 2, {4, 4}, 2, {{1, TICKET(1)}, {2, BLANK(1)}}},
+        {TAKE, 1, 0, 13, 2, {{1, 0, 4, 0}, {2, 1, 11, 0}}, 2, {4, 4}, 2, {{1, TICKET(1)}, {2, BLANK(1)}}},
+        {TAKE, 9, 20, 13, 2, {{1, 0, 4, 0}, {2, 1, 11, 0}}, 2, {4, 4}, 2, {{1, TICKET(1)}, {2, BLANK(1)}}},
+        TOTAL_IS(15),
+        {SEND, 0, 0, SENT(ORDINARY, FRAME, 1), 1, {{2, 1, 11, 0}}, 1, {11}, 1, {{2, TICKET(2)}}},
+        {TAKE, 1, 20, 13, 1, {{2, 1, 11, 0}}, 1, {11}, 1, {{2, TICKET(2)}}},
+        {SEND, 0, 0, SENT(ORDINARY, FRAME, 2), 0, {{0}}, 0, {0}, 0, {{0}}},
+        OVER(SEND), OVER(SEAL), OVER(TAKE)}},
+    /* sealed twice: a blank is due before both frames, so the first slot is silent while they wait */
+    {2, 7, {
+        {TAKE, 1, 5, TICKET(1), 1, {{1, 1, 5, 0}}, 3, {0, 0, 0}, 1, {{1, BLANK(1)}}},
+        {TAKE, 2, 7, TICKET(2), 2, {{1, 1, 5, 0}, {2, 2, 7, 0}}, 3, {0, 0, 0}, 2, {{1, BLANK(1)}, {2, BLANK(2)}}},
+        {SEAL, 0, 0, 0, 2, {{1, 1, 5, 0}, {2, 2, 7, 0}}, 3, {0, 0, 0}, 2, {{1, BLANK(1)}, {2, BLANK(2)}}},
+        {SEAL, 0, 0, 0, 2, {{1, 1, 5, 0}, {2, 2, 7, 0}}, 3, {0, 0, 0}, 2, {{1, BLANK(1)}, {2, BLANK(2)}}},
+        {SEND, 0, 0, SENT(ORDINARY, SILENCE, 0), 2, {{1, 1, 5, 0}, {2, 2, 7, 0}}, 2, {5, 5}, 2, {{1, TICKET(1)}, {2, BLANK(2)}}},
+        {SEND, 0, 0, SENT(ORDINARY, FRAME, 1), 1, {{2, 2, 7, 0}}, 1, {7}, 1, {{2, TICKET(2)}}},
+        {SEND, 0, 0, SENT(ORDINARY, FRAME, 2), 0, {{0}}, 0, {0}, 0, {{0}}}}},
+    /* sealed with a kept blank waiting: its turn comes first; a new round is not sealed */
+    {3, 10, {
+        {TAKE, 3, 20, TICKET(1), 1, {{1, 3, 20, 0}}, 4, {0, 0, 0, 0}, 1, {{1, BLANK(3)}}},
+        {TAKE, 0, 5, TICKET(2), 2, {{1, 3, 20, 0}, {2, 0, 5, 0}}, 4, {5, 0, 0, 0}, 2, {{1, BLANK(3)}, {2, TICKET(2)}}},
+        {TAKE, 2, 5, TICKET(3), 3, {{1, 3, 20, 0}, {2, 0, 5, 0}, {3, 2, 5, 0}}, 4, {5, 0, 0, 0}, 3, {{1, BLANK(3)}, {2, TICKET(2)}, {3, BLANK(2)}}},
+        {TAKE, 3, 9, TICKET(4), 4, {{1, 3, 20, 0}, {2, 0, 5, 0}, {3, 2, 5, 0}, {4, 3, 9, 0}}, 4, {5, 5, 5, 5}, 4, {{1, BLANK(1)}, {2, TICKET(2)}, {3, BLANK(1)}, {4, BLANK(1)}}},
+        {SEND, 0, 0, SENT(LEAP, FRAME, 1), 3, {{1, 1, 5, 1}, {3, 2, 5, 0}, {4, 3, 9, 0}}, 3, {5, 5, 5}, 3, {{1, TICKET(1)}, {3, BLANK(2)}, {4, BLANK(3)}}},
+        {SEAL, 0, 0, 0, 3, {{1, 1, 5, 1}, {3, 2, 5, 0}, {4, 3, 9, 0}}, 3, {5, 5, 5}, 3, {{1, TICKET(1)}, {3, BLANK(2)}, {4, BLANK(3)}}},
+        {SEND, 0, 0, SENT(ORDINARY, KEPT_BLANK, 1), 2, {{3, 2, 5, 0}, {4, 3, 9, 0}}, 2, {5, 5}, 2, {{3, TICKET(3)}, {4, BLANK(3)}}},
+        {SEND, 0, 0, SENT(ORDINARY, FRAME, 3), 1, {{4, 3, 9, 0}}, 1, {9}, 1, {{4, TICKET(4)}}},
+        {OPEN, 1, 0, 0, 0, {{0}}, 2, {0, 0}, 1, {{4, 10}}},
+        {TAKE, 0, 4, TICKET(1), 1, {{1, 0, 4, 0}}, 2, {4, 0}, 1, {{1, TICKET(1)}}}}},
+    /* sealed with a row left out: the first is the plan's, the heavier of two due in slot 1 */
+    {1, 6, {
+        {TAKE, 0, 4, TICKET(1), 1, {{1, 0, 4, 0}}, 2, {4, 0}, 1, {{1, TICKET(1)}}},
+        {TAKE, 1, 5, TICKET(2), 2, {{1, 0, 4, 0}, {2, 1, 5, 0}}, 2, {4, 4}, 2, {{1, TICKET(1)}, {2, BLANK(1)}}},
+        {TAKE, 1, 6, TICKET(3), 3, {{1, 0, 4, 0}, {2, 1, 5, 0}, {3, 1, 6, 0}}, 2, {5, 5}, 3, {{1, 11}, {2, TICKET(2)}, {3, TICKET(2)}}},
+        {SEAL, 0, 0, 0, 3, {{1, 0, 4, 0}, {2, 1, 5, 0}, {3, 1, 6, 0}}, 2, {5, 5}, 3, {{1, 11}, {2, TICKET(2)}, {3, TICKET(2)}}},
+        {SEND, 0, 0, SENT(ORDINARY, FRAME, 3), 1, {{2, 1, 5, 0}}, 1, {5}, 1, {{2, TICKET(2)}}},
+        {SEND, 0, 0, SENT(ORDINARY, FRAME, 2), 0, {{0}}, 0, {0}, 0, {{0}}}}},
 };
 
 static unsigned passed, failed;
@@ -279,6 +322,10 @@ static uint64_t call(const struct turn *t)
         return lirvedd_take(t->due, t->weight, table, sizeof table);
     if (t->call == SEND)
         return lirvedd_send(table, sizeof table);
+    if (t->call == SEAL)
+        return lirvedd_seal(table, sizeof table);
+    if (t->call == OPEN)
+        return lirvedd_open(t->due, table, sizeof table);
     return lirvedd_total(table, sizeof table);
 }
 
@@ -299,7 +346,7 @@ static void play(size_t h)
     }
 }
 
-/* Refusals of the four calls, in their order; none changes a byte. */
+/* Refusals of the five calls, in their order; none changes a byte. */
 static void refused(void)
 {
     static uint8_t before[sizeof table];
@@ -308,6 +355,8 @@ static void refused(void)
     memcpy(before, table, sizeof table);
     note(lirvedd_send(NULL, 0) == 2 && lirvedd_mark(0, NULL, 0) == 2, "length 0");
     note(lirvedd_total(NULL, 0) == 2 && lirvedd_substitute(1, NULL, 0) == 2, "length 0");
+    note(lirvedd_seal(NULL, 0) == 2 && lirvedd_seal(table, sizeof table - 1) == 2, "length");
+    note(lirvedd_seal(table, sizeof table) == 3, "not sound");
     note(lirvedd_send(table, sizeof table) == 3 && lirvedd_mark(9, table, sizeof table) == 3, "not sound");
     note(lirvedd_total(table, sizeof table) == 3 && lirvedd_substitute(9, table, sizeof table) == 3, "not sound");
     note(memcmp(table, before, sizeof table) == 0, "unchanged");
@@ -323,6 +372,7 @@ static void refused(void)
     memcpy(before, table, sizeof table);
     note(lirvedd_send(table, sizeof table) == 5 && lirvedd_mark(9, table, sizeof table) == 5, "over");
     note(lirvedd_total(table, sizeof table) == 5 && lirvedd_substitute(9, table, sizeof table) == 5, "over");
+    note(lirvedd_seal(table, sizeof table) == 5, "over");
     note(memcmp(table, before, sizeof table) == 0, "unchanged");
 }
 

@@ -260,6 +260,7 @@ static void taking_refused_3(void)
         {0, &head_last, 4096},       {0, &head_last, 65535},
         {0, &head_slot, 11},         {0, &head_slot, 65535},
         {0, &head_next, 0},          {0, &head_next, 16777217},   {0, &head_next, UINT32_MAX},
+        {0, &head_sealed, 2},        {0, &head_sealed, 128},      {0, &head_sealed, 255},
         {TABLE_SIZE(0), &row_ticket, 0},   {TABLE_SIZE(0), &row_ticket, 5},   {TABLE_SIZE(0), &row_ticket, 6}, /* they do not rise from 1 */
         {0, &head_next, 5},          {TABLE_SIZE(1), &row_ticket, 16777216},                       /* not below the next */
         {TABLE_SIZE(0), &row_due, 2},      {0, &head_slot, 4},                                     /* due before the current slot */
@@ -329,6 +330,63 @@ static void taking_refused_8_and_9(void)
     CHECK(take_refused(8, 9, 1, small));
 }
 
+static int seal_refused(uint64_t number, size_t length)
+{
+    memcpy(before, table, sizeof table);
+    return lirvedd_seal(table, length) == number && unchanged();
+}
+
+/* Byte 10 becomes 1 and no other changes, once and for all until an opening. */
+static void sealing(void)
+{
+    static const uint8_t sealed = 1;
+
+    sound();
+    memcpy(before, table, sizeof table);
+    CHECK(lirvedd_seal(table, small) == 0);
+    CHECK(changed_to(10, &sealed, 1));
+    CHECK(lirvedd_seal(table, small) == 0 && unchanged()); /* sealing twice */
+    CHECK(open_refused(4, 4096, small));
+    CHECK(lirvedd_send(table, small) == ((uint64_t)2 << 8 | (uint64_t)1 << 32));
+    CHECK(get(table, head_sealed) == 1 && get(table, head_slot) == 4);
+    CHECK(take_refused(13, 4, 1, small)); /* still sealed */
+    CHECK(lirvedd_open(9, table, small) == 0 && get(table, head_sealed) == 0);
+    CHECK(lirvedd_take(9, 1, table, small) == 1 << 8);
+}
+
+static void sealing_refused(void)
+{
+    sound();
+    CHECK(seal_refused(2, small - 1) && seal_refused(2, small + 1) && seal_refused(2, HEAD_SIZE));
+    CHECK(lirvedd_seal(NULL, 0) == 2);
+    table[HEAD_SIZE - 1] = 1;
+    CHECK(seal_refused(3, small));
+    sound();
+    table[10] = 2; /* neither sealed nor not */
+    CHECK(seal_refused(3, small) && take_refused(3, 4, 1, small));
+    head(10, 9, 6, 0);
+    CHECK(seal_refused(5, small));
+    put(table, head_sealed, 1);
+    CHECK(seal_refused(5, small));
+    CHECK(take_refused(5, 9, 1, small)); /* 5 comes before 13 */
+    head(9, 9, 6, 0);
+    CHECK(lirvedd_seal(table, small) == 0); /* the last slot is not past */
+}
+
+static void taking_refused_13(void)
+{
+    sound();
+    put(table, head_sealed, 1);
+    CHECK(take_refused(13, 4, 1, small));
+    CHECK(take_refused(13, 4, 0, small)); /* 13 comes before 6 */
+    CHECK(take_refused(13, 10, 1, small)); /* and before 7 */
+    put(table, head_next, 16777216);
+    CHECK(take_refused(13, 4, 1, small)); /* and before 8 */
+    put(table, head_used, 3);
+    row(2, 16777215, 9, 1, 0);
+    CHECK(take_refused(13, 4, 1, small));
+}
+
 static void unpacking(void)
 {
     CHECK(lirvedd_refusal(0) == LIRVEDD_ACCEPTED && lirvedd_ticket(0) == 0);
@@ -352,6 +410,9 @@ int main(void)
     taking_refused_5();
     taking_refused_6_and_7();
     taking_refused_8_and_9();
+    sealing();
+    sealing_refused();
+    taking_refused_13();
     unpacking();
     printf("%u passed, %u failed\n", passed, failed);
     return failed == 0 ? 0 : 1;

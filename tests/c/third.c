@@ -1,6 +1,6 @@
 /* The third demand by trying every set: small rounds drawn at random, played through the archive to their end. After each call the rows
- * are read from the table's bytes, and for every set of them it is seen whether it could go out in time and what it weighs. Nothing of
- * how a plan is computed stands here. LIRVEDD_ROUNDS sets how many rounds are played; a failure names its round's seed.
+ * are read from the table's bytes, and for every set of them it is seen whether it could go out in time and what it weighs. Some rounds
+ * are sealed: the rows planned then have to go out by their due slots. Nothing of how a plan is computed stands here. LIRVEDD_ROUNDS sets how many rounds are played; a failure names its round's seed.
  */
 #include "lirvedd.h"
 #include "table.h"
@@ -25,6 +25,8 @@ static uint8_t table[LIRVEDD_TABLE_SIZE(MOST_SMALL_ROWS)];
 static size_t length;
 static uint64_t seed, state;
 static unsigned wrong; /* facts that do not hold, in all rounds so far */
+static struct row promised[MOST_SMALL_ROWS]; /* of the plan when the round was sealed, and not yet gone */
+static uint32_t promises;
 
 static void note(int holds, const char *fact)
 {
@@ -134,10 +136,35 @@ static void not_sunk(const struct seen *old)
         note(new.marks[slot] >= old->marks[slot], "a mark of a slot ahead does not sink");
 }
 
+static void seal(const struct seen *s)
+{
+    note(lirvedd_seal(table, length) == LIRVEDD_ACCEPTED, "a round that is not over is sealed");
+    promises = 0;
+    for (uint32_t i = 0; i < s->used; i++)
+        if (planned(s) >> i & 1u)
+            promised[promises++] = s->rows[i];
+}
+
+/* What goes out is no longer promised; nothing that is may stay behind in its due slot. */
+static void send(const struct seen *s)
+{
+    uint64_t reply = lirvedd_send(table, length);
+    uint32_t left = 0;
+
+    for (uint32_t i = 0; i < promises; i++)
+        if (promised[i].ticket != lirvedd_ticket(reply))
+            promised[left++] = promised[i];
+    promises = left;
+    for (uint32_t i = 0; i < promises; i++)
+        note(promised[i].due > s->slot, "what was planned when the round was sealed goes out by its due slot");
+}
+
 static void play(void)
 {
     uint32_t kind = draw(4), last = draw(MOST_SLOTS);
+    int may_seal = draw(2) == 0;
 
+    promises = 0;
     length = LIRVEDD_TABLE_SIZE(1 + draw(MOST_SMALL_ROWS));
     for (size_t i = 0; i < sizeof table; i++)
         table[i] = (uint8_t)draw(256);
@@ -147,7 +174,9 @@ static void play(void)
 
         look(&old);
         if (draw(4) == 0)
-            lirvedd_send(table, length);
+            send(&old);
+        else if (may_seal && draw(16) == 0)
+            seal(&old);
         else if (draw(12) == 0)
             take(&old, last + 1, 0); /* refused */
         else

@@ -36,6 +36,13 @@ pub unsafe extern "C" fn lirvedd_send(table: *mut u8, length: usize) -> u64 {
 /// # Safety
 /// As `lirvedd_open`.
 #[no_mangle]
+pub unsafe extern "C" fn lirvedd_seal(table: *mut u8, length: usize) -> u64 {
+    calls::seal(lent(table, length))
+}
+
+/// # Safety
+/// As `lirvedd_open`.
+#[no_mangle]
 pub unsafe extern "C" fn lirvedd_mark(slot: u32, table: *mut u8, length: usize) -> u64 {
     calls::mark(slot, lent(table, length))
 }

@@ -1,8 +1,9 @@
-//! Opening and taking. Every call returns its packed reply.
+//! Opening, taking and sealing. Every call returns its packed reply.
 
 use crate::sound::{judge, LENGTH};
 use crate::table::{
-    is_length, rows, rows_mut, set, LAST, MOST_LAST, MOST_WEIGHT, NEXT, TICKET, TICKET_LIMIT, USED,
+    is_length, is_sealed, rows, rows_mut, set, LAST, MOST_LAST, MOST_WEIGHT, NEXT, SEALED, TICKET,
+    TICKET_LIMIT, USED,
 };
 
 pub use crate::questions::{mark, total};
@@ -14,6 +15,7 @@ const BAD_WEIGHT: u64 = 6;
 pub(crate) const BAD_SLOT: u64 = 7;
 const NO_TICKET_LEFT: u64 = 8;
 const TABLE_FULL: u64 = 9;
+const IS_SEALED: u64 = 13;
 
 pub fn open(last: u32, table: &mut [u8]) -> u64 {
     if !is_length(table.len()) {
@@ -33,6 +35,9 @@ pub fn take(due: u32, weight: u32, table: &mut [u8]) -> u64 {
         Ok(head) => head,
         Err(refusal) => return refusal,
     };
+    if is_sealed(table) {
+        return IS_SEALED;
+    }
     if weight.wrapping_sub(1) >= MOST_WEIGHT {
         return BAD_WEIGHT;
     }
@@ -51,4 +56,12 @@ pub fn take(due: u32, weight: u32, table: &mut [u8]) -> u64 {
     NEXT.put(table, head.next + 1);
     USED.put(table, head.used as u32 + 1);
     u64::from(head.next) << 8
+}
+
+pub fn seal(table: &mut [u8]) -> u64 {
+    if let Err(refusal) = judge(table, |_, _| ()) {
+        return refusal;
+    }
+    SEALED.put(table, 1);
+    0
 }

@@ -12,6 +12,7 @@ mod leap;
 mod lightest;
 mod plan;
 mod questions;
+mod sealed;
 mod segments;
 mod send;
 mod sound;

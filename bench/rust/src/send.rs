@@ -5,11 +5,12 @@ use crate::count::{Counts, Load, NONE_DUE};
 use crate::easy;
 use crate::leap::leap;
 use crate::plan::{Index, Plan};
+use crate::sealed;
 use crate::segments::{score, Segments};
 use crate::sound::judge;
 use crate::table::{
-    due, rows_mut, ticket, weight, Head, Row, KIND, MIDDLE, MIDDLE_ROWS, MOST_ROWS, SLOT, SMALL,
-    SMALL_ROWS, USED,
+    due, is_sealed, rows_mut, ticket, weight, Head, Row, KIND, MIDDLE, MIDDLE_ROWS, MOST_ROWS,
+    SLOT, SMALL, SMALL_ROWS, USED,
 };
 
 /// The heaviest row met so far; among equals the first.
@@ -58,17 +59,26 @@ impl Step {
 }
 
 pub fn send(table: &mut [u8]) -> u64 {
-    if table.len() <= SMALL {
-        send_in::<SMALL_ROWS>(table)
-    } else if table.len() <= MIDDLE {
-        send_in::<MIDDLE_ROWS>(table)
+    if is_sealed(table) {
+        by_size::<true>(table)
     } else {
-        send_in::<MOST_ROWS>(table)
+        by_size::<false>(table)
+    }
+}
+
+#[inline(always)]
+fn by_size<const IS_SEALED: bool>(table: &mut [u8]) -> u64 {
+    if table.len() <= SMALL {
+        send_in::<SMALL_ROWS, IS_SEALED>(table)
+    } else if table.len() <= MIDDLE {
+        send_in::<MIDDLE_ROWS, IS_SEALED>(table)
+    } else {
+        send_in::<MOST_ROWS, IS_SEALED>(table)
     }
 }
 
 #[inline(never)]
-fn send_in<const N: usize>(table: &mut [u8]) -> u64 {
+fn send_in<const N: usize, const IS_SEALED: bool>(table: &mut [u8]) -> u64 {
     let mut array = [NONE_DUE; N];
     let mut counts = Counts(&mut array);
     let head = match judge(table, |ahead, _| counts.add(ahead)) {
@@ -81,9 +91,14 @@ fn send_in<const N: usize>(table: &mut [u8]) -> u64 {
     }
     let due_now = counts.at(0);
     let load = counts.load(head.used);
+    if IS_SEALED && load.busy == 0 {
+        next_slot(table, head, head.used);
+        return 0;
+    }
     let rows = rows_mut(table);
     let used = &mut rows[..head.used];
     let step = match load.left_out {
+        _ if IS_SEALED => sealed::step(used, head.slot, &mut counts, &load),
         0 => easy::step(used, head.slot, &counts, load.busy),
         _ => crowded(used, head.slot, &mut counts, &load),
     };

@@ -1,13 +1,16 @@
 //! Refusals 2, 3 and 5: the table's length, its soundness, and a round that is over.
 
 use crate::table::{
-    is_length, rows, weight, word, Head, Row, DUE, KIND, LAST, MOST_LAST, MOST_WEIGHT, NEXT, SLOT,
-    TICKET, TICKET_LIMIT, USED, WORD,
+    is_length, rows, weight, word, Head, Row, DUE, KIND, LAST, MOST_LAST, MOST_WEIGHT, NEXT,
+    SEALED, SLOT, TICKET, TICKET_LIMIT, USED, WORD,
 };
 
 /// The bits above the due slot in a row's first word, and those below it once these are shifted out.
 const ABOVE_DUE: usize = 8 * (WORD - DUE.end());
 const DUE_AT_TOP: usize = 8 * (WORD - DUE.size);
+
+/// The bit of a sealed round in the head's second word.
+const SEAL: u64 = 1 << (8 * (SEALED.at - USED.at));
 
 pub const LENGTH: u64 = 2;
 pub const NOT_SOUND: u64 = 3;
@@ -34,11 +37,12 @@ pub fn judge(table: &[u8], each: impl FnMut(usize, u32)) -> Result<Head, u64> {
     Ok(head)
 }
 
-/// The head's second word is the rows in use and six zero bytes: one comparison judges all.
+/// The head's second word is the rows in use, the seal, of which one bit may be set, and five zero bytes: without that bit
+/// one comparison judges all.
 #[inline(always)]
 fn head(table: &[u8], rows: usize) -> Option<Head> {
     let first = word(table, 0);
-    let used = word(table, USED.at);
+    let used = word(table, USED.at) & !SEAL;
     let head = Head {
         slot: SLOT.of_word(first),
         last: LAST.of_word(first),

@@ -17,6 +17,7 @@ pub const SLOT: Field = Field { at: 0, size: 2 };
 pub const LAST: Field = Field { at: 2, size: 2 };
 pub const NEXT: Field = Field { at: 4, size: 4 };
 pub const USED: Field = Field { at: 8, size: 2 };
+pub const SEALED: Field = Field { at: 10, size: 1 };
 
 /// A row's fields.
 pub const TICKET: Field = Field { at: 0, size: 4 };
@@ -70,6 +71,12 @@ pub struct Head {
     pub last: u32,
     pub next: u32,
     pub used: usize,
+}
+
+/// Whether a sound table's round is sealed. It is no part of the head, which so fits in the registers while rows are judged.
+#[inline(always)]
+pub fn is_sealed(table: &[u8]) -> bool {
+    table.get(SEALED.at) == Some(&1)
 }
 
 /// Whether refusal 2 lets this length through.

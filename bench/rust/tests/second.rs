@@ -15,6 +15,7 @@ impl Library for Tuned {
             Call::Open { last } => calls::open(last, table),
             Call::Take { due, weight } => calls::take(due, weight, table),
             Call::Send => calls::send(table),
+            Call::Seal => calls::seal(table),
             Call::Mark { slot } => calls::mark(slot, table),
             Call::Total => calls::total(table),
             Call::Substitute { ticket } => calls::substitute(ticket, table),

@@ -5,6 +5,7 @@ pub enum Call {
     Open { last: u32 },
     Take { due: u32, weight: u32 },
     Send,
+    Seal,
     Mark { slot: u32 },
     Total,
     Substitute { ticket: u32 },
@@ -17,6 +18,7 @@ pub enum CallName {
     Open,
     Take,
     Send,
+    Seal,
     Mark,
     Total,
     Substitute,
@@ -33,6 +35,7 @@ impl Call {
             Call::Open { .. } => CallName::Open,
             Call::Take { .. } => CallName::Take,
             Call::Send => CallName::Send,
+            Call::Seal => CallName::Seal,
             Call::Mark { .. } => CallName::Mark,
             Call::Total => CallName::Total,
             Call::Substitute { .. } => CallName::Substitute,
@@ -46,6 +49,7 @@ impl CallName {
         CallName::Open,
         CallName::Take,
         CallName::Send,
+        CallName::Seal,
         CallName::Mark,
         CallName::Total,
         CallName::Substitute,
@@ -53,6 +57,6 @@ impl CallName {
 
     /// Whether the call needs the plan.
     pub fn plans(self) -> bool {
-        !matches!(self, CallName::Open | CallName::Take)
+        !matches!(self, CallName::Open | CallName::Take | CallName::Seal)
     }
 }

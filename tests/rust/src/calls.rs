@@ -8,6 +8,7 @@ use crate::payload;
 use crate::questions::{self, Substitute};
 use crate::refusal::Refusal;
 use crate::rules::Rules;
+use crate::sealing;
 use crate::send::{self, Step};
 use crate::station::{self, Reply};
 use crate::taking;
@@ -36,6 +37,7 @@ calls! {
     open(last: Slot, table: &mut [u8]) -> Result<(), Refusal> = opening::open;
     take(due: Slot, weight: Weight, table: &mut [u8]) -> Result<Ticket, Refusal> = taking::take;
     send(table: &mut [u8]) -> Result<Step, Refusal> = send::send;
+    seal(table: &mut [u8]) -> Result<(), Refusal> = sealing::seal;
     mark(slot: Slot, table: &[u8]) -> Result<Weight, Refusal> = questions::mark;
     total(table: &[u8]) -> Result<u64, Refusal> = questions::total;
     substitute(ticket: Ticket, table: &[u8]) -> Result<Substitute, Refusal> = questions::substitute;

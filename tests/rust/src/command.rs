@@ -15,6 +15,7 @@ pub enum Command {
     Open { last: Slot },
     Take { due: Slot, weight: Weight },
     Send,
+    Seal,
 }
 
 /// The form of a command's line.
@@ -53,6 +54,12 @@ pub const FORMS: &[Form] = &[
         has_payload: false,
         command: |_| Command::Send,
     },
+    Form {
+        line: "03",
+        widths: &[],
+        has_payload: false,
+        command: |_| Command::Seal,
+    },
 ];
 
 impl Command {
@@ -62,6 +69,7 @@ impl Command {
             Command::Open { last } => ("00", vec![last.0]),
             Command::Take { due, weight } => ("01", vec![due.0, weight.0]),
             Command::Send => ("02", vec![]),
+            Command::Seal => ("03", vec![]),
         }
     }
 }

@@ -1,5 +1,6 @@
 //! Rounds by hand, written as document 01 writes them: the last slot, then
-//! "due:weight" for each taking and "S" for each sending.
+//! "due:weight" for each taking, "S" for each sending, "seal" for a sealing
+//! and "O1" for an opening anew, of slots 0 and 1.
 
 use crate::call::Call;
 use crate::counts::{Slot, Ticket, Weight};
@@ -32,6 +33,15 @@ pub const ROUNDS: &[(&str, &str)] = &[
     ("own segment", "4; 3:1 2:3 3:3 S S S S S"),
     ("kept blank outweighed", "1; 0:4 1:11 S 1:3 1:6 S"),
     ("equal substitutes", "3; 0:9 3:4 3:4 3:9 2:9 1:9 S S S S"),
+    ("sealed", "1; 0:4 1:11 seal 1:20 0:0 S S S seal"),
+    ("sealed, silence first", "2; 1:5 2:7 seal seal S S S"),
+    ("sealed, a kept blank", "3; 3:20 0:5 2:5 3:9 S seal S 3:30 S S"),
+    ("sealed, one left out", "1; 0:4 1:5 1:6 seal S S"),
+    ("sealed, all equal", "3; 3:9 3:9 3:9 2:9 seal S S S S"),
+    ("sealed, the heavier first", "3; 2:1 2:7 2:3 3:8 seal S S seal S S"),
+    ("sealed, silence between", "4; 0:3 3:2 4:9 seal S S S 4:1 S S"),
+    ("sealed and empty", "2; seal 2:1 S S S"),
+    ("sealed and opened anew", "1; seal 1:9 O1 0:4 1:11 S S"),
 ];
 
 /// A row by hand: ticket, due slot, weight and whether kept.
@@ -88,15 +98,22 @@ pub fn calls(text: &str) -> Vec<Call> {
     let (last, rest) = text.split_once(';').expect("the last slot, then ';'");
     let mut calls = vec![Call::Open { last: number(last) }];
     for word in rest.split_whitespace() {
-        calls.push(match word.split_once(':') {
-            Some((due, weight)) => Call::Take {
-                due: number(due),
-                weight: number(weight),
-            },
-            None => Call::Send,
-        });
+        calls.push(call(word));
     }
     calls
+}
+
+fn call(word: &str) -> Call {
+    match (word, word.split_once(':'), word.strip_prefix('O')) {
+        (_, Some((due, weight)), _) => Call::Take {
+            due: number(due),
+            weight: number(weight),
+        },
+        (_, _, Some(last)) => Call::Open { last: number(last) },
+        ("seal", ..) => Call::Seal,
+        ("S", ..) => Call::Send,
+        _ => panic!("no call: {word}"),
+    }
 }
 
 fn number(text: &str) -> u32 {

@@ -29,6 +29,7 @@ pub mod reasons;
 pub mod refusal;
 pub mod round;
 pub mod rules;
+pub mod sealing;
 pub mod send;
 pub mod settings;
 pub mod sound;

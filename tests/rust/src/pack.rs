@@ -17,6 +17,7 @@ impl Rules {
                 packed(self.take(Slot(due), Weight(weight), table), ticket)
             }
             Call::Send => packed(self.send(table), step),
+            Call::Seal => packed(self.seal(table), |()| 0),
             Call::Mark { slot } => packed(self.mark(Slot(slot), table), mark),
             Call::Total => packed(self.total(table), |total| total << 8),
             Call::Substitute { ticket } => {

@@ -1,4 +1,4 @@
-//! The reasons to refuse, by document 01's numbers, and the order in which
+//! The reasons to refuse, by the papers' numbers, and the order in which
 //! each call checks them. The first that applies is given.
 
 use crate::counts::{Slot, Ticket, Weight};
@@ -21,11 +21,12 @@ pub const OPENING: &[Reason<Slot>] = &[
     (Refusal::LastTooLate, last_too_late),
 ];
 
-/// Taking a frame is checked by 2, 3, 5 to 9.
+/// Taking a frame is checked by 2, 3, 5 to 9, and by 13 after 5.
 pub const TAKING: &[Reason<Frame>] = &[
     (Refusal::Length, bad_length),
     (Refusal::Unsound, unsound),
     (Refusal::Over, over),
+    (Refusal::Sealed, sealed),
     (Refusal::Weight, bad_weight),
     (Refusal::Slot, |asked| outside(asked, asked.argument.due)),
     (Refusal::Tickets, no_ticket_left),
@@ -37,6 +38,8 @@ pub const SENDING: &[Reason<()>] = &[
     (Refusal::Unsound, unsound),
     (Refusal::Over, over),
 ];
+
+pub const SEALING: &[Reason<()>] = SENDING;
 
 pub const MARK: &[Reason<Slot>] = &[
     (Refusal::Length, bad_length),
@@ -112,6 +115,11 @@ pub fn in_no_row(asked: &Asked<Ticket>) -> bool {
 /// 11: the ticket's row is not in the plan.
 fn not_in_plan(asked: &Asked<Ticket>) -> bool {
     asked.plan().member(asked.argument).is_none()
+}
+
+/// 13: the round is sealed.
+pub fn sealed<A>(asked: &Asked<A>) -> bool {
+    asked.round().sealed
 }
 
 /// A reason to refuse a line to be written: by the line, if what is given

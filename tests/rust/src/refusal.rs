@@ -1,4 +1,4 @@
-//! The reasons to refuse, each with document 01's number.
+//! The reasons to refuse, each with document 01's or 02's number.
 
 #[derive(Clone, Copy, PartialEq, Eq, Debug)]
 pub enum Refusal {
@@ -26,6 +26,8 @@ pub enum Refusal {
     OutsidePlan = 11,
     /// The lent list or the writer's buffer is too short.
     Short = 12,
+    /// The round is sealed.
+    Sealed = 13,
 }
 
 impl Refusal {

@@ -18,6 +18,8 @@ pub struct Round {
     pub slot: Slot,
     pub last: Slot,
     pub next: Ticket,
+    /// No frame is taken any more, and the plan goes out in canonical order.
+    pub sealed: bool,
     /// The used rows, in ticket order.
     pub rows: Vec<Row>,
 }
@@ -64,6 +66,7 @@ impl Round {
             slot: Slot(0),
             last,
             next: Ticket(1),
+            sealed: false,
             rows: Vec::new(),
         }
     }

@@ -11,7 +11,7 @@ use crate::listing::{self, Entry};
 use crate::order::{self, Item};
 use crate::plan::Plan;
 use crate::reasons::{self, Frame, Order, WritingOrder};
-use crate::round::Row;
+use crate::round::{Round, Row};
 use crate::send;
 use crate::sound::CLAUSES;
 use crate::substitute::{self, Substitutes};
@@ -45,6 +45,7 @@ pub struct Reasons {
     pub open: Order<Slot>,
     pub take: Order<Frame>,
     pub send: Order<()>,
+    pub seal: Order<()>,
     pub mark: Order<Slot>,
     pub total: Order<()>,
     pub substitute: Order<Ticket>,
@@ -62,6 +63,8 @@ pub struct Planning {
     /// Whether the first goes rather than the second, which is canonically
     /// before it.
     pub beats: fn(Score, Score) -> bool,
+    /// Which plan member goes.
+    pub goes: fn(&Round, &Substitutes) -> Item,
     /// What p's leap changes, with substitute r.
     pub leap: fn(&Plan, Item, Item) -> Leap,
     /// Whether a row leaves as the current slot rises to this one.
@@ -77,6 +80,7 @@ impl Rules {
             open: Cow::Borrowed(reasons::OPENING),
             take: Cow::Borrowed(reasons::TAKING),
             send: Cow::Borrowed(reasons::SENDING),
+            seal: Cow::Borrowed(reasons::SEALING),
             mark: Cow::Borrowed(reasons::MARK),
             total: Cow::Borrowed(reasons::TOTAL),
             substitute: Cow::Borrowed(reasons::SUBSTITUTE),
@@ -88,6 +92,7 @@ impl Rules {
             mark: tight::mark,
             substitute: substitute::substitute,
             beats: golden::beats,
+            goes: send::goes,
             leap: leap::leap,
             is_late: send::is_late,
             listed: listing::listed,

@@ -37,7 +37,7 @@ pub fn send(rules: &Rules, table: &mut [u8]) -> Result<Step, Refusal> {
 /// Sends the current slot of a round with this plan.
 fn step(plan: &Plan, round: &mut Round) -> Step {
     let substitutes = Substitutes::of(plan);
-    let p = pick(plan, &substitutes);
+    let p = (plan.rules.planning.goes)(round, &substitutes);
     let out = what_goes_out(round, p);
     let is_leap = p.due > plan.first_end();
     if is_leap {
@@ -53,9 +53,19 @@ fn step(plan: &Plan, round: &mut Round) -> Step {
     }
 }
 
+/// In a sealed round the plan's canonical first, a blank or a row, otherwise
+/// PlanM's pick.
+pub fn goes(round: &Round, substitutes: &Substitutes) -> Item {
+    match round.sealed {
+        true => substitutes.plan.members[0],
+        false => pick(substitutes),
+    }
+}
+
 /// The plan member with the greatest weight + φ × weight of its substitute;
 /// among equals the canonical first. The members stand in canonical order.
-fn pick(plan: &Plan, substitutes: &Substitutes) -> Item {
+pub fn pick(substitutes: &Substitutes) -> Item {
+    let plan = substitutes.plan;
     let scored = |member: &Item| Scored {
         member: *member,
         score: Score {

@@ -4,12 +4,15 @@ use crate::field::Field;
 use crate::round::Round;
 use crate::rules::Clause;
 use crate::table::{
-    zeros_at, DUE, HEAD, HEAD_FIELDS, KIND, LAST, NEXT, ROW, ROW_FIELDS, SLOT, TICKET, USED, WEIGHT,
+    zeros_at, DUE, HEAD, HEAD_FIELDS, KIND, LAST, NEXT, ROW, ROW_FIELDS, SEALED, SLOT, TICKET,
+    USED, WEIGHT,
 };
 
-/// Document 01's clauses, in its order.
+/// Document 01's clauses, in its order, and what the requests name for bytes
+/// that they give a use.
 pub const CLAUSES: &[Clause] = &[
     ("zero bytes", |table| head_zeros(table) && row_zeros(table)),
+    ("sealed", |table| SEALED.get(table) <= 1),
     ("kinds", |table| each(table, KIND, |kind| kind <= 1)),
     ("rows in use", |table| USED.get(table) as usize <= rows(table)),
     ("last slot", |table| LAST.get(table) <= Round::LAST.0),

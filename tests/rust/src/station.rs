@@ -42,6 +42,10 @@ fn answer(rules: &Rules, command: Command, table: &mut [u8]) -> Result<String, R
             let step = rules.send(table)?;
             Ok(sent(step))
         }
+        Command::Seal => {
+            rules.seal(table)?;
+            Ok("03\n".to_string())
+        }
     }
 }
 

@@ -15,6 +15,7 @@ fields! {
     LAST, "last slot", 2, 2;
     NEXT, "next ticket", 4, 4;
     USED, "rows in use", 8, 2;
+    SEALED, "sealed", 10, 1;
 }
 
 fields! {
@@ -48,6 +49,11 @@ pub fn row_mut(table: &mut [u8], place: usize) -> &mut [u8] {
     &mut table[row_at(place)..row_at(place + 1)]
 }
 
+/// Whether a table that a call accepted is of a sealed round.
+pub fn is_sealed(table: &[u8]) -> bool {
+    table.len() >= HEAD && SEALED.get(table) == 1
+}
+
 /// The round in a sound table.
 pub fn decode(table: &[u8]) -> Round {
     let (head, rows) = table.split_at(HEAD);
@@ -56,6 +62,7 @@ pub fn decode(table: &[u8]) -> Round {
         slot: Slot(SLOT.get(head)),
         last: Slot(LAST.get(head)),
         next: Ticket(NEXT.get(head)),
+        sealed: SEALED.get(head) == 1,
         rows: used.map(get_row).collect(),
     }
 }
@@ -76,6 +83,7 @@ pub fn encode(round: &Round, table: &mut [u8]) {
     LAST.put(table, round.last.0);
     NEXT.put(table, round.next.0);
     USED.put(table, round.rows.len() as u32);
+    SEALED.put(table, u32::from(round.sealed));
     for (place, row) in round.rows.iter().enumerate() {
         put_row(row, row_mut(table, place));
     }

@@ -24,16 +24,17 @@ fn meets_every_outcome() {
     let Ok(tally) = compared(Rules::PAPERS, Rules::PAPERS) else {
         panic!("it differs from itself");
     };
-    let refusals: [(CallName, &[u8]); 6] = [
+    let refusals: [(CallName, &[u8]); 7] = [
         (CallName::Open, &[2, 4]),
-        (CallName::Take, &[2, 3, 5, 6, 7, 8, 9]),
+        (CallName::Take, &[2, 3, 5, 6, 7, 8, 9, 13]),
         (CallName::Send, &[2, 3, 5]),
+        (CallName::Seal, &[2, 3, 5]),
         (CallName::Mark, &[2, 3, 5, 7]),
         (CallName::Total, &[2, 3, 5]),
         (CallName::Substitute, &[2, 3, 5, 10, 11]),
     ];
     for (call, numbers) in refusals {
-        for number in 1..=12 {
+        for number in 1..=13 {
             let met = tally.met(call, Outcome::Refused(number)) > 0;
             assert_eq!(met, numbers.contains(&number), "{call:?} {number}");
         }
@@ -44,6 +45,10 @@ fn meets_every_outcome() {
         assert!(tally.met(CallName::Send, Outcome::Sent(what, leap)) > 9);
     }
     assert_eq!(tally.met(CallName::Send, Outcome::Sent(0, true)), 0);
+    for what in 0..=2 {
+        assert!(tally.met(CallName::Send, Outcome::SentSealed(what, false)) > 9);
+        assert_eq!(tally.met(CallName::Send, Outcome::SentSealed(what, true)), 0);
+    }
     assert!(tally.met(CallName::Substitute, Outcome::Blank) > 9);
 }
 

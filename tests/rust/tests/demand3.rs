@@ -103,6 +103,7 @@ fn drawn(draw: &mut Draw, most: u32, falling: bool, table: &[u8]) -> Call {
         10 => Call::Mark { slot: due },
         11 => Call::Total,
         12 => Call::Open { last: 4_096 },
+        13 if draw.once_in(8) => Call::Seal,
         _ => Call::Send,
     }
 }

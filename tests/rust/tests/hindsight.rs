@@ -11,14 +11,15 @@ const FACTOR: f64 = 0.02;
 
 #[test]
 fn holds_on_every_kind() {
-    let mut gains = 0;
+    let (mut gains, mut sealed) = (0, 0);
     for round in rounds(3, FACTOR) {
         let (kind, number) = (round.kind, round.number);
         let found = check(Rules::PAPERS, &round.script);
         let found = found.unwrap_or_else(|wrong| panic!("{kind} {number}: {wrong}"));
         gains += usize::from(found.gain.best > found.gain.sent);
+        sealed += usize::from(found.sealed);
     }
-    assert!(gains > 500);
+    assert!(gains > 500 && sealed > 500);
 }
 
 #[test]

@@ -20,6 +20,7 @@ fn good_lines() {
     assert_eq!(SECOND.read(b"000ABC\n"), Ok(Command::Open { last: Slot(0xABC) }));
     assert_eq!(SECOND.read(b"00FFFF\n"), Ok(Command::Open { last: Slot(0xFFFF) }));
     assert_eq!(SECOND.read(b"02\n"), Ok(Command::Send));
+    assert_eq!(SECOND.read(b"03\n"), Ok(Command::Seal));
     assert_eq!(SECOND.read(b"01FFFFFFFFFFFF\n"), Ok(take(0xFFFF, 0xFFFF_FFFF)));
     let longest = format!("010001000000FF{}\n", "A5".repeat(24));
     assert_eq!(SECOND.read(longest.as_bytes()), Ok(take(1, 255)));
@@ -28,7 +29,7 @@ fn good_lines() {
 #[test]
 fn broken_lines() {
     let too_long = format!("010001000000FF{}\n", "A5".repeat(25));
-    let lines: [&[u8]; 16] = [
+    let lines: [&[u8]; 18] = [
         b"",
         b"\n",
         b"0\n",
@@ -37,7 +38,9 @@ fn broken_lines() {
         b"02\n0",
         b"02 \n",
         b"2\n",
-        b"03\n",
+        b"03",
+        b"0300\n",
+        b"04\n",
         b"00000\n",
         b"0000000\n",
         b"0100010000000\n",
@@ -61,13 +64,14 @@ fn the_payload_is_a_part_of_the_line() {
     assert_eq!(SECOND.payload_place(bare), (0, 0));
     assert_eq!(SECOND.payload(bare).as_ptr(), bare.as_ptr());
     assert_eq!(SECOND.payload_place(b"02\n"), (0, 0));
+    assert_eq!(SECOND.payload_place(b"03\n"), (0, 0));
 }
 
 #[test]
 fn the_writer_refuses_1_before_12() {
     let mut buffer = [7; 63];
     let long = [b'A'; 50];
-    let refused: [(Command, &[u8]); 7] = [
+    let refused: [(Command, &[u8]); 8] = [
         (
             Command::Open {
                 last: Slot(0x10000),
@@ -77,6 +81,7 @@ fn the_writer_refuses_1_before_12() {
         (take(0x10000, 1), b""),
         (Command::Open { last: Slot(1) }, b"00"),
         (Command::Send, b"00"),
+        (Command::Seal, b"00"),
         (take(1, 1), b"0"),
         (take(1, 1), b"0a"),
         (take(1, 1), &long),
@@ -87,6 +92,7 @@ fn the_writer_refuses_1_before_12() {
     }
     assert_eq!(SECOND.write(take(1, 0), b"", &mut buffer[..14]), Err(Refusal::Short));
     assert_eq!(SECOND.write(Command::Send, b"", &mut buffer[..2]), Err(Refusal::Short));
+    assert_eq!(SECOND.write(Command::Seal, b"", &mut buffer[..2]), Err(Refusal::Short));
     assert_eq!(buffer, [7; 63]);
 }
 
@@ -97,9 +103,10 @@ fn drawn(draw: &mut Draw) -> (Command, Vec<u8>) {
     let digits = (0..2 * bytes)
         .map(|_| *draw.pick(b"0123456789ABCDEF"))
         .collect();
-    match draw.below(3) {
+    match draw.below(4) {
         0 => (Command::Open { last: slot }, Vec::new()),
         1 => (Command::Send, Vec::new()),
+        2 => (Command::Seal, Vec::new()),
         _ => (
             Command::Take {
                 due: slot,

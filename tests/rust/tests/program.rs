@@ -42,11 +42,28 @@ fn named_replies() {
 }
 
 #[test]
+fn sealed_rounds() {
+    let frames = "01000000000004\n0100010000000B\n";
+    let tickets = "0100000001\n0100000002\n";
+    prints(
+        &format!("000001\n{frames}03\n01000100000014\n02\n03\n02\n02\n03\n"),
+        &format!("00\n{tickets}03\nFF0D\n02010000000001\n03\n02010000000002\nFF05\nFF05\n"),
+    );
+    prints(
+        "000002\n01000100000005\n01000200000007\n03\n02\n02\n02\n",
+        &format!("00\n{tickets}03\n02000000000000\n02010000000001\n02010000000002\n"),
+    );
+    prints("03\n000000\n03\n000000\n01000000000001\n", "FF03\n00\n03\n00\n0100000001\n");
+}
+
+#[test]
 fn stops_after_refusal_1() {
     prints("\n", "FF01\n");
     prints("000000\n\n02\n", "00\nFF01\n");
     prints("000000\n02", "00\nFF01\n");
-    prints("000000\n03\n02\n", "00\nFF01\n");
+    prints("000000\n04\n02\n", "00\nFF01\n");
+    prints("000000\n0300\n02\n", "00\nFF01\n");
+    prints("000000\n03", "00\nFF01\n");
     prints("000000\r\n02\n", "FF01\n");
     prints("00000a\n02\n", "FF01\n");
 }

@@ -6,7 +6,7 @@ use second::hand::table;
 use second::listing::Entry;
 use second::refusal::Refusal;
 use second::rules::Rules;
-use second::table::{row_at, row_mut, NEXT, SLOT, TICKET};
+use second::table::{row_at, row_mut, NEXT, SEALED, SLOT, TICKET};
 
 /// A refused call: its number, and the table as it was.
 fn refused(call: Call, table: &[u8], number: u64) {
@@ -16,11 +16,12 @@ fn refused(call: Call, table: &[u8], number: u64) {
 }
 
 /// Every call with arguments that no number but 2, 3 and 5 speaks against.
-fn every_call() -> [Call; 5] {
+fn every_call() -> [Call; 6] {
     let take = Call::Take { due: 0, weight: 1 };
     [
         take,
         Call::Send,
+        Call::Seal,
         Call::Mark { slot: 0 },
         Call::Total,
         Call::Substitute { ticket: 1 },
@@ -59,6 +60,59 @@ fn six_to_nine() {
     NEXT.put(&mut full, 16_777_215);
     TICKET.put(row_mut(&mut full, 0), 1);
     refused(take(2, 1), &full, 9);
+}
+
+/// 13 comes after 5 and before 6; every other call goes on, and a value above
+/// 1 is not sound.
+#[test]
+fn thirteen_in_taking() {
+    let take = |due, weight| Call::Take { due, weight };
+    let mut sealed = table(1, 2, &[(16_777_215, 1, 1, false)]);
+    SEALED.put(&mut sealed, 1);
+    for call in [take(1, 1), take(3, 1), take(3, 0), take(65_536, 16_777_217)] {
+        refused(call, &sealed, 13);
+    }
+    for call in every_call()
+        .into_iter()
+        .skip(1)
+        .chain([Call::Open { last: 9 }])
+    {
+        let number = match call {
+            Call::Substitute { .. } => 10,
+            _ => 0,
+        };
+        let reply = Rules::PAPERS.answer(call, &mut sealed.clone());
+        assert_eq!(reply & 0xFF, number, "{call:?}");
+    }
+    for value in [2, 3, 128, 255] {
+        SEALED.put(&mut sealed, value);
+        for call in every_call() {
+            refused(call, &sealed, 3);
+        }
+    }
+    let mut over = table(1, 0, &[]);
+    SLOT.put(&mut over, 1);
+    SEALED.put(&mut over, 1);
+    for call in every_call() {
+        refused(call, &over, 5);
+    }
+}
+
+/// Only byte 10 changes, once; an accepted opening clears it, a refused one
+/// does not.
+#[test]
+fn sealing_sets_one_byte() {
+    let open = table(3, 2, &[(2, 1, 5, false), (4, 2, 5, true)]);
+    let mut sealed = open.clone();
+    sealed[10] = 1;
+    let mut lent = open.clone();
+    for _ in 0..2 {
+        assert_eq!(Rules::PAPERS.seal(&mut lent), Ok(()));
+        assert_eq!(lent, sealed);
+    }
+    refused(Call::Open { last: 4_096 }, &sealed, 4);
+    assert_eq!(Rules::PAPERS.open(Slot(2), &mut lent), Ok(()));
+    assert_eq!(lent, table(3, 2, &[]));
 }
 
 #[test]

@@ -111,6 +111,57 @@ fn kept_blanks_anywhere() {
     leaves(3, BLANK_LIGHTEST, ordinary(1), rest);
 }
 
+/// The same tables sealed: the canonical first of the plan goes, and no other
+/// row changes.
+#[test]
+fn sealed_tables() {
+    sealed(2, SHIFTED, ordinary(1), "1:20 (t2) kept 2:9 (t3) 2:2 (t4)");
+    sealed(1, LEAPING, ordinary(1), "kept 1:11 (t2)");
+    sealed(1, BLANK_GOES, Step::Ordinary(kept(1)), "1:5 (t2)");
+    sealed(1, FRAME_FIRST, ordinary(1), "kept 1:5 (t2) 1:5 (t3)");
+    sealed(1, BLANK_FIRST, Step::Ordinary(kept(1)), "1:5 (t2) kept 1:5 (t3)");
+    let rest = "kept 1:3 (t2) 3:8 (t3) 3:7 (t4)";
+    sealed(3, BLANK_LIGHTEST, ordinary(1), rest);
+}
+
+/// What a table's sending gives once it is sealed, and the rows that it leaves.
+fn sealed(last: u32, rows: &[HandRow], step: Step, left: &str) {
+    let mut lent = table(rows.len(), last, rows);
+    assert_eq!(Rules::PAPERS.seal(&mut lent), Ok(()));
+    assert_eq!(Rules::PAPERS.send(&mut lent), Ok(step));
+    let round = decode(&lent);
+    assert_eq!((shown(&round).as_str(), round.sealed), (left, true));
+}
+
+/// Rounds sealed midway, each sending with the rows after it.
+#[test]
+fn sealed_rounds() {
+    let silence = Step::Ordinary(Out::Silence);
+    let shown = |text: &str| -> Vec<(Step, String)> { play(text).1 };
+    let steps = |text: &str| -> Vec<Step> { shown(text).into_iter().map(|one| one.0).collect() };
+    assert_eq!(
+        shown("1; 0:4 1:11 seal S S"),
+        [
+            (ordinary(1), "1:11 (t2)".to_string()),
+            (ordinary(2), String::new())
+        ]
+    );
+    let waits = "1:5 (t1) 2:7 (t2)".to_string();
+    assert_eq!(shown("2; 1:5 2:7 seal seal S S S")[0], (silence, waits));
+    assert_eq!(steps("2; 1:5 2:7 seal S S S"), [silence, ordinary(1), ordinary(2)]);
+    let blank = Step::Ordinary(kept(1));
+    let kept_first = [leap(1), blank, ordinary(3), ordinary(4)];
+    assert_eq!(steps("3; 3:20 0:5 2:5 3:9 S seal S S S"), kept_first);
+    assert_eq!(steps("1; 0:4 1:5 1:6 seal S S"), [ordinary(3), ordinary(2)]);
+    let equals = [ordinary(4), ordinary(1), ordinary(2), ordinary(3)];
+    assert_eq!(steps("3; 3:9 3:9 3:9 2:9 seal S S S S"), equals);
+    let heavier = [ordinary(2), ordinary(3), ordinary(1), ordinary(4)];
+    assert_eq!(steps("3; 2:1 2:7 2:3 3:8 seal S S S S"), heavier);
+    let between = [ordinary(1), silence, silence, ordinary(2), ordinary(3)];
+    assert_eq!(steps("4; 0:3 3:2 4:9 seal S S S S S"), between);
+    assert_eq!(steps("1; seal O1 0:4 1:11 S"), [leap(2)]);
+}
+
 /// What a table's sending gives, and the rows that it leaves.
 fn leaves(last: u32, rows: &[HandRow], step: Step, left: &str) {
     let mut lent = table(rows.len(), last, rows);

@@ -38,13 +38,17 @@ fn writes() {
     assert_eq!(wrote, bytes(&[0, 17], b"010ABC000000095F\n*"));
     let refused = outcome(&[1, 2, 4, 2, 0, 0], b"5F");
     assert_eq!(refused, bytes(&[1, 0], b"****"));
+    let sealed = outcome(&[1, 0, 4, 3, 0, 0], b"");
+    assert_eq!(sealed, bytes(&[0, 3], b"03\n*"));
 }
 
 #[test]
 fn reads() {
     let read = outcome(&[2, 17, 0, 0, 0, 0], b"010ABC000000095F\n");
     assert_eq!(read, bytes(&[0, 1, 0xABC, 9, 14, 16, 2], b"5F"));
-    let refused = outcome(&[2, 3, 0, 0, 0, 0], b"03\n");
+    let sealed = outcome(&[2, 3, 0, 0, 0, 0], b"03\n");
+    assert_eq!(sealed, bytes(&[0, 3, 0, 0, 0, 0, 0], b""));
+    let refused = outcome(&[2, 3, 0, 0, 0, 0], b"04\n");
     assert_eq!(refused, bytes(&[1, 0, 0, 0, 0, 0, 0], b""));
 }
 
@@ -54,7 +58,7 @@ fn ends_at_a_bad_head() {
         [3, 0, 0, 0, 0, 0],
         [0, 24_641, 0, 0, 0, 0],
         [0, 0, 1_025, 0, 0, 0],
-        [1, 0, 0, 3, 0, 0],
+        [1, 0, 0, 4, 0, 0],
     ];
     for head in heads {
         assert_eq!(Request::first(&bytes(&head, &[0; 24_641])), None);

@@ -30,6 +30,7 @@ const LEAST: &[(&str, usize)] = &[
     ("020100", 5_000),
     ("020101", 5_000),
     ("020200", 200),
+    ("03", 1_500),
     ("FF01", 1_500),
     ("FF03", 100),
     ("FF04", 100),
@@ -37,6 +38,7 @@ const LEAST: &[(&str, usize)] = &[
     ("FF06", 500),
     ("FF07", 500),
     ("FF09", 30),
+    ("FF0D", 1_000),
 ];
 
 /// The calls whose faults lines show.
@@ -44,6 +46,7 @@ const SHOWN_BY: &[CallName] = &[
     CallName::Open,
     CallName::Take,
     CallName::Send,
+    CallName::Seal,
     CallName::Read,
     CallName::Reply,
 ];

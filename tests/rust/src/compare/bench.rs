@@ -5,7 +5,7 @@ use crate::compare::library::Library;
 use crate::compare::store::Store;
 use crate::compare::tally::Tally;
 use crate::rules::Rules;
-use crate::table::{row_at, HEAD, ROW};
+use crate::table::{is_sealed, row_at, HEAD, ROW};
 use std::fmt;
 
 pub struct Bench<'a> {
@@ -62,7 +62,7 @@ impl<'a> Bench<'a> {
             }));
         }
         self.agreed += 1;
-        self.tally.add(call.name(), second);
+        self.tally.add(call.name(), second, is_sealed(table));
         Ok(second)
     }
 

@@ -37,6 +37,7 @@ pub fn run(bench: &mut Bench, _: &mut Draw, case: u64) -> Agreed<()> {
         bench.check_aside(Call::Total, &table)?;
         bench.check_aside(Call::Substitute { ticket }, &table)?;
         bench.check_aside(Call::Send, &table)?;
+        bench.check_aside(Call::Seal, &table)?;
     }
     Ok(())
 }

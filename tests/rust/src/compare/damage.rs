@@ -92,6 +92,7 @@ impl Target {
             last,
             next,
             rows,
+            ..
         } = &self.round;
         let all = (self.table.len() - HEAD) / ROW;
         let near = [own, slot.0, last.0, next.0, rows.len() as u32, all as u32];
@@ -161,6 +162,7 @@ pub fn run(bench: &mut Bench, draw: &mut Draw, case: u64) -> Agreed<()> {
     bench.check_aside(Call::Total, &target.table)?;
     bench.check_aside(Call::Substitute { ticket }, &target.table)?;
     bench.check_aside(Call::Send, &target.table)?;
+    bench.check_aside(Call::Seal, &target.table)?;
     bench.check_aside(Call::Open { last: due }, &target.table)?;
     Ok(())
 }

@@ -30,11 +30,11 @@ pub const NUMBERS: &[u32] = &[
     4_294_967_295,
 ];
 
-/// Every choice of the four below.
-pub const CASES: u64 = 4 * 4 * 4 * 3;
+/// Every choice of the five below.
+pub const CASES: u64 = 4 * 4 * 4 * 3 * 2;
 
 /// One of the rounds at a limit: last slot, current slot, next ticket, rows
-/// in use of three.
+/// in use of three, and whether it is sealed.
 fn round(case: u64) -> Round {
     let last = [0, 3, 4_094, 4_095][(case % 4) as usize];
     let slot = [0, last / 2, last, last + 1][(case / 4 % 4) as usize];
@@ -53,6 +53,7 @@ fn round(case: u64) -> Round {
     Round {
         slot: Slot(slot),
         next: Ticket(next),
+        sealed: case / 192 == 1,
         rows,
         ..Round::opened(Slot(last))
     }
@@ -74,6 +75,7 @@ pub fn run(bench: &mut Bench, _: &mut Draw, case: u64) -> Agreed<()> {
         round.next.0 - 3,
     ];
     bench.check_aside(Call::Send, &table)?;
+    bench.check_aside(Call::Seal, &table)?;
     bench.check_aside(Call::Total, &table)?;
     for first in NUMBERS.iter().chain(&own).copied() {
         bench.check_aside(Call::Open { last: first }, &table)?;

@@ -1,5 +1,5 @@
 //! The largest table there is, 1,024 rows and 4,096 slots, filled by takings
-//! and kept full while slot after slot is sent.
+//! and kept full while slot after slot is sent; then sealed and sent on.
 
 use crate::call::Call;
 use crate::compare::bench::{Agreed, Bench};
@@ -8,8 +8,9 @@ use crate::compare::tables::{weight, weights, Weights};
 use crate::round::Round;
 use crate::table::{decode, row_at};
 
-/// How many slots are sent of each table.
+/// How many slots are sent of each table, and how many more once it is sealed.
 const SENDINGS: u32 = 60;
+const SEALED: u32 = 20;
 
 /// How the frames of one table are drawn.
 struct Frames {
@@ -64,10 +65,15 @@ pub fn run(bench: &mut Bench, draw: &mut Draw, _: u64) -> Agreed<()> {
         questions(bench, draw, slot, taken, &table)?;
         bench.check(Call::Send, &mut table)?;
     }
+    bench.check(Call::Seal, &mut table)?;
+    for slot in SENDINGS..SENDINGS + SEALED {
+        questions(bench, draw, slot, taken, &table)?;
+        bench.check(Call::Send, &mut table)?;
+    }
     Ok(())
 }
 
-/// One more taking, which finds the table full, and one each of the calls that look.
+/// One more taking, which finds the table full or the round sealed, and one each of the calls that look.
 fn questions(
     bench: &mut Bench,
     draw: &mut Draw,

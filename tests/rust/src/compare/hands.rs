@@ -33,13 +33,17 @@ pub fn run(bench: &mut Bench, _: &mut Draw, case: u64) -> Agreed<()> {
     Ok(())
 }
 
-/// Kept blanks where no list of calls brings them.
+/// Kept blanks where no list of calls brings them, sealed too.
 fn tables(bench: &mut Bench) -> Agreed<()> {
     for &(last, rows) in hand::TABLES {
-        let mut table = hand::table(rows.len(), last, rows);
-        for _ in 0..3 {
-            questions(bench, &table)?;
-            bench.check(Call::Send, &mut table)?;
+        let open = hand::table(rows.len(), last, rows);
+        let mut sealed = open.clone();
+        bench.check(Call::Seal, &mut sealed)?;
+        for mut table in [open, sealed] {
+            for _ in 0..3 {
+                questions(bench, &table)?;
+                bench.check(Call::Send, &mut table)?;
+            }
         }
     }
     Ok(())

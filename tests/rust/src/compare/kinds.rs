@@ -5,7 +5,7 @@ use crate::compare::draw::Draw;
 use crate::compare::library::Library;
 use crate::compare::tally::Tally;
 use crate::compare::{
-    bytes, damage, extremes, fullest, hands, large, lengths, lists, sound, unused,
+    bytes, damage, extremes, fullest, hands, large, lengths, lists, sealed, sound, unused,
 };
 use crate::kind::Kind;
 use crate::rules::Rules;
@@ -23,6 +23,7 @@ pub const KINDS: &[Kind<Case>] = &[
     Kind::drawn("lists", 4_000, lists::run),
     Kind::drawn("large", 200, large::run),
     Kind::fixed("unused", unused::CASES, unused::run),
+    Kind::drawn("sealed", 6_000, sealed::run),
 ];
 
 /// What the long run has beside them.

@@ -1,5 +1,5 @@
 //! Full tables of 1,024 rows, rounds of up to 4,096 slots, and the longest
-//! leaps.
+//! leaps; then sealed.
 
 use crate::call::Call;
 use crate::compare::bench::{Agreed, Bench};
@@ -20,6 +20,13 @@ pub fn run(bench: &mut Bench, draw: &mut Draw, case: u64) -> Agreed<()> {
         bench.check(Call::Send, &mut table)?;
         let due = draw.between(0, 4_095);
         bench.check(Call::Take { due, weight }, &mut table)?;
+    }
+    bench.check(Call::Seal, &mut table)?;
+    for _ in 0..4 {
+        let due = draw.between(0, 4_095);
+        bench.check(Call::Take { due, weight: 1 }, &mut table)?;
+        bench.check_aside(Call::Mark { slot: due }, &table)?;
+        bench.check(Call::Send, &mut table)?;
     }
     Ok(())
 }

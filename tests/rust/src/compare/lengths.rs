@@ -38,6 +38,7 @@ pub fn run(bench: &mut Bench, draw: &mut Draw, case: u64) -> Agreed<()> {
             bench.check_aside(Call::Take { due, weight }, &table)?;
         }
         bench.check_aside(Call::Send, &table)?;
+        bench.check_aside(Call::Seal, &table)?;
         bench.check_aside(Call::Mark { slot: 3 }, &table)?;
         bench.check_aside(Call::Total, &table)?;
         bench.check_aside(Call::Substitute { ticket: 1 }, &table)?;

@@ -13,6 +13,8 @@ struct List {
     reach: u32,
     weights: Weights,
     takes: u64,
+    /// Whether it may be sealed.
+    seals: bool,
 }
 
 fn list(draw: &mut Draw) -> List {
@@ -27,6 +29,7 @@ fn list(draw: &mut Draw) -> List {
         reach,
         weights: weights(draw),
         takes: *draw.pick(&[20, 40, 60, 80]),
+        seals: draw.once_in(3),
     }
 }
 
@@ -67,6 +70,7 @@ fn call(draw: &mut Draw, list: &List, round: &Round) -> Call {
         13 if draw.once_in(8) => Call::Open {
             last: draw.number() as u32,
         },
+        14 if list.seals && (over || draw.once_in(2)) => Call::Seal,
         _ => Call::Send,
     }
 }

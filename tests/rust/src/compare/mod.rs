@@ -13,6 +13,7 @@ pub mod large;
 pub mod lengths;
 pub mod library;
 pub mod lists;
+pub mod sealed;
 pub mod sound;
 pub mod store;
 pub mod tables;

@@ -55,5 +55,6 @@ pub fn run(bench: &mut Bench, draw: &mut Draw, _: u64) -> Agreed<()> {
         &table,
     )?;
     bench.check_aside(Call::Send, &table)?;
+    bench.check_aside(Call::Seal, &table)?;
     Ok(())
 }

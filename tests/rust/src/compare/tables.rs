@@ -90,6 +90,7 @@ pub fn round(draw: &mut Draw, size: Size, most_rows: u32) -> Round {
         slot: Slot(slot),
         next,
         rows,
+        sealed: draw.once_in(4),
         ..Round::opened(Slot(last))
     }
 }

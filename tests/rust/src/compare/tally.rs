@@ -15,14 +15,17 @@ pub enum Outcome {
     Accepted,
     /// What went out, and whether in a leap.
     Sent(u8, bool),
+    /// What went out in a sealed round, and whether in a leap.
+    SentSealed(u8, bool),
     /// A substitute that is a blank.
     Blank,
     Refused(u8),
 }
 
 impl Tally {
-    pub fn add(&mut self, call: CallName, reply: u64) {
-        let met = (call, outcome(call, reply));
+    /// One call more, of a round that is sealed or not.
+    pub fn add(&mut self, call: CallName, reply: u64, sealed: bool) {
+        let met = (call, outcome(call, reply, sealed));
         *self.counts.entry(met).or_default() += 1;
     }
 
@@ -51,11 +54,13 @@ impl Tally {
     }
 }
 
-fn outcome(call: CallName, reply: u64) -> Outcome {
+fn outcome(call: CallName, reply: u64, sealed: bool) -> Outcome {
     let refusal = (reply & 0xFF) as u8;
+    let (what, leap) = ((reply >> 32 & 3) as u8, reply >> 34 & 1 == 1);
     match call {
         _ if refusal != 0 => Outcome::Refused(refusal),
-        CallName::Send => Outcome::Sent((reply >> 32 & 3) as u8, reply >> 34 & 1 == 1),
+        CallName::Send if sealed => Outcome::SentSealed(what, leap),
+        CallName::Send => Outcome::Sent(what, leap),
         CallName::Substitute if reply >> 8 & 0xFF_FFFF == 0 => Outcome::Blank,
         _ => Outcome::Accepted,
     }
@@ -69,6 +74,9 @@ fn said(outcome: Outcome) -> String {
         Outcome::Sent(what, leap) => {
             let what = ["silence", "frame", "kept blank", "?"][usize::from(what)];
             format!("{what}{}", if leap { " in a leap" } else { "" })
+        }
+        Outcome::SentSealed(what, leap) => {
+            format!("sealed {}", said(Outcome::Sent(what, leap)))
         }
     }
 }

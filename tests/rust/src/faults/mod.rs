@@ -11,6 +11,7 @@ mod picking;
 mod program;
 mod questions;
 mod reading;
+mod sealing;
 mod soundness;
 mod taking;
 mod writing;
@@ -48,14 +49,22 @@ const ALL: &[Shown] = &[
     hidden_in_lines(CallName::Open, opening::HIDDEN),
     shown(CallName::Take, taking::FAULTS),
     hidden_in_lines(CallName::Take, taking::HIDDEN),
+    shown(CallName::Seal, sealing::SEALING),
+    shown(CallName::Open, sealing::OPENING),
+    shown(CallName::Take, sealing::TAKING),
     shown(CallName::Take, soundness::FAULTS),
     hidden_in_lines(CallName::Take, soundness::HIDDEN),
     shown(CallName::Send, picking::FAULTS),
     shown(CallName::Send, leaping::FAULTS),
+    shown(CallName::Send, sealing::SENDING),
     shown(CallName::Mark, questions::MARK),
+    shown(CallName::Mark, sealing::MARK),
     shown(CallName::Total, questions::TOTAL),
+    shown(CallName::Total, sealing::TOTAL),
     shown(CallName::Substitute, questions::SUBSTITUTE),
+    shown(CallName::Substitute, sealing::SUBSTITUTE),
     shown(CallName::List, listing::FAULTS),
+    shown(CallName::List, sealing::LISTING),
     shown(CallName::Read, reading::FAULTS),
     shown(CallName::Payload, payload::FAULTS),
     shown(CallName::Write, writing::FAULTS),

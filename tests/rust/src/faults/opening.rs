@@ -9,6 +9,7 @@ use crate::reasons::{unsound, Asked};
 use crate::refusal::Refusal;
 use crate::round::Round;
 use crate::rules::hold;
+use crate::sealing::seal;
 use crate::send::send;
 use crate::table::{row_at, HEAD, HEAD_FIELDS, NEXT, ROW, ROW_FIELDS};
 use crate::taking::take;
@@ -79,6 +80,7 @@ pub const HIDDEN: &[Entry] = &[
         calls.take =
             |rules, due, weight, table| turned(table, |table| take(rules, due, weight, table));
         calls.send = |rules, table| turned(table, |table| send(rules, table));
+        calls.seal = |rules, table| turned(table, |table| seal(rules, table));
         calls.mark =
             |rules, slot, table| turned(&mut table.to_vec(), |table| mark(rules, slot, table));
         calls.total = |rules, table| turned(&mut table.to_vec(), |table| total(rules, table));

@@ -81,6 +81,15 @@ pub const FAULTS: &[Entry] = &[
         rules.calls.reply =
             |rules, table, line| edited(rules, table, line, |text| text.make_ascii_lowercase());
     }),
+    ("SealReplied00", "a sealing is replied as an opening", |rules| {
+        rules.calls.reply = |rules, table, line| {
+            edited(rules, table, line, |text| {
+                if text == "03\n" {
+                    text.replace_range(1..2, "0");
+                }
+            })
+        };
+    }),
     ("SilenceHasTicket", "silence is replied with the next ticket", |rules| {
         rules.calls.reply = |rules, table, line| {
             let mut answer = reply(rules, table, line);

@@ -45,6 +45,22 @@ pub const FAULTS: &[Entry] = &[
     ("SendPayloadRead", "send is read with a payload", |rules| {
         give_payload(&mut rules.reading, "02");
     }),
+    ("SealPayloadRead", "seal is read with a payload", |rules| {
+        give_payload(&mut rules.reading, "03");
+    }),
+    ("SealUnread", "line 03 gets 1", |rules| {
+        rules
+            .reading
+            .forms
+            .to_mut()
+            .retain(|form| form.line != "03");
+    }),
+    ("SealReadAsSend", "line 03 is read as send", |rules| {
+        rules.calls.read = |rules, line| match read(rules, line)? {
+            Command::Seal => Ok(Command::Send),
+            other => Ok(other),
+        };
+    }),
     ("ShortOpenRead", "open is read with fewer digits", |rules| {
         rules.calls.read = |rules, line| match line {
             [b'0', b'0', digits @ .., END] if (1..4).contains(&digits.len()) => {

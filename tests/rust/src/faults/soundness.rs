@@ -5,7 +5,7 @@ use super::change::{clause, waive};
 use super::Entry;
 use crate::round::Round;
 use crate::sound::{each, head_zeros, is_zero, pairs, row_zeros, unused};
-use crate::table::{DUE, KIND, LAST, ROW, SLOT, WEIGHT};
+use crate::table::{DUE, KIND, LAST, ROW, SEALED, SLOT, WEIGHT};
 
 pub const FAULTS: &[Entry] = &[
     ("OverUnsound", "a current slot of the last plus 1 is unsound", |rules| {
@@ -22,9 +22,18 @@ pub const FAULTS: &[Entry] = &[
     ("KeptBlankUnsound", "a kept blank is unsound", |rules| {
         clause(&mut rules.sound, "kinds", |table| each(table, KIND, |kind| kind == 0));
     }),
+    ("SealedUnsound", "a sealed round is unsound", |rules| {
+        clause(&mut rules.sound, "sealed", |table| SEALED.get(table) == 0);
+    }),
 ];
 
 pub const HIDDEN: &[Entry] = &[
+    ("SealedByTwo", "a 2 where a round is sealed is sound", |rules| {
+        clause(&mut rules.sound, "sealed", |table| SEALED.get(table) <= 2);
+    }),
+    ("SealUnchecked", "the byte that seals may be anything", |rules| {
+        waive(&mut rules.sound, "sealed");
+    }),
     ("HeadZerosUnchecked", "the head's zero bytes may be anything", |rules| {
         clause(&mut rules.sound, "zero bytes", row_zeros);
     }),

@@ -36,10 +36,23 @@ pub const FAULTS: &[Entry] = &[
             digits.iter().all(u8::is_ascii_hexdigit)
         });
     }),
-    ("PayloadAlwaysWritten", "open and send are written with a payload", |rules| {
+    ("PayloadAlwaysWritten", "open, send and seal are written with a payload", |rules| {
         for form in rules.writing.forms.to_mut() {
             form.has_payload = true;
         }
+    }),
+    ("SealWrittenAsSend", "seal is written as send", |rules| {
+        rules.calls.write = |rules, command, payload, buffer| match command {
+            Command::Seal => write(rules, Command::Send, payload, buffer),
+            _ => write(rules, command, payload, buffer),
+        };
+    }),
+    ("SealUnwritten", "seal gets 1", |rules| {
+        rules
+            .writing
+            .forms
+            .to_mut()
+            .retain(|form| form.line != "03");
     }),
     ("ExactBufferRefused", "a buffer of the line's length gets 12", |rules| {
         reason(&mut rules.reasons.write, Refusal::Short, |line, room| {

@@ -3,6 +3,7 @@
 
 use crate::call::Call;
 use crate::counts::{Slot, Ticket, Weight};
+use crate::hindsight::gain::Claim;
 use crate::hindsight::script::Asked;
 
 /// A frame as accepted: it could go from the slot of its taking to its first
@@ -28,6 +29,8 @@ pub struct Account {
     slot: Slot,
     /// What the accepted takings were answered with.
     tickets: Vec<Ticket>,
+    /// Whether a sealing was accepted.
+    pub sealed: bool,
     /// What they offered.
     pub offers: Vec<Offer>,
     pub sent: Vec<Sent>,
@@ -52,6 +55,7 @@ impl Account {
             last,
             slot: Slot(0),
             tickets: Vec::new(),
+            sealed: false,
             offers: Vec::new(),
             sent: Vec::new(),
         }
@@ -74,6 +78,7 @@ impl Account {
                 }
                 self.slot = Slot(self.slot.0 + 1);
             }
+            Call::Seal => self.sealed = true,
             _ => (),
         }
         Ok(())
@@ -101,6 +106,15 @@ impl Account {
         self.slot > self.last
     }
 
+    /// What is claimed of the round: the golden bound only where no sealing
+    /// was accepted.
+    pub fn claims(&self) -> &'static [Claim] {
+        match self.sealed {
+            true => &[Claim::Possible],
+            false => &[Claim::Possible, Claim::Golden],
+        }
+    }
+
     /// Whether each frame went out once, between its taking and its first due
     /// slot.
     pub fn is_in_time(&self) -> bool {
@@ -124,7 +138,7 @@ fn is_frame(reply: u64) -> bool {
 #[cfg(test)]
 mod tests {
     use super::*;
-    use crate::call::Call::{Open, Send, Take};
+    use crate::call::Call::{Open, Seal, Send, Take};
 
     const FRAME: u64 = 1 << 32;
     const BLANK: u64 = 2 << 32;
@@ -183,6 +197,22 @@ mod tests {
             (Send, FRAME | 1 << 8),
         ]);
         assert_eq!((own.sum(), own.offers.len()), (2, 1));
+    }
+
+    /// The bound is about rounds without an accepted sealing: a refused one
+    /// does not count, nor one of the round before.
+    #[test]
+    fn claims_the_bound_of_unsealed_rounds_alone() {
+        let both = [Claim::Possible, Claim::Golden];
+        let opened = (Open { last: 0 }, 0);
+        let sealed = account(&[opened, (Seal, 0), (Send, 0)]);
+        assert_eq!(sealed.claims(), [Claim::Possible]);
+        let refused = account(&[(Seal, 3), opened, (Send, 0), (Seal, 5)]);
+        assert_eq!(refused.claims(), both);
+        let anew = account(&[opened, (Seal, 0), opened, (Send, 0)]);
+        assert_eq!(anew.claims(), both);
+        let not_opened = account(&[opened, (Seal, 0), (Open { last: 4_096 }, 4), (Send, 0)]);
+        assert_eq!(not_opened.claims(), [Claim::Possible]);
     }
 
     #[test]

@@ -3,7 +3,7 @@
 
 use crate::compare::library::Library;
 use crate::hindsight::account::Account;
-use crate::hindsight::gain::{Claim, Gain};
+use crate::hindsight::gain::Gain;
 use crate::hindsight::script::{Asked, Script};
 use crate::rules::Rules;
 
@@ -12,6 +12,8 @@ use crate::rules::Rules;
 pub struct Checked {
     pub asked: Vec<Asked>,
     pub gain: Gain,
+    /// Whether a sealing was accepted: then the bound is not claimed.
+    pub sealed: bool,
 }
 
 /// What is wrong with a round as this library plays it, if anything is.
@@ -23,6 +25,7 @@ pub fn check(library: &dyn Library, script: &Script) -> Result<Checked, String> 
     let claims = [
         (own.is_over(), "the round is not over"),
         (own.is_in_time(), "a frame went twice or out of its time"),
+        (own.sealed == other.sealed, "sealed by one alone"),
         (own.offers == other.offers, "other frames were accepted"),
         (own.sent == other.sent, "other frames were sent"),
         (gain.sent == others.sent, "another S"),
@@ -31,10 +34,15 @@ pub fn check(library: &dyn Library, script: &Script) -> Result<Checked, String> 
     if let Some((_, broken)) = claims.iter().find(|(holds, _)| !holds) {
         return Err(format!("{broken}: {gain}, the second's {others}"));
     }
-    for claim in [Claim::Possible, Claim::Golden] {
+    for claim in own.claims().iter().copied() {
         if gain.breaks(claim) {
             return Err(format!("{claim}: {gain}"));
         }
     }
-    Ok(Checked { asked, gain })
+    let sealed = own.sealed;
+    Ok(Checked {
+        asked,
+        gain,
+        sealed,
+    })
 }

@@ -73,6 +73,8 @@ struct Drawn {
     weights: Weights,
     /// Once in so many takings something else is asked or refused.
     other_once_in: u64,
+    /// The slot in which it is sealed, if it is.
+    seal_at: Option<u32>,
 }
 
 impl Drawn {
@@ -90,6 +92,7 @@ impl Drawn {
             until: *draw.pick(&[last, last / 2, 1]),
             weights,
             other_once_in: *draw.pick(&[2, 5, 1_000]),
+            seal_at: draw.once_in(5).then(|| draw.between(0, last)),
         }
     }
 
@@ -202,6 +205,7 @@ fn script(draw: &mut Draw, rows: u32, round: &Drawn) -> Script {
             weight: 1,
         });
         calls.push(round.other(draw, round.last));
+        calls.push(Call::Seal);
     }
     let byte = |_| draw.number() as u8;
     Script {
@@ -216,6 +220,9 @@ fn played(draw: &mut Draw, round: &Drawn, end: u32, calls: &mut Vec<Call>) {
     for slot in 0..end {
         if slot <= round.until {
             round.takings(draw, slot, calls);
+        }
+        if round.seal_at == Some(slot) {
+            calls.push(Call::Seal);
         }
         calls.push(Call::Send);
     }

@@ -40,6 +40,10 @@ pub const FAULTS: &[Fault] = &[
     Fault::Planner("KeptBlankSentAsFrame", Claim::Possible),
     Fault::Library("RNotRaised"),
     Fault::Library("GreatestWeightRefused"),
+    Fault::Library("SealedTakes"),
+    Fault::Library("SealedPlaysPlanM"),
+    Fault::Library("SealedRowsFirst"),
+    Fault::Library("SealedPastLast"),
     Fault::Sum("S counts kept blanks, by their tickets", with_kept_blanks),
     Fault::OtherSum("S counts current weights", with_current_weights),
     Fault::Best("B leaves a frame out", Claim::Possible, |offers| {
@@ -81,16 +85,19 @@ impl Fault {
         match *self {
             Fault::Planner(name, claim) => {
                 let second = faults::with(name);
-                Box::new(move |script| broken(claim, right(&second, script).0))
+                Box::new(move |script| {
+                    let (gain, account) = right(&second, script);
+                    broken(claim, gain, &account)
+                })
             }
             Fault::Library(name) => {
                 let second = faults::with(name);
                 Box::new(move |script| check(&second, script).err())
             }
             Fault::Sum(_, sum) => Box::new(move |script| {
-                let (mut gain, _) = right(library, script);
+                let (mut gain, account) = right(library, script);
                 gain.sent = sum(library, script);
-                broken(Claim::Possible, gain)
+                broken(Claim::Possible, gain, &account)
             }),
             Fault::OtherSum(_, sum) => Box::new(move |script| {
                 let sent = sum(library, script);
@@ -98,22 +105,24 @@ impl Fault {
                 (sent != second).then(|| format!("another S: {sent}, the second's {second}"))
             }),
             Fault::Best(_, claim, most) => Box::new(move |script| {
-                let (mut gain, offers) = right(library, script);
-                gain.best = most(&offers);
-                broken(claim, gain)
+                let (mut gain, account) = right(library, script);
+                gain.best = most(&account.offers);
+                broken(claim, gain, &account)
             }),
         }
     }
 }
 
-/// S and B counted as they should be, and the offers.
-fn right(library: &dyn Library, script: &Script) -> (Gain, Vec<Offer>) {
+/// S and B counted as they should be, and the account.
+fn right(library: &dyn Library, script: &Script) -> (Gain, Account) {
     let account = Account::of(&script.play(library)).expect("an account");
-    (Gain::of(&account), account.offers)
+    (Gain::of(&account), account)
 }
 
-fn broken(claim: Claim, gain: Gain) -> Option<String> {
-    gain.breaks(claim).then(|| format!("{claim}: {gain}"))
+/// Whether a claim is made of the round, and does not hold.
+fn broken(claim: Claim, gain: Gain, account: &Account) -> Option<String> {
+    let is_broken = account.claims().contains(&claim) && gain.breaks(claim);
+    is_broken.then(|| format!("{claim}: {gain}"))
 }
 
 /// The offers, each changed.

@@ -5,7 +5,7 @@ use crate::compare::draw::Draw;
 use crate::hand;
 use crate::kind::Kind;
 use crate::programs::noise::{damage, long_line, noise, odd_line};
-use crate::programs::rounds::{by_hand, leaps, line, lines, round, Drawn};
+use crate::programs::rounds::{by_hand, leaps, line, lines, round, sealed, Drawn};
 use crate::round::Round;
 
 /// Draws one file; the number says which of its kind.
@@ -43,6 +43,7 @@ pub const KINDS: &[Kind<File>] = &[
     Kind::drawn("long lines", 60, long),
     Kind::drawn("long files", 12, many_lines),
     Kind::drawn("full tables", 24, full),
+    Kind::drawn("sealed", 1_500, |draw, _| sealed(draw)),
 ];
 
 fn valid(draw: &mut Draw, _: u64) -> Vec<u8> {

@@ -91,9 +91,10 @@ fn writing(draw: &mut Draw, _: u64) -> Request {
     };
     let slot = Slot(number(draw));
     let weight = Weight(number(draw));
-    let command = match draw.below(5) {
+    let command = match draw.below(6) {
         0 => Command::Open { last: slot },
         1 => Command::Send,
+        2 => Command::Seal,
         _ => Command::Take { due: slot, weight },
     };
     let payload = digits(draw, matches!(command, Command::Take { .. }));
@@ -128,9 +129,10 @@ fn digits(draw: &mut Draw, may_have: bool) -> Vec<u8> {
 fn good_line(draw: &mut Draw) -> Vec<u8> {
     let slot = draw.between(0, 65_535);
     let weight = draw.number() as u32;
-    let text = match draw.below(6) {
+    let text = match draw.below(7) {
         0 => format!("00{slot:04X}\n"),
         1 => "02\n".to_string(),
+        2 => "03\n".to_string(),
         _ => format!("01{slot:04X}{weight:08X}{}\n", payload(draw, 24)),
     };
     text.into_bytes()

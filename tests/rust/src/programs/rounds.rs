@@ -12,6 +12,7 @@ pub fn line(call: Call, payload: &str) -> String {
     match call {
         Call::Open { last } => format!("00{last:04X}\n"),
         Call::Take { due, weight } => format!("01{due:04X}{weight:08X}{payload}\n"),
+        Call::Seal => "03\n".to_string(),
         _ => "02\n".to_string(),
     }
 }
@@ -36,9 +37,11 @@ pub struct Drawn {
     /// How far ahead of the current slot frames are due.
     reach: u32,
     weights: Weights,
-    /// Takings and openings among a hundred lines; the rest are sendings.
+    /// Takings, openings and sealings among a hundred lines; the rest are
+    /// sendings.
     takes: u64,
     opens: u64,
+    seals: u64,
 }
 
 impl Drawn {
@@ -56,6 +59,7 @@ impl Drawn {
             weights: weights(draw),
             takes: *draw.pick(&[20, 40, 60, 80]),
             opens: 2,
+            seals: *draw.pick(&[0, 0, 0, 2]),
         }
     }
 
@@ -80,10 +84,21 @@ impl Drawn {
         if chance < self.opens {
             return self.reopen(draw);
         }
-        if chance >= self.opens + self.takes {
-            self.slot = (self.slot + 1).min(self.last + 1);
-            return line(Call::Send, "");
+        if chance >= 100 - self.seals {
+            return line(Call::Seal, "");
         }
+        if chance >= self.opens + self.takes {
+            return self.send();
+        }
+        self.take(draw)
+    }
+
+    fn send(&mut self) -> String {
+        self.slot = (self.slot + 1).min(self.last + 1);
+        line(Call::Send, "")
+    }
+
+    fn take(&self, draw: &mut Draw) -> String {
         let call = Call::Take {
             due: self.due(draw),
             weight: self.weight(draw),
@@ -178,6 +193,49 @@ pub fn leaps(draw: &mut Draw) -> Vec<u8> {
             let due = draw.between(slot, last);
             let weight = draw.between(1, scale + 2);
             file.push_str(&line(Call::Take { due, weight }, ""));
+        }
+    }
+    file.into_bytes()
+}
+
+/// A round that is sealed midway and sent to its end, with takings tried in
+/// between; then past its end, and at times another one, or a sealing before.
+pub fn sealed(draw: &mut Draw) -> Vec<u8> {
+    let mut drawn = Drawn {
+        last: draw.between(0, 12),
+        opens: 0,
+        seals: 0,
+        ..Drawn::new(draw)
+    };
+    let mut file = String::new();
+    if draw.once_in(20) {
+        file.push_str(&line(Call::Seal, ""));
+    }
+    file.push_str(&drawn.open());
+    let seal_at = draw.between(0, drawn.last);
+    while drawn.slot < seal_at {
+        file.push_str(&drawn.line(draw));
+    }
+    for _ in 0..draw.between(0, 2 * (drawn.last + 1 - seal_at)) {
+        file.push_str(&drawn.take(draw));
+    }
+    file.push_str(&line(Call::Seal, ""));
+    while drawn.slot <= drawn.last {
+        match draw.below(6) {
+            0 => file.push_str(&drawn.take(draw)),
+            1 if draw.once_in(3) => file.push_str(&line(Call::Seal, "")),
+            _ => file.push_str(&drawn.send()),
+        }
+    }
+    for call in [Call::Seal, Call::Send] {
+        if draw.once_in(2) {
+            file.push_str(&line(call, ""));
+        }
+    }
+    if draw.once_in(3) {
+        file.push_str(&drawn.open());
+        for _ in 0..draw.between(1, 8) {
+            file.push_str(&drawn.line(draw));
         }
     }
     file.into_bytes()

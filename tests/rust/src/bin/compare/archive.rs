@@ -19,6 +19,7 @@ mod boundary {
         fn lirvedd_open(last: u32, table: *mut u8, length: usize) -> u64;
         fn lirvedd_take(due: u32, weight: u32, table: *mut u8, length: usize) -> u64;
         fn lirvedd_send(table: *mut u8, length: usize) -> u64;
+        fn lirvedd_seal(table: *mut u8, length: usize) -> u64;
         fn lirvedd_mark(slot: u32, table: *const u8, length: usize) -> u64;
         fn lirvedd_total(table: *const u8, length: usize) -> u64;
         fn lirvedd_substitute(ticket: u32, table: *const u8, length: usize) -> u64;
@@ -35,6 +36,7 @@ mod boundary {
                     Call::Open { last } => lirvedd_open(last, lent, length),
                     Call::Take { due, weight } => lirvedd_take(due, weight, lent, length),
                     Call::Send => lirvedd_send(lent, length),
+                    Call::Seal => lirvedd_seal(lent, length),
                     Call::Mark { slot } => lirvedd_mark(slot, lent, length),
                     Call::Total => lirvedd_total(lent, length),
                     Call::Substitute { ticket } => lirvedd_substitute(ticket, lent, length),

@@ -6,7 +6,8 @@ mod options;
 use options::{Job, Options};
 use second::call::CallName;
 use second::compare::kinds::{run, Settings};
-use second::ending::{caught, told, Ended};
+use second::compare::tally::{Outcome, Tally};
+use second::ending::{caught, enough, told, Ended};
 use second::faults::Fault;
 use second::rules::Rules;
 use std::process::ExitCode;
@@ -36,6 +37,7 @@ fn compare(options: &Options, second: &Rules) -> Ended {
     match ended {
         Ok(tally) => {
             tally.lines().iter().for_each(|line| println!("  {line}"));
+            least(&tally)?;
             Ok(format!("compare: {} cases agreed", tally.all()))
         }
         Err(found) => Err(format!(
@@ -43,6 +45,26 @@ fn compare(options: &Options, second: &Rules) -> Ended {
             found.difference, found.kind, found.case, settings.seed
         )),
     }
+}
+
+/// How often at least sealing, and what it does to others, was met.
+const LEAST: &[(CallName, Outcome, usize)] = &[
+    (CallName::Seal, Outcome::Accepted, 100_000),
+    (CallName::Seal, Outcome::Refused(2), 500),
+    (CallName::Seal, Outcome::Refused(3), 100_000),
+    (CallName::Seal, Outcome::Refused(5), 15_000),
+    (CallName::Take, Outcome::Refused(13), 150_000),
+    (CallName::Send, Outcome::SentSealed(0, false), 30_000),
+    (CallName::Send, Outcome::SentSealed(1, false), 20_000),
+    (CallName::Send, Outcome::SentSealed(2, false), 3_000),
+];
+
+fn least(tally: &Tally) -> Result<(), String> {
+    for (call, outcome, least) in LEAST {
+        let met = tally.met(*call, *outcome) as usize;
+        enough("compare", &format!("{call:?} {outcome:?}"), met, *least)?;
+    }
+    Ok(())
 }
 
 /// Where a fault is caught. A fault in planning must be caught by the drawn

@@ -1,6 +1,6 @@
 //! What was seen of the rounds played, and whether that is enough.
 
-use second::call::CallName;
+use second::call::{Call, CallName};
 use second::compare::tally::{Outcome, Tally};
 use second::ending::{enough, Ended};
 use second::hindsight::check::Checked;
@@ -19,13 +19,22 @@ const LEAST: &[(CallName, Outcome, usize)] = &[
     (CallName::Send, Outcome::Sent(1, false), 200_000),
     (CallName::Send, Outcome::Sent(1, true), 100_000),
     (CallName::Send, Outcome::Sent(2, false), 10_000),
+    (CallName::Send, Outcome::SentSealed(0, false), 50_000),
+    (CallName::Send, Outcome::SentSealed(1, false), 20_000),
+    (CallName::Send, Outcome::SentSealed(2, false), 500),
+    (CallName::Seal, Outcome::Accepted, 30_000),
+    (CallName::Seal, Outcome::Refused(5), 50_000),
+    (CallName::Take, Outcome::Refused(13), 50_000),
     (CallName::Mark, Outcome::Accepted, 10_000),
     (CallName::Total, Outcome::Accepted, 10_000),
     (CallName::Substitute, Outcome::Accepted, 1_000),
 ];
 
-/// In how many rounds at least hindsight gains.
+/// In how many rounds at least hindsight gains; how many at least are sealed,
+/// where the bound is not claimed, and not.
 const GAINS: usize = 40_000;
+const SEALED: usize = 30_000;
+const UNSEALED: usize = 200_000;
 
 /// The rounds of one kind.
 struct Seen {
@@ -63,6 +72,7 @@ impl Seen {
 pub struct All {
     all: Seen,
     kinds: Vec<Seen>,
+    sealed: usize,
     tally: Tally,
 }
 
@@ -71,6 +81,7 @@ impl All {
         All {
             all: Seen::new("all"),
             kinds: Vec::new(),
+            sealed: 0,
             tally: Tally::default(),
         }
     }
@@ -83,8 +94,15 @@ impl All {
         for seen in self.kinds.last_mut().into_iter().chain([&mut self.all]) {
             seen.add(found.gain);
         }
+        self.sealed += usize::from(found.sealed);
+        let mut sealed = false;
         for one in &found.asked {
-            self.tally.add(one.call.name(), one.reply);
+            match one.call {
+                Call::Open { .. } if one.is_accepted() => sealed = false,
+                Call::Seal if one.is_accepted() => sealed = true,
+                _ => (),
+            }
+            self.tally.add(one.call.name(), one.reply, sealed);
         }
     }
 
@@ -98,6 +116,9 @@ impl All {
             enough("hindsight", &format!("{call:?} {outcome:?}"), met, *least)?;
         }
         enough("hindsight", "B above S", self.all.gains, GAINS)?;
+        enough("hindsight", "sealed", self.sealed, SEALED)?;
+        let claimed = self.all.rounds - self.sealed;
+        enough("hindsight", "the bound is claimed", claimed, UNSEALED)?;
         for seen in &self.kinds {
             println!("  {}: {}", seen.kind, seen.told());
         }

@@ -5,7 +5,7 @@ use second::call::Call;
 use second::compare::library::Library;
 use second::compare::tally::Tally;
 use second::round::Round;
-use second::table::{row_at, rows_of, LAST};
+use second::table::{is_sealed, row_at, rows_of, LAST};
 use std::cell::RefCell;
 use std::collections::BTreeMap;
 use std::fmt::Display;
@@ -37,7 +37,7 @@ impl Counts {
     /// One call more, by the table it was lent and the reply.
     fn add(&mut self, call: Call, table: &[u8], reply: u64) {
         self.sizes[size(table.len())] += 1;
-        self.outcomes.add(call.name(), reply);
+        self.outcomes.add(call.name(), reply, is_sealed(table));
         let fullest = table.len() == row_at(Round::ROWS) && LAST.get(table) == Round::LAST.0;
         if call == Call::Send && reply & 0xFF == 0 && fullest {
             self.fullest += 1;

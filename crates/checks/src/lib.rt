@@ -22,13 +22,15 @@ pub fn taking_refusal(round: Round, due: Slot, weight: Weight) -> u32
     ensures { λ r. ⌜ r ≡ first-of (take-tests (round .slot .0) (round .last .0) (round .next .0) (round .used) (round .room)
         (tail-of round) (framed (due .0) (weight .0))) ⌝ }
 {
+    let sealed = round.sealed == 1;
+    let bad_weight = (weight.0 == 0) | (Round::WEIGHT.0 < weight.0);
     if is_over(round) {
         return 5;
     }
-    if round.sealed == 1 {
+    if sealed {
         return 13;
     }
-    if (weight.0 == 0) | (Round::WEIGHT.0 < weight.0) {
+    if bad_weight {
         return 6;
     }
     if not_ahead(round, due) {

@@ -1,6 +1,6 @@
 // Limits: whether a table may have its length, and a head its numbers.
 ghost use mathlib.Core.Path.{_≡_};
-ghost use Rattle.rules.specs.Table.{length-good, head-tests, every};
+ghost use Rattle.rules.specs.Table.{length-good, head-tail-tests, head-tests, every};
 ghost use Rattle.sorts.specs.Tail.{tail-of};
 use sorts::Round;
 
@@ -26,5 +26,12 @@ pub fn head_is_good(round: Round) -> bool
     let least = 1 <= round.next.0;
     let most = round.next.0 <= Round::TICKETS.0;
     let rows = round.used <= round.room;
-    last & (slot & (least & (most & (rows & (round.sealed <= 1)))))
+    last & (slot & (least & (most & (rows & tail_is_good(round)))))
+}
+
+// Whether byte 10 is 0 or 1.
+fn tail_is_good(round: Round) -> bool
+    ensures { λ r. ⌜ r ≡ every (head-tail-tests (tail-of round)) ⌝ }
+{
+    round.sealed <= 1
 }

@@ -1,4 +1,5 @@
 -- `numbers::write1` meets its contract: one store is the byte of a number.
+use native.Mathlib.Omega.{arith}
 use borrow.Author.Needs.{needs}
 use Rattle.numbers.proofs.NumberLaws.{sets1}
 use Rattle.numbers.proofs.write1.Statement.{statement}
@@ -11,7 +12,7 @@ same-length : tie.Need-same-length
 same-length c = search needs
 
 returns : tie.Need-returns
-returns c = sets1 (c .args .bytes .now) (c .args .at) (c .args .value) (search needs)
+returns c = sets1 (c .args .bytes .now) (c .args .at) (c .args .value) _ (search needs) (omega arith)
 
 pub write1-spec : {M : Type 1} → statement M
 write1-spec = tie.close (tie.spec slice-write-bytes same-length returns)

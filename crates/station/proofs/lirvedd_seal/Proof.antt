@@ -1,4 +1,5 @@
 -- `station::lirvedd_seal` meets its contract.
+use native.Mathlib.Omega.{arith}
 use Rattle.station.proofs.Exported.{exported}
 use borrow.Author.Needs.{needs}
 use Rattle.station.proofs.lirvedd_seal.Statement.{statement}
@@ -14,7 +15,7 @@ same-length : tie.Need-same-length
 same-length c = search needs
 
 returns : tie.Need-returns
-returns c = exported _ _ _ _ _ (c .pack-sealed .ensures) (c .before .before .before .seal-round .ensures)
+returns c = exported _ _ _ _ _ (omega (arith, c .pack-sealed .ensures)) (c .before .before .before .seal-round .ensures)
 
 pub lirvedd-seal-spec : {M : Type 1} → statement M
 lirvedd-seal-spec = tie.close (tie.spec seal-round-requires pack-sealed-requires same-length returns)

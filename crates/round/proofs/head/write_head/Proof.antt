@@ -31,7 +31,7 @@ returns c =
     let s = c .before .before .before .before .before .before in
     let a = s .before .before .before .before .before .before .before .before .before .before .before .before .before .before .before .before in
     head-stored _ _ _ _ _ _ _ _ _ _ (tail-of (a .args .round)) (a .pre .0) (s .before .before .before .before .before .before .before .before .before .before .before .before .before .write2 .ensures) (s .before .before .before .before .before .before .before .before .before .write22 .ensures)
-    (s .before .before .before .before .before .write4 .ensures) (s .write23 .ensures) (c .before .before .write1 .ensures)
+    (s .before .before .before .before .before .write4 .ensures) (s .write23 .ensures) (cc (c .before .before .write1 .ensures))
 
 pub write-head-spec : {M : Type 1} → statement M
 write-head-spec =

@@ -13,8 +13,11 @@ cast-slot-2 c = search needs
 add-slot : tie.Need-add-slot
 add-slot c = search needs
 
+tail-is-good-requires : tie.Need-tail-is-good-requires
+tail-is-good-requires c κs = search needs
+
 returns : tie.Need-returns
-returns c = search all-hold
+returns c = search (all-hold, c .tail-is-good .ensures)
 
 pub head-is-good-spec : {M : Type 1} → statement M
-head-is-good-spec = tie.close (tie.spec cast-slot cast-slot-2 add-slot returns)
+head-is-good-spec = tie.close (tie.spec cast-slot cast-slot-2 add-slot tail-is-good-requires returns)

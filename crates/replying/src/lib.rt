@@ -1,7 +1,7 @@
 // Reply lines, written into a lent buffer: what a call of the program answers, or a refusal's number.
 ghost use Prim.Native.Nat.{_≤_};
 ghost use lib.ListN.{length};
-ghost use Rattle.rules.specs.Calls.{refused, done, ticket};
+ghost use Rattle.rules.specs.Calls.{refused, done, closed, ticket};
 ghost use Rattle.rules.specs.Lines.{reply-room, reply-text};
 ghost use Rattle.replying.specs.Replying.{Replies, step-text};
 use digits::LINE_END;
@@ -46,6 +46,16 @@ pub fn write_step_in_room(out: u32, leap: u32, gone: Ticket, buffer: &mut [u8]) 
     put_number(gone.0, WIDE_DIGITS, 6, buffer);
     buffer[14] = LINE_END;
     15
+}
+
+// A sealing's, into REPLY_ROOM or more.
+pub fn write_closed_in_room(buffer: &mut [u8]) -> usize
+    requires { ⌜ reply-room ≤ length (now buffer) ⌝ }
+    ensures { λ r. ⌜ Replies (reply-text closed) (now (buffer .entry)) (now (buffer .exit)) r ⌝ }
+{
+    put_number(3, SHORT_DIGITS, 0, buffer);
+    buffer[2] = LINE_END;
+    3
 }
 
 // A refusal's, into REPLY_ROOM or more.

@@ -1,5 +1,5 @@
 -- Numbers in bytes, as the code reads and writes them.
-use mathlib.Core.Path.{_≡_, refl}
+use mathlib.Core.Path.{_≡_, refl, ap}
 use mathlib.Core.List.{List}
 use Prim.Native.Nat.{ℕ, suc, _+_, _*_, _/_, _%_, _≤_, _<_}
 use native.Mathlib.Omega.{arith}
@@ -16,6 +16,9 @@ field-suc bs a n h = rw (add-one, drop-cons bs a 0)
 pub field-zero : (bs : List ℕ) (a : ℕ) → field a 0 bs ≡ 0
 unfolding field value
 field-zero bs a = refl
+
+pub field1 : (bs : List ℕ) (a : ℕ) → a + 1 ≤ length bs → field a 1 bs ≡ getD bs a 0
+field1 bs a h = omega (arith, field-suc bs a 0 (omega arith), field-zero bs (a + 1))
 
 pub field2 : (bs : List ℕ) (a : ℕ) → a + 2 ≤ length bs → field a 2 bs ≡ getD bs a 0 + 256 * getD bs (a + 1) 0
 field2 bs a h =
@@ -52,6 +55,11 @@ pub field8 : (bs : List ℕ) (a : ℕ) → a + 8 ≤ length bs → field a 8 bs 
 field8 bs a h = omega (arith, field-four bs a 4 (omega arith), field4 bs a (omega arith))
 
 -- stores side by side, as the code writes their places
+pub sets1 : (bs : List ℕ) (a v : ℕ) → v ≤ 255 → set bs a v ≡ sets bs a (low 1 v)
+unfolding low
+sets1 bs a v h =
+    let e : v ≡ v % 256 = omega arith in ap (set bs a) e
+
 pub sets2 : (bs : List ℕ) (a v : ℕ) → set (set bs a (v % 256)) (a + 1) (v / 256 % 256) ≡ sets bs a (low 2 v)
 unfolding low
 sets2 bs a v = rw add-one

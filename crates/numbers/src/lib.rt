@@ -23,6 +23,13 @@ fn join8(low: u32, high: u32) -> u64
     low as u64 + 4294967296 * (high as u64)
 }
 
+pub fn read1(bytes: &[u8], at: usize) -> u8
+    requires { ⌜ at + 1 ≤ length (now bytes) ⌝ }
+    ensures { λ r. ⌜ r ≡ field at 1 (now (bytes .entry)) ⌝ }
+{
+    bytes[at]
+}
+
 pub fn read2(bytes: &[u8], at: usize) -> u32
     requires { ⌜ at + 2 ≤ length (now bytes) ⌝ }
     ensures { λ r. ⌜ r ≡ field at 2 (now (bytes .entry)) ⌝ }
@@ -43,6 +50,13 @@ pub fn read8(bytes: &[u8], at: usize) -> u64
     ensures { λ r. ⌜ r ≡ field at 8 (now (bytes .entry)) ⌝ }
 {
     join8(read4(bytes, at), read4(bytes, at + 4))
+}
+
+pub fn write1(bytes: &mut [u8], at: usize, value: u8)
+    requires { ⌜ at + 1 ≤ length (now bytes) ⌝ }
+    ensures { λ _. ⌜ now (bytes .exit) ≡ sets (now (bytes .entry)) at (low 1 value) ⌝ }
+{
+    bytes[at] = value;
 }
 
 pub fn write2(bytes: &mut [u8], at: usize, value: u32)

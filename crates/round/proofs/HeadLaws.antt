@@ -15,15 +15,26 @@ use Rattle.theory.specs.Judge.{head-judged}
 use Rattle.theory.specs.Clauses.{rows-count}
 use Rattle.theory.specs.Sane.{sound}
 use Rattle.sorts.specs.declared.Round.{Round}
+use Rattle.sorts.specs.Tail.{tail-of}
 use Rattle.round.specs.Head.{Head-of}
 use Rattle.zeros.proofs.ZeroLaws.{zeros-split, zeros-by-number}
 
 -- THE JUDGE of a head
 pub head-is : (t : List ℕ) (h : Round) → Head-of t h →
-    every (head-tests (h .slot .0) (h .last .0) (h .next .0) (h .used) (h .room))
-    && (eqb (field head-zeros-at 2 t) 0 && eqb (field (head-zeros-at + 2) 4 t) 0) ≡ head-judged t
+    every (head-tests (h .slot .0) (h .last .0) (h .next .0) (h .used) (h .room) (tail-of h))
+    && (eqb (field head-zeros-at 1 t) 0 && eqb (field (head-zeros-at + 1) 4 t) 0) ≡ head-judged t
 unfolding head-judged
-head-is t h d = rw (d .slot, d .last, d .next, d .used, d .room, zeros-split t head-zeros-at 2 4, zeros-by-number t (head-zeros-at + 2) 4)
+head-is t h d =
+    rw (
+      d .slot,
+      d .last,
+      d .next,
+      d .used,
+      d .room,
+      d .sealed,
+      zeros-split t head-zeros-at 1 4,
+      zeros-by-number t (head-zeros-at + 1) 4,
+    )
 
 -- THE HEAD OF A SOUND TABLE
 pub record Sound-head (t : List ℕ) (h : Round) : Type 0 where

@@ -8,7 +8,7 @@ use lib.Dec.{leb, eqb}
 use borrow.Author.Tests.{leb-true, eqb-true}
 use lib.ListN.{length, drop, replicate, length-replicate}
 use Rattle.rules.specs.Limits.{head-size, row-size, most-rows}
-use Rattle.rules.specs.Table.{every, head-tests, length-good, rows-of, table-refusal}
+use Rattle.rules.specs.Table.{every, head-tail-in, head-tests, length-good, rows-of, table-refusal}
 use Rattle.rules.specs.Conditions.{Bytes, slot-in, last-in, next-in, used-in, row-at}
 use Rattle.theory.specs.Tests.{and-true}
 use Rattle.theory.specs.Bounds.{tests-head}
@@ -45,8 +45,8 @@ pub rows-fit : {t : List ℕ} {h : Head} → Head-sound t h → Rows-fit t h
 unfolding head-judged rows-of
 rows-fit {t} {h} k =
     let l = good-long (length t) (k .good) in
-    let tests = head-tests (slot-in t) (last-in t) (next-in t) (used-in t) (rows-of t) in
-    let r = tests-head (slot-in t) (last-in t) (next-in t) (used-in t) (rows-of t) (and-true (every tests) _ (k .sound) .0) in
+    let tests = head-tests (slot-in t) (last-in t) (next-in t) (used-in t) (rows-of t) (head-tail-in t) in
+    let r = tests-head (slot-in t) (last-in t) (next-in t) (used-in t) (rows-of t) (head-tail-in t) (and-true (every tests) _ (k .sound) .0) in
     let u : used-in t ≤ (length t - head-size) / row-size = r .fit in
     record {
       lent = record {

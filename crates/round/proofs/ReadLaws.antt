@@ -28,6 +28,7 @@ pub record Known (t : List ℕ) (h : Head) : Type 0 where
   pub used : h .used ≡ length (round-in t .rows)
   pub slot : h .slot .0 ≡ round-in t .slot
   pub last : h .last .0 ≡ round-in t .last
+  pub sealed : h .sealed ≡ round-in t .tail .sealed
   pub long : row-at (h .used) ≤ length t
 
 pub known : (t : List ℕ) (h : Head) → Ready t h → Known t h
@@ -44,6 +45,7 @@ known t h k =
       used = k .head .used ∙ sym n;
       slot = k .head .slot;
       last = k .head .last;
+      sealed = k .head .sealed;
       long = omega (arith, k .head .used, l .0, s .size .long, n);
     }
 

@@ -1,15 +1,15 @@
--- Tables opened and taken into, as the writers leave them.
+-- Tables opened, taken into and sealed, as the writers leave them.
 use mathlib.Core.Path.{_≡_, refl, sym, ap, ap₂, _∙_}
 use mathlib.Core.Bool.{true}
 use mathlib.Core.List.{List, [], _∷_, _++_, append-assoc}
 use Prim.Native.Nat.{ℕ, suc, _+_, _*_, _-_, _/_, _<_}
 use native.Mathlib.Omega.{arith}
 use native.Mathlib.Numerals.{add-one}
-use lib.ListN.{length, take, drop, replicate, length-append, replicate-append-replicate}
+use lib.ListN.{length, set, take, drop, replicate, length-append, replicate-append-replicate}
 use lib.Seq.{sets, length-take-le, drop-at}
-use Rattle.rules.specs.Limits.{head-size, row-size, head-zeros-at}
-use Rattle.rules.specs.Rows.{Frame, Setup, Row, Head-tail, row, round, no-tail}
-use Rattle.rules.specs.Steps.{opened, taken-row, taken}
+use Rattle.rules.specs.Limits.{head-size, row-size, sealed-at, head-zeros-at}
+use Rattle.rules.specs.Rows.{Frame, Setup, Row, Head-tail, row, round, unsealed-tail, sealed-tail}
+use Rattle.rules.specs.Steps.{opened, taken-row, taken, sealed}
 use Rattle.rules.specs.Table.{low, put, head-bytes, head-tail-in, table, rows-of, rows-bytes, row-bytes, round-in, length-good, table-refusal}
 use Rattle.rules.specs.Conditions.{slot-in, last-in, next-in, used-in, row-at}
 use Rattle.theory.specs.Back.{length-head, length-rows}
@@ -18,6 +18,7 @@ use Rattle.theory.specs.Write.{sets-mid}
 use Rattle.theory.specs.Sender.{table-parts}
 use Rattle.theory.specs.Clauses.{rows-count}
 use Rattle.sorts.specs.declared.Round.{Round}
+use Rattle.sorts.specs.Tail.{tail-of}
 use Rattle.round.specs.Head.{Head-of}
 use Rattle.row.specs.Numbers.{row-numbers}
 use Rattle.round.specs.Numbers.{head-numbers}
@@ -28,13 +29,13 @@ abbrev zeros : ℕ
 zeros = head-size - head-zeros-at
 
 -- a head's numbers and its zeros are a head
-zeros-behind : (s l n c : ℕ) (bs : List ℕ) → head-numbers s l n c ++ (replicate zeros 0 ++ bs) ≡ head-bytes s l n c no-tail ++ bs
+zeros-behind : (s l n c : ℕ) (m : Head-tail) (bs : List ℕ) → head-numbers s l n c m ++ (replicate zeros 0 ++ bs) ≡ head-bytes s l n c m ++ bs
 unfolding low put head-numbers head-bytes
-zeros-behind s l n c bs = refl
+zeros-behind s l n c m bs = refl
 
 -- OPENED: all but the head's numbers cleared, and those of a new round written
 pub opened-table : (x : Setup) (t u v : List ℕ) → length-good (length t) ≡ true → u ≡ take head-zeros-at t ++ replicate (length t - head-zeros-at) 0 →
-    v ≡ head-numbers 0 (x .last) 1 0 ++ drop head-zeros-at u → v ≡ table (opened x (rows-of t))
+    v ≡ head-numbers 0 (x .last) 1 0 unsealed-tail ++ drop head-zeros-at u → v ≡ table (opened x (rows-of t))
 unfolding opened round table rows-bytes rows-of
 opened-table x t u v g e f =
     let h = good-long (length t) g in
@@ -42,12 +43,12 @@ opened-table x t u v g e f =
     let k = (length t - head-size) / row-size in
     let n : length t - head-zeros-at ≡ zeros + row-size * (k - 0) = omega (arith, h .0, h .1) in
     f
-    ∙ ap (λ (bs : List ℕ). head-numbers 0 l 1 0 ++ drop head-zeros-at bs) e
-    ∙ ap (λ (bs : List ℕ). head-numbers 0 l 1 0 ++ bs)
+    ∙ ap (λ (bs : List ℕ). head-numbers 0 l 1 0 unsealed-tail ++ drop head-zeros-at bs) e
+    ∙ ap (λ (bs : List ℕ). head-numbers 0 l 1 0 unsealed-tail ++ bs)
     (drop-at (take head-zeros-at t) (replicate (length t - head-zeros-at) 0) head-zeros-at (length-take-le head-zeros-at t (omega (arith, h .0))))
-    ∙ ap (λ (m : ℕ). head-numbers 0 l 1 0 ++ replicate m 0) n
-    ∙ ap (λ (bs : List ℕ). head-numbers 0 l 1 0 ++ bs) (sym (replicate-append-replicate zeros (row-size * (k - 0)) 0))
-    ∙ zeros-behind 0 l 1 0 (replicate (row-size * (k - 0)) 0)
+    ∙ ap (λ (m : ℕ). head-numbers 0 l 1 0 unsealed-tail ++ replicate m 0) n
+    ∙ ap (λ (bs : List ℕ). head-numbers 0 l 1 0 unsealed-tail ++ bs) (sym (replicate-append-replicate zeros (row-size * (k - 0)) 0))
+    ∙ zeros-behind 0 l 1 0 unsealed-tail (replicate (row-size * (k - 0)) 0)
 
 -- a row's numbers over zeros are the row
 row-over : (k : ℕ) (f : Frame) → sets (replicate row-size 0) 0 (row-numbers k f) ≡ row-bytes (taken-row k f)
@@ -84,7 +85,7 @@ module _ (s l n room : ℕ) (a : Head-tail) (xs : List Row) (f : Frame) (h : len
       ∙ sets-mid front (replicate row-size 0) behind (row-numbers n f) 0 (omega arith)
       ∙ ap (λ (bs : List ℕ). front ++ (bs ++ behind)) (row-over n f)
 
-  grown : head-numbers s l (n + 1) (length xs + 1) ++ drop head-zeros-at (front ++ (row-bytes (taken-row n f) ++ behind))
+  grown : head-numbers s l (n + 1) (length xs + 1) a ++ drop head-zeros-at (front ++ (row-bytes (taken-row n f) ++ behind))
       ≡ table (round s l (suc n) room (xs ++ (taken-row n f ∷ [])) a)
   unfolding front behind table round
   grown =
@@ -95,23 +96,36 @@ module _ (s l n room : ℕ) (a : Head-tail) (xs : List Row) (f : Frame) (h : len
       let g : rows-bytes (xs ++ (y ∷ [])) ++ behind ≡ rows-bytes xs ++ rest =
       ap (λ (bs : List ℕ). bs ++ behind) (rows-append xs (y ∷ []) ∙ ap (λ (bs : List ℕ). rows-bytes xs ++ bs) (rows-one y))
       ∙ append-assoc (rows-bytes xs) (row-bytes y) behind in
-      ap (λ (bs : List ℕ). head-numbers s l (n + 1) (length xs + 1) ++ drop head-zeros-at bs) (append-assoc hd (rows-bytes xs) rest)
-      ∙ head-over s l (n + 1) (length xs + 1) s l n (length xs) a (rows-bytes xs ++ rest)
+      ap (λ (bs : List ℕ). head-numbers s l (n + 1) (length xs + 1) a ++ drop head-zeros-at bs) (append-assoc hd (rows-bytes xs) rest)
+      ∙ head-over s l (n + 1) (length xs + 1) s l n (length xs) a a (rows-bytes xs ++ rest)
       ∙ ap₂ (λ (k : ℕ) (bs : List ℕ). head-bytes s l k (length xs + 1) a ++ bs) (add-one n) (sym g)
       ∙ ap (λ (k : ℕ). head-bytes s l (suc n) k a ++ (rows-bytes (xs ++ (y ∷ [])) ++ replicate (row-size * (room - k)) 0)) (sym e)
 
 pub taken-table : (t : List ℕ) (h : Round) (f : Frame) (u v : List ℕ) → table-refusal t ≡ 0 → Head-of t h → h .used < h .room →
     u ≡ sets t (row-at (h .used)) (row-numbers (h .next .0) f) →
-    v ≡ head-numbers (h .slot .0) (h .last .0) (h .next .0 + 1) (h .used + 1) ++ drop head-zeros-at u → v ≡ table (taken (round-in t) f)
+    v ≡ head-numbers (h .slot .0) (h .last .0) (h .next .0 + 1) (h .used + 1) (tail-of h) ++ drop head-zeros-at u → v ≡ table (taken (round-in t) f)
 unfolding taken round-in round
 taken-table t h f u v e k o p g =
     let xs = round-in t .rows in
     let c : length xs ≡ h .used = rows-count (used-in t) (drop head-size t) ∙ sym (k .used) in
     let i : length xs < rows-of t = omega (arith, c, o, k .room) in
     let w : u ≡ sets t (row-at (length xs)) (row-numbers (next-in t) f) = rw (c, ← k .next) p in
-    let x : v ≡ head-numbers (slot-in t) (last-in t) (next-in t + 1) (length xs + 1) ++ drop head-zeros-at u = rw (c, ← k .slot, ← k .last, ← k .next) g in
+    let x : v ≡ head-numbers (slot-in t) (last-in t) (next-in t + 1) (length xs + 1) (head-tail-in t) ++ drop head-zeros-at u = rw (c, ← k .slot, ← k .last, ← k .next, ← k .sealed) g in
     x
-    ∙ ap (λ (bs : List ℕ). head-numbers (slot-in t) (last-in t) (next-in t + 1) (length xs + 1) ++ drop head-zeros-at bs)
+    ∙ ap (λ (bs : List ℕ). head-numbers (slot-in t) (last-in t) (next-in t + 1) (length xs + 1) (head-tail-in t) ++ drop head-zeros-at bs)
     (w ∙ ap (λ (bs : List ℕ). sets bs (row-at (length xs)) (row-numbers (next-in t) f)) (table-parts t e)
     ∙ filled (slot-in t) (last-in t) (next-in t) (rows-of t) (head-tail-in t) xs f i)
     ∙ grown (slot-in t) (last-in t) (next-in t) (rows-of t) (head-tail-in t) xs f i
+
+-- SEALED: one byte of the head
+head-sealed : (s l n c : ℕ) (m : Head-tail) (bs : List ℕ) → set (head-bytes s l n c m ++ bs) sealed-at 1 ≡ head-bytes s l n c sealed-tail ++ bs
+unfolding low put head-bytes
+head-sealed s l n c m bs = refl
+
+pub sealed-table : (t u : List ℕ) → table-refusal t ≡ 0 → u ≡ set t sealed-at 1 → u ≡ table (sealed (round-in t))
+unfolding sealed round table
+sealed-table t u e f =
+    let r = round-in t in
+    f
+    ∙ ap (λ (bs : List ℕ). set bs sealed-at 1) (table-parts t e)
+    ∙ head-sealed (r .slot) (r .last) (r .next) (length (r .rows)) (r .tail) (rows-bytes (r .rows) ++ replicate (row-size * (r .room - length (r .rows))) 0)

@@ -5,7 +5,7 @@ use Prim.Native.Nat.{ℕ, zero, suc, _≤_}
 use native.Mathlib.Omega.{arith}
 use lib.ListN.{length, getD, drop}
 use lib.Seq.{sets}
-use Rattle.rules.specs.Limits.{slot-at, last-at, next-at, used-at, head-zeros-at, slot-bytes, wide-bytes}
+use Rattle.rules.specs.Limits.{slot-at, last-at, next-at, used-at, sealed-at, head-zeros-at, slot-bytes, wide-bytes, flag-bytes}
 use Rattle.rules.specs.Rows.{Head-tail}
 use Rattle.rules.specs.Table.{low, put, head-bytes}
 use Rattle.round.specs.Numbers.{head-numbers}
@@ -21,23 +21,24 @@ spelt zero t h = refl
 spelt (suc n) [] h = absurd (omega arith)
 spelt (suc n) (b ∷ t) h = ap (λ (bs : List ℕ). b ∷ bs) (spelt n t (omega arith))
 
--- A HEAD's four stores
-abbrev stores : (s l n c : ℕ) → List ℕ → List ℕ
-stores s l n c bs =
-    sets (sets (sets (sets bs slot-at (low slot-bytes s)) last-at (low slot-bytes l)) next-at (low wide-bytes n)) used-at (low slot-bytes c)
+-- A HEAD's five stores
+abbrev stores : (s l n c : ℕ) → Head-tail → List ℕ → List ℕ
+stores s l n c m bs =
+    sets (sets (sets (sets (sets bs slot-at (low slot-bytes s)) last-at (low slot-bytes l)) next-at (low wide-bytes n)) used-at (low slot-bytes c)) sealed-at
+    (low flag-bytes (m .sealed))
 
-stores-head : (s l n c : ℕ) (t bs : List ℕ) → stores s l n c (firsts head-zeros-at t ++ bs) ≡ head-numbers s l n c ++ bs
+stores-head : (s l n c : ℕ) (m : Head-tail) (t bs : List ℕ) → stores s l n c m (firsts head-zeros-at t ++ bs) ≡ head-numbers s l n c m ++ bs
 unfolding firsts low put head-numbers
-stores-head s l n c t bs = refl
+stores-head s l n c m t bs = refl
 
-pub head-stored : (t u v w x : List ℕ) (s l n c : ℕ) → head-zeros-at ≤ length t →
+pub head-stored : (t u v w x y : List ℕ) (s l n c : ℕ) (m : Head-tail) → head-zeros-at ≤ length t →
     u ≡ sets t slot-at (low slot-bytes s) → v ≡ sets u last-at (low slot-bytes l) → w ≡ sets v next-at (low wide-bytes n) →
-    x ≡ sets w used-at (low slot-bytes c) → x ≡ head-numbers s l n c ++ drop head-zeros-at t
-head-stored t u v w x s l n c h e f g i =
-    rw (i, g, f, e) (ap (stores s l n c) (spelt head-zeros-at t h) ∙ stores-head s l n c t (drop head-zeros-at t))
+    x ≡ sets w used-at (low slot-bytes c) → y ≡ sets x sealed-at (low flag-bytes (m .sealed)) → y ≡ head-numbers s l n c m ++ drop head-zeros-at t
+head-stored t u v w x y s l n c m h e f g i j =
+    rw (j, i, g, f, e) (ap (stores s l n c m) (spelt head-zeros-at t h) ∙ stores-head s l n c m t (drop head-zeros-at t))
 
 -- over a whole head they leave a whole head
-pub head-over : (s l n c t k m d : ℕ) (a : Head-tail) (bs : List ℕ) →
-    head-numbers s l n c ++ drop head-zeros-at (head-bytes t k m d a ++ bs) ≡ head-bytes s l n c a ++ bs
+pub head-over : (s l n c t k m d : ℕ) (a b : Head-tail) (bs : List ℕ) →
+    head-numbers s l n c a ++ drop head-zeros-at (head-bytes t k m d b ++ bs) ≡ head-bytes s l n c a ++ bs
 unfolding low put head-numbers head-bytes
-head-over s l n c t k m d a bs = refl
+head-over s l n c t k m d a b bs = refl

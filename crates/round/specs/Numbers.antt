@@ -2,8 +2,8 @@
 use mathlib.Core.List.{List}
 use Prim.Native.Nat.{ℕ}
 use Rattle.rules.specs.Limits.{head-widths}
-use Rattle.rules.specs.Rows.{no-tail}
+use Rattle.rules.specs.Rows.{Head-tail}
 use Rattle.rules.specs.Table.{put, head-values}
 
-unfoldable pub head-numbers : (slot last next used : ℕ) → List ℕ
-head-numbers t l n u = put head-widths (head-values t l n u no-tail)
+unfoldable pub head-numbers : (slot last next used : ℕ) → Head-tail → List ℕ
+head-numbers t l n u m = put head-widths (head-values t l n u m)

@@ -1,12 +1,12 @@
 -- A row's numbers, as the code reads them.
-use mathlib.Core.Path.{_≡_, ap, _∙_}
+use mathlib.Core.Path.{_≡_, sym, ap, _∙_}
 use mathlib.Core.List.{List}
 use Prim.Native.Nat.{ℕ, suc, _+_, _≤_}
 use native.Mathlib.Omega.{arith}
 use lib.ListN.{length, getD}
 use Rattle.rules.specs.Table.{field}
 use Rattle.rules.specs.Conditions.{row-at, ticket-in, due-in, weight-in, kind-in}
-use Rattle.numbers.proofs.NumberLaws.{field-suc, field-zero}
+use Rattle.numbers.proofs.NumberLaws.{field1}
 
 pub ticket-read : (t : List ℕ) (i at k : ℕ) → at ≡ row-at i → k ≡ field (at + 0) 4 t → k ≡ ticket-in t i
 ticket-read t i at k e f = f ∙ ap (λ (a : ℕ). field (a + 0) 4 t) e
@@ -18,7 +18,4 @@ pub weight-read : (t : List ℕ) (i at w : ℕ) → at ≡ row-at i → w ≡ fi
 weight-read t i at w e f = f ∙ ap (λ (a : ℕ). field (a + 6) 4 t) e
 
 pub kind-read : (t : List ℕ) (i at k : ℕ) → row-at (suc i) ≤ length t → at ≡ row-at i → k ≡ getD t (at + 10) 0 → k ≡ kind-in t i
-kind-read t i at k l e g =
-    let p : getD t (row-at i + 10) 0 ≡ field (row-at i + 10) 1 t =
-    omega (arith, field-suc t (row-at i + 10) 0 (omega (arith, l)), field-zero t (row-at i + 10 + 1)) in
-    g ∙ ap (λ (v : ℕ). getD t (v + 10) 0) e ∙ p
+kind-read t i at k l e g = g ∙ ap (λ (v : ℕ). getD t (v + 10) 0) e ∙ sym (field1 t (row-at i + 10) (omega (arith, l)))

@@ -17,7 +17,7 @@ use Rattle.rules.specs.Table.{field, every}
 use Rattle.theory.specs.Tests.{ltb?, leb?}
 use Rattle.theory.specs.Judge.{zeros, row-judged}
 use Rattle.theory.specs.Fields.{zeros-at}
-use Rattle.numbers.proofs.NumberLaws.{field-suc, field-zero}
+use Rattle.numbers.proofs.NumberLaws.{field1}
 use Rattle.row.specs.declared.seen.Seen.{Seen}
 use Rattle.row.specs.Seen.{Differs, Sees, fair}
 use Rattle.zeros.proofs.ZeroLaws.{word-at-most-one, zeros-rest}
@@ -41,12 +41,11 @@ row-end xs h =
     let m : 16 < length xs = omega arith in
     let n : 17 < length xs = omega arith in
     let o : length (drop 17 xs) ≤ 7 = omega (arith, length-drop 17 xs) in
-    let kind : getD xs 10 0 ≡ field 10 1 xs = omega (arith, field-suc xs 10 0 k, field-zero xs 11) in
     ap₂ (λ (p : Bool) (q : Bool). p && q) (word-small xs 10 k)
     (word-small xs 16 m ∙ ap (λ (ys : List ℕ). leb (getD xs 16 0) 1 && zeros ys) (take-all 7 (drop 17 xs) o ∙ drop-cons xs 17 0 n))
     ∙ overlap (leb (getD xs 10 0) 1) (zeros (take 7 (drop 11 xs))) (zeros (drop 18 xs)) (getD xs 16 0) (getD xs 17 0)
     (λ e. (at e 5 (omega arith), at e 6 (omega arith)))
-    ∙ ap₂ (λ (n : ℕ) (t : Bool). leb n 1 && t) kind (sym (zeros-rest xs 11 7))
+    ∙ ap₂ (λ (n : ℕ) (t : Bool). leb n 1 && t) (sym (field1 xs 10 (omega arith))) (sym (zeros-rest xs 11 7))
   where
     at : zeros (take 7 (drop 11 xs)) ≡ true → (i : ℕ) → i < 7 → getD xs (11 + i) 0 ≡ 0
     at e i h = sym (getD-take 7 (drop 11 xs) i 0 h ∙ getD-drop 11 xs i 0) ∙ zeros-at (take 7 (drop 11 xs)) e i

@@ -17,6 +17,8 @@ pub struct Round {
     pub next: Ticket,
     pub used: usize,
     pub room: usize,
+    // 1 for a sealed round, else 0.
+    pub sealed: u8,
 }
 
 impl Round {
@@ -52,7 +54,9 @@ impl Round {
 
     pub const USED_AT: usize = 8;
 
-    pub const HEAD_ZEROS_AT: usize = 10;
+    pub const SEALED_AT: usize = 10;
+
+    pub const HEAD_ZEROS_AT: usize = 11;
 
     // Where each number of a row begins, and its zeros.
     pub const TICKET_AT: usize = 0;
@@ -67,7 +71,8 @@ impl Round {
 
     // A round just opened.
     pub fn new(last: Slot, room: usize) -> Round
-        ensures { λ r. ⌜ (r .slot .0 ≡ 0) × (r .last .0 ≡ last .0) × (r .next .0 ≡ 1) × (r .used ≡ 0) × (r .room ≡ room) ⌝ }
+        ensures { λ r. ⌜ (r .slot .0 ≡ 0) × (r .last .0 ≡ last .0) × (r .next .0 ≡ 1) × (r .used ≡ 0) × (r .room ≡ room)
+            × (r .sealed ≡ 0) ⌝ }
     {
         Round {
             slot: Slot(0),
@@ -75,6 +80,7 @@ impl Round {
             next: Ticket(1),
             used: 0,
             room,
+            sealed: 0,
         }
     }
 
@@ -82,7 +88,7 @@ impl Round {
     pub fn one_more(self) -> Round
         requires { ⌜ (self .next .0 < ticket-limit) × (self .used < self .room) ⌝ }
         ensures { λ r. ⌜ (r .slot .0 ≡ self .slot .0) × (r .last .0 ≡ self .last .0) × (r .next .0 ≡ self .next .0 + 1)
-            × (r .used ≡ self .used + 1) × (r .room ≡ self .room) ⌝ }
+            × (r .used ≡ self .used + 1) × (r .room ≡ self .room) × (r .sealed ≡ self .sealed) ⌝ }
     {
         let slot = self.slot;
         let last = self.last;
@@ -92,6 +98,7 @@ impl Round {
             next: Ticket(self.next.0 + 1),
             used: self.used + 1,
             room: self.room,
+            sealed: self.sealed,
         }
     }
 }

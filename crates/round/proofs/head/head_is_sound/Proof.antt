@@ -4,8 +4,8 @@ use Rattle.round.proofs.HeadLaws.{head-is}
 use Rattle.round.proofs.head.head_is_sound.Statement.{statement}
 use Rattle.round.proofs.head.head_is_sound.Tie as tie
 
-read2-requires : tie.Need-read2-requires
-read2-requires c κs = search needs
+read1-requires : tie.Need-read1-requires
+read1-requires c κs = search needs
 
 add-read4 : tie.Need-add-read4
 add-read4 c = search needs
@@ -17,8 +17,8 @@ head-is-good-requires : tie.Need-head-is-good-requires
 head-is-good-requires c κs = search needs
 
 returns : tie.Need-returns
-returns c = rw (c .head-is-good .ensures, c .before .before .read2 .ensures, c .before .read4 .ensures)
+returns c = rw (c .head-is-good .ensures, c .before .before .read1 .ensures, c .before .read4 .ensures)
     (search (head-is, c .before .before .before .before .pre .1))
 
 pub head-is-sound-spec : {M : Type 1} → statement M
-head-is-sound-spec = tie.close (tie.spec read2-requires add-read4 read4-requires head-is-good-requires returns)
+head-is-sound-spec = tie.close (tie.spec read1-requires add-read4 read4-requires head-is-good-requires returns)

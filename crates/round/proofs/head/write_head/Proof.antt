@@ -1,5 +1,6 @@
--- `round::head::write_head` meets its contract: four stores of numbers are the head's numbers.
+-- `round::head::write_head` meets its contract: five stores of numbers are the head's numbers.
 use borrow.Author.Needs.{needs}
+use Rattle.sorts.specs.Tail.{tail-of}
 use Rattle.round.proofs.WriteLaws.{head-stored}
 use Rattle.round.proofs.head.write_head.Statement.{statement}
 use Rattle.round.proofs.head.write_head.Tie as tie
@@ -19,17 +20,18 @@ cast-write2 c = search needs
 write2-requires-3 : tie.Need-write2-requires-3
 write2-requires-3 c κs = search needs
 
+write1-requires : tie.Need-write1-requires
+write1-requires c κs = search needs
+
 same-length : tie.Need-same-length
 same-length c = search needs
 
 returns : tie.Need-returns
 returns c =
-    head-stored _ _ _ _ _ _ _ _ _
-    (c .before .before .before .before .before .before .before .before .before .before .before .before .before .before .before .before .before .before .pre .0)
-    (c .before .before .before .before .before .before .before .before .before .before .before .before .before .before .before .write2 .ensures)
-    (c .before .before .before .before .before .before .before .before .before .before .before .write22 .ensures)
-    (c .before .before .before .before .before .before .before .write4 .ensures)
-    (c .before .before .write23 .ensures)
+    let s = c .before .before .before .before .before .before in
+    let a = s .before .before .before .before .before .before .before .before .before .before .before .before .before .before .before .before in
+    head-stored _ _ _ _ _ _ _ _ _ _ (tail-of (a .args .round)) (a .pre .0) (s .before .before .before .before .before .before .before .before .before .before .before .before .before .write2 .ensures) (s .before .before .before .before .before .before .before .before .before .write22 .ensures)
+    (s .before .before .before .before .before .write4 .ensures) (s .write23 .ensures) (c .before .before .write1 .ensures)
 
 pub write-head-spec : {M : Type 1} → statement M
 write-head-spec =
@@ -40,5 +42,6 @@ write-head-spec =
     write4-requires
     cast-write2
     write2-requires-3
+    write1-requires
     same-length
     returns)

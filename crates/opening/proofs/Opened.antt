@@ -28,9 +28,9 @@ module _ (x : Setup) (t : List ℕ) (good : length-good (length t) ≡ true) whe
       omega (arith, head-fits, ap length e, length-append (take head-zeros-at t) zeros, length-take-le head-zeros-at t (omega (arith, head-fits)))
 
   -- ALL WRITTEN: zeros behind the head, then the head of a round just opened
-  pub opened-says : first-of (open-tests x) ≡ 0 → (a b n u : ℕ) (v z : List ℕ) → (a ≡ 0) × (b ≡ x .last) × (n ≡ 1) × (u ≡ 0) →
-      v ≡ take head-zeros-at t ++ zeros → z ≡ head-numbers a b n u ++ drop head-zeros-at v → Says (opening x) done t z
+  pub opened-says : first-of (open-tests x) ≡ 0 → (a b n u s : ℕ) (v z : List ℕ) → (a ≡ 0) × (b ≡ x .last) × (n ≡ 1) × (u ≡ 0) × (s ≡ 0) →
+      v ≡ take head-zeros-at t ++ zeros → z ≡ head-numbers a b n u (record { sealed = s }) ++ drop head-zeros-at v → Says (opening x) done t z
   unfolding says leaves deed round-in round
-  opened-says h a b n u v z g e f =
+  opened-says h a b n u s v z g e f =
       says-accepted (opening x) t z (opening-number x t good ∙ h)
-      (opened-table x t v z good e (f ∙ rw (g .0, g .1, g .2, g .3)))
+      (opened-table x t v z good e (f ∙ rw (g .0, g .1, g .2, g .3, g .4)))

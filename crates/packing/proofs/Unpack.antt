@@ -3,9 +3,9 @@ use mathlib.Core.Path.{_≡_, refl, ap, _∙_}
 use Prim.Native.Nat.{ℕ, _+_, _*_, _/_, _%_, _≤_, _<_}
 use native.Mathlib.Omega.{arith}
 use borrow.Author.Tests.{eq-eqb, ne-eqb}
-use Rattle.rules.specs.Calls.{taking, sending, marking, totalling, Call, opening, acting, asking, Out, silence, frame, kept-blank, ordinary, leap, Reply, refused, done, ticket, step, amount, blank-due}
+use Rattle.rules.specs.Calls.{taking, sending, sealing, marking, totalling, Call, opening, acting, asking, Out, silence, frame, kept-blank, ordinary, leap, Reply, refused, done, closed, ticket, step, amount, blank-due}
 use Rattle.packing.specs.Packing.{pack-out, pack, out-in, step-in, accepted-in, unpack, unpack-substitute, value-place, out-place, leap-place, Fits-out, silence-fits, frame-fits, blank-fits}
-use Rattle.packing.specs.Packing.{refusal-fits, opening-fits, taking-fits, ordinary-fits, leap-fits, mark-fits, total-fits, Unpacks, Fits-substitute, refusal-stands, row-stands, blank-stands}
+use Rattle.packing.specs.Packing.{refusal-fits, opening-fits, taking-fits, ordinary-fits, leap-fits, sealing-fits, mark-fits, total-fits, Unpacks, Fits-substitute, refusal-stands, row-stands, blank-stands}
 
 -- a multiple of 2^8 is no refusal
 pub unpack-accepted : (c : Call) (n : ℕ) → n % 256 ≡ 0 → unpack c n ≡ accepted-in c n
@@ -63,6 +63,7 @@ unpacks (acting (taking f)) (ticket k) (taking-fits h) =
     unpack-accepted (acting (taking f)) (256 * k) (omega arith) ∙ ap ticket (omega arith)
 unpacks (acting sending) (step (ordinary o)) (ordinary-fits f) = ordinary-back o f
 unpacks (acting sending) (step (leap o)) (leap-fits f) = leap-back o f
+unpacks (acting sealing) closed sealing-fits = unpack-accepted (acting sealing) 0 (omega arith)
 unpacks (asking (marking s)) (amount n) (mark-fits h) = unpack-accepted (asking (marking s)) (256 * n) (omega arith) ∙ ap amount (omega arith)
 unpacks (asking totalling) (amount n) (total-fits h) = unpack-accepted (asking totalling) (256 * n) (omega arith) ∙ ap amount (omega arith)
 

@@ -4,7 +4,7 @@ use mathlib.Core.Bool.{cond}
 use Prim.Native.Nat.{ℕ, zero, suc, _+_, _*_, _/_, _%_, _≤_, _<_}
 use lib.Dec.{eqb}
 use Rattle.rules.specs.Rows.{Frame, Setup}
-use Rattle.rules.specs.Calls.{taking, sending, marking, totalling, Call, opening, acting, asking, Out, silence, frame, kept-blank, Step, ordinary, leap, Reply, refused, done, ticket, step, amount, blank-due}
+use Rattle.rules.specs.Calls.{taking, sending, sealing, marking, totalling, Call, opening, acting, asking, Out, silence, frame, kept-blank, Step, ordinary, leap, Reply, refused, done, closed, ticket, step, amount, blank-due}
 
 -- places: the refusal's number below 2^8, a ticket or an amount from there on, what went out from 2^32, a leap at 2^34
 abbrev pub value-place : ℕ
@@ -24,6 +24,7 @@ pack-out (kept-blank k) = value-place * k + 2 * out-place
 unfoldable pub pack : Reply → ℕ
 pack (refused n) = n
 pack done = 0
+pack closed = 0
 pack (ticket k) = value-place * k
 pack (step (ordinary o)) = pack-out o
 pack (step (leap o)) = pack-out o + leap-place
@@ -34,6 +35,7 @@ pack (blank-due s) = out-place * s
 abbrev pub Small-amount : Reply → Type 0
 Small-amount (refused n) = Unit {0}
 Small-amount done = Unit {0}
+Small-amount closed = Unit {0}
 Small-amount (ticket k) = Unit {0}
 Small-amount (step s) = Unit {0}
 Small-amount (amount n) = n ≤ 17179869184
@@ -53,6 +55,7 @@ unfoldable pub accepted-in : Call → ℕ → Reply
 accepted-in (opening u) n = done
 accepted-in (acting (taking f)) n = ticket (n / value-place)
 accepted-in (acting sending) n = step (step-in n)
+accepted-in (acting sealing) n = closed
 accepted-in (asking (marking s)) n = amount (n / value-place)
 accepted-in (asking totalling) n = amount (n / value-place)
 
@@ -77,6 +80,7 @@ pub data Fits : Call → Reply → Type 0 where
   taking-fits : {f : Frame} {k : ℕ} → k < 16777216 → Fits (acting (taking f)) (ticket k)
   ordinary-fits : {o : Out} → Fits-out o → Fits (acting sending) (step (ordinary o))
   leap-fits : {o : Out} → Fits-out o → Fits (acting sending) (step (leap o))
+  sealing-fits : Fits (acting sealing) closed
   mark-fits : {s n : ℕ} → n ≤ 16777216 → Fits (asking (marking s)) (amount n)
   total-fits : {n : ℕ} → n ≤ 17179869184 → Fits (asking totalling) (amount n)
 

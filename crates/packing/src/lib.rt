@@ -2,11 +2,12 @@
 ghost use mathlib.Core.Path.{_≡_};
 ghost use Prim.Native.Nat.{_+_, _*_, _≤_};
 ghost use Rattle.rules.specs.Calls.{step};
-ghost use Rattle.replies.specs.Replies.{of-opened, of-taken, of-out, of-step, of-sent, of-marked, of-totalled, of-substituted};
+ghost use Rattle.replies.specs.Replies.{of-opened, of-taken, of-out, of-step, of-sent, of-sealed, of-marked, of-totalled, of-substituted};
 ghost use Rattle.packing.specs.Packing.{pack-out, pack, Small-amount};
 use replies::Marked;
 use replies::Opened;
 use replies::Out;
+use replies::Sealed;
 use replies::Sent;
 use replies::Step;
 use replies::Substituted;
@@ -72,6 +73,15 @@ fn pack_step(went: Step) -> u64
     match went {
         Step::Ordinary(out) => pack_what(out),
         Step::Leap(out) => pack_what(out) + LEAP_PLACE,
+    }
+}
+
+pub fn pack_sealed(reply: Sealed) -> u64
+    ensures { λ r. ⌜ r ≡ pack (of-sealed reply) ⌝ }
+{
+    match reply {
+        Sealed::Closed => 0,
+        Sealed::Refused(n) => n as u64,
     }
 }
 

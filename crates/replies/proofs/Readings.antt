@@ -12,13 +12,15 @@ use Rattle.replies.specs.declared.Step.{Step}
 use Rattle.replies.specs.declared.Step.the-variants.{Ordinary, Leap}
 use Rattle.replies.specs.declared.Sent.{Sent}
 use Rattle.replies.specs.declared.Sent.the-variants as sent
+use Rattle.replies.specs.declared.Sealed.{Sealed}
+use Rattle.replies.specs.declared.Sealed.the-variants as sealed
 use Rattle.replies.specs.declared.Marked.{Marked}
 use Rattle.replies.specs.declared.Marked.the-variants as marked
 use Rattle.replies.specs.declared.Totalled.{Totalled}
 use Rattle.replies.specs.declared.Totalled.the-variants as totalled
 use Rattle.replies.specs.declared.Substituted.{Substituted}
 use Rattle.replies.specs.declared.Substituted.the-variants as substituted
-use Rattle.replies.specs.Replies.{of-opened, of-taken, of-out, of-step, of-sent, of-marked, of-totalled, of-substituted}
+use Rattle.replies.specs.Replies.{of-opened, of-taken, of-out, of-step, of-sent, of-sealed, of-marked, of-totalled, of-substituted}
 
 pub opened-read : (a b : Opened) → of-opened a ≡ of-opened b → a ≡ b
 opened-read opened.Done opened.Done e = refl
@@ -54,6 +56,12 @@ sent-read (sent.Went s) (sent.Went u) e = ap sent.Went (step-read s u cc)
 sent-read (sent.Went s) (sent.Refused n) e = clash cc
 sent-read (sent.Refused m) (sent.Went u) e = clash cc
 sent-read (sent.Refused m) (sent.Refused n) e = cc
+
+pub sealed-read : (a b : Sealed) → of-sealed a ≡ of-sealed b → a ≡ b
+sealed-read sealed.Closed sealed.Closed e = refl
+sealed-read sealed.Closed (sealed.Refused n) e = clash cc
+sealed-read (sealed.Refused m) sealed.Closed e = clash cc
+sealed-read (sealed.Refused m) (sealed.Refused n) e = cc
 
 pub marked-read : (a b : Marked) → of-marked a ≡ of-marked b → a ≡ b
 marked-read (marked.At v) (marked.At w) e = ap marked.At (weight-read v w cc)

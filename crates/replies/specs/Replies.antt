@@ -1,5 +1,5 @@
 -- Each reply enum's number and values of document 01, case by case.
-use Rattle.rules.specs.Calls.{Reply, refused, done, ticket, step, amount, blank-due}
+use Rattle.rules.specs.Calls.{Reply, refused, done, closed, ticket, step, amount, blank-due}
 use Rattle.rules.specs.Calls as rules
 use Rattle.replies.specs.declared.Opened.{Opened}
 use Rattle.replies.specs.declared.Opened.the-variants as opened
@@ -11,6 +11,8 @@ use Rattle.replies.specs.declared.Step.{Step}
 use Rattle.replies.specs.declared.Step.the-variants.{Ordinary, Leap}
 use Rattle.replies.specs.declared.Sent.{Sent}
 use Rattle.replies.specs.declared.Sent.the-variants as sent
+use Rattle.replies.specs.declared.Sealed.{Sealed}
+use Rattle.replies.specs.declared.Sealed.the-variants as sealed
 use Rattle.replies.specs.declared.Marked.{Marked}
 use Rattle.replies.specs.declared.Marked.the-variants as marked
 use Rattle.replies.specs.declared.Totalled.{Totalled}
@@ -38,6 +40,10 @@ of-step (Leap o) = rules.leap (of-out o)
 abbrev pub of-sent : Sent → Reply
 of-sent (sent.Went s) = step (of-step s)
 of-sent (sent.Refused n) = refused n
+
+abbrev pub of-sealed : Sealed → Reply
+of-sealed sealed.Closed = closed
+of-sealed (sealed.Refused n) = refused n
 
 abbrev pub of-marked : Marked → Reply
 of-marked (marked.At w) = amount (w .0)

@@ -1,4 +1,4 @@
-// What each call answers: done, a ticket, a step, an amount or a blank's due slot; or the number of its refusal.
+// What each call answers: done, a ticket, a step, closed, an amount or a blank's due slot; or the number of its refusal.
 use sorts::Slot;
 use sorts::Ticket;
 use sorts::Weight;
@@ -27,6 +27,11 @@ pub enum Step {
 
 pub enum Sent {
     Went(Step),
+    Refused(u32),
+}
+
+pub enum Sealed {
+    Closed,
     Refused(u32),
 }
 

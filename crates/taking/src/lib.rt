@@ -1,4 +1,4 @@
-// Taking a frame: refusals 2, 3 and 5 to 9.
+// Taking a frame: refusals 2, 3, 5 to 9 and 13.
 ghost use mathlib.Core.Path.{_≡_};
 ghost use Rattle.rules.specs.Table.{table-refusal};
 ghost use Rattle.rules.specs.Rows.{framed};

@@ -22,55 +22,69 @@ is-full-requires c κs = search needs
 going-on : (c : tie.Else1) → ltb (c .before .before .args .round .last .0) (c .before .before .args .round .slot .0) ≡ false
 going-on c = sym (c .before .is-over .ensures) ∙ c .if1 .left
 
-weighed : (c : tie.Else2) → let w = c .before .before .before .before .before .before .args .weight .0 in
+unsealed : (c : tie.Else2) → eqb (c .before .before .before .before .args .round .sealed) 1 ≡ false
+unsealed c = ne-eqb (c .before .before .before .before .args .round .sealed) 1 (λ z. omega (arith, z))
+
+weighed : (c : tie.Else3) → let w = c .before .before .before .before .before .before .before .before .args .weight .0 in
     (eqb w 0 || ltb most-weight w) ≡ false
-weighed c = c .if2 .left
+weighed c = c .if3 .left
 
-ahead : (c : tie.Else3) → let s = c .before .before .before .before .before .before .before .before .args in
+ahead : (c : tie.Else4) → let s = c .before .before .before .before .before .before .before .before .before .before .args in
     (ltb (s .due .0) (s .round .slot .0) || ltb (s .round .last .0) (s .due .0)) ≡ false
-ahead c = sym (c .before .not-ahead .ensures) ∙ c .if3 .left
+ahead c = sym (c .before .not-ahead .ensures) ∙ c .if4 .left
 
-unspent : (c : tie.Else4) →
-    eqb (c .before .before .before .before .before .before .before .before .before .before .before .args .round .next .0) ticket-limit ≡ false
+unspent : (c : tie.Else5) →
+    eqb (c .before .before .before .before .before .before .before .before .before .before .before .before .before .args .round .next .0) ticket-limit ≡ false
 unspent c =
-    ne-eqb (c .before .before .before .before .before .before .before .before .before .before .before .args .round .next .0) ticket-limit (λ z. omega (arith, z))
+    ne-eqb (c .before .before .before .before .before .before .before .before .before .before .before .before .before .args .round .next .0) ticket-limit (λ z. omega (arith, z))
 
 returns : tie.Need-returns
 returns c = rw (sym (c .before .is-over .ensures) ∙ c .if1 .taken)
 
 returns-2 : tie.Need-returns-2
-returns-2 c = rw (going-on (c .before .before .before .before), c .if2 .taken)
+returns-2 c = rw (going-on (c .before .before), eq-eqb (c .before .before .before .before .args .round .sealed) 1 (omega arith))
 
 returns-3 : tie.Need-returns-3
-returns-3 c = rw (going-on (c .before .before .before .before .before .before), weighed (c .before .before), sym (c .before .not-ahead .ensures) ∙ c .if3 .taken)
+returns-3 c = rw (going-on (c .before .before .before .before .before .before), unsealed (c .before .before .before .before), c .if3 .taken)
 
 returns-4 : tie.Need-returns-4
 returns-4 c = rw (
-  going-on (c .before .before .before .before .before .before .before .before .before),
-  weighed (c .before .before .before .before .before),
-  ahead (c .before .before .before),
-  eq-eqb (c .before .before .before .before .before .before .before .before .before .before .before .args .round .next .0) ticket-limit (omega arith),
+  going-on (c .before .before .before .before .before .before .before .before),
+  unsealed (c .before .before .before .before .before .before),
+  weighed (c .before .before),
+  sym (c .before .not-ahead .ensures) ∙ c .if4 .taken,
 )
 
 returns-5 : tie.Need-returns-5
 returns-5 c = rw (
   going-on (c .before .before .before .before .before .before .before .before .before .before .before),
-  weighed (c .before .before .before .before .before .before .before),
-  ahead (c .before .before .before .before .before),
-  unspent (c .before .before),
-  sym (c .before .is-full .ensures) ∙ c .if5 .taken,
+  unsealed (c .before .before .before .before .before .before .before .before .before),
+  weighed (c .before .before .before .before .before),
+  ahead (c .before .before .before),
+  eq-eqb (c .before .before .before .before .before .before .before .before .before .before .before .before .before .args .round .next .0) ticket-limit (omega arith),
 )
 
 returns-6 : tie.Need-returns-6
 returns-6 c = rw (
-  going-on (c .before .before .before .before .before .before .before .before .before .before .before),
+  going-on (c .before .before .before .before .before .before .before .before .before .before .before .before .before),
+  unsealed (c .before .before .before .before .before .before .before .before .before .before .before),
   weighed (c .before .before .before .before .before .before .before),
   ahead (c .before .before .before .before .before),
   unspent (c .before .before),
-  sym (c .before .is-full .ensures) ∙ c .if5 .left,
+  sym (c .before .is-full .ensures) ∙ c .if6 .taken,
+)
+
+returns-7 : tie.Need-returns-7
+returns-7 c = rw (
+  going-on (c .before .before .before .before .before .before .before .before .before .before .before .before .before),
+  unsealed (c .before .before .before .before .before .before .before .before .before .before .before),
+  weighed (c .before .before .before .before .before .before .before),
+  ahead (c .before .before .before .before .before),
+  unspent (c .before .before),
+  sym (c .before .is-full .ensures) ∙ c .if6 .left,
 )
 
 pub taking-refusal-spec : {M : Type 1} → statement M
 taking-refusal-spec =
     tie.close
-    (tie.spec is-over-requires returns returns-2 not-ahead-requires returns-3 returns-4 is-full-requires returns-5 returns-6)
+    (tie.spec is-over-requires returns returns-2 returns-3 not-ahead-requires returns-4 returns-5 is-full-requires returns-6 returns-7)

@@ -70,9 +70,9 @@ returns-3 c =
     let n = c .before .before .before .before .before .before .before .before .new .ensures in
     opened-says (until (s .args .last .0)) (s .args .table .now)
     (good (c .before .before .before .before .before .before .before .before .before .before .before .before .before))
-    (free (c .before .before .before .before .before .before .before .before .before .before .before)) _ _ _ _
+    (free (c .before .before .before .before .before .before .before .before .before .before .before)) _ _ _ _ _
     (c .before .before .before .before .before .before .clear .last .0) (c .before .before .write-head .last .0)
-    (omega (arith, n .0), omega (arith, n .1), omega (arith, n .2), omega (arith, n .3))
+    (omega (arith, n .0), omega (arith, n .1), omega (arith, n .2), omega (arith, n .3), omega (arith, n .5))
     (cc (c .before .before .before .before .before .before .clear .ensures)) (c .before .before .write-head .ensures)
 
 pub open-round-spec : {M : Type 1} → statement M

@@ -67,9 +67,9 @@ returns-2 c =
     let o = c .before .before .before .before .one-more .ensures in
     taken-says (s .args .table .now) (s .args .round) (s .pre .0) (s .pre .1) (framed (s .args .due .0) (s .args .weight .0))
     (free (c .before .before .before .before .before .before .before .before .before .before .before))
-    _ _ _ _ (c .before .before .before .before .before .before .before .write-row .last .0) (c .before .before .write-head .last .0)
+    _ _ _ _ _ (c .before .before .before .before .before .before .before .write-row .last .0) (c .before .before .write-head .last .0)
     (c .before .before .before .before .before .before .before .before .before .row-at .result) _ _ _ _
-    (o .0, o .1, o .2, o .3)
+    (o .0, o .1, o .2, o .3, o .5)
     (c .before .before .before .before .before .before .before .before .before .row-at .ensures)
     (omega arith, omega arith, omega arith, omega arith)
     (c .before .before .before .before .before .before .before .write-row .ensures) (c .before .before .write-head .ensures)

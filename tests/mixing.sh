@@ -15,7 +15,7 @@ passed=0 failed=0
 # Parameters of the call are there to be passed on: table, bytes, round, keys, counts, ends, tops, lows.
 signatures() {
     cat <<'EOF'
-sorts::Round { slot: <Slot>, last: <Slot>, next: <Ticket>, used: 0, room: 1 }
+sorts::Round { slot: <Slot>, last: <Slot>, next: <Ticket>, used: 0, room: 1, sealed: 0 }
 sorts::Round::new(<Slot>, 1)
 checks::opening_refusal(<Slot>)
 checks::taking_refusal(round, <Slot>, <Weight>)

@@ -4,8 +4,9 @@ use mathlib.Core.List.{List}
 use Prim.Native.Nat.{ℕ, suc, _≤_, _<_}
 use lib.ListN.{length, getD}
 use Rattle.rules.specs.Rows.{blank, In}
-use Rattle.rules.specs.Plan.{plan, best}
+use Rattle.rules.specs.Plan.{plan}
 use Rattle.rules.specs.PlanM.{Outside}
+use Rattle.rules.specs.Steps.{goes}
 use Rattle.rules.specs.Table.{round-in}
 use Rattle.picture.specs.Picture.{Heaviest}
 use Rattle.sorts.specs.declared.Round.{Round as Head}
@@ -22,7 +23,7 @@ pub record Leaps (t : List ℕ) (h : Head) (es ts ls : List ℕ) (l : Lead) : Ty
   pub row : ℕ
   pub below : row < length (round-in t .rows)
   pub key : l .key ≡ key-at (round-in t) row
-  pub goes : best (round-in t) (plan (round-in t)) ≡ at (round-in t) row
+  pub goes : goes (round-in t) ≡ at (round-in t) row
   pub member : In (at (round-in t) row) (plan (round-in t))
   pub from : suc (getD es (suc (l .segment)) 0) ≤ at (round-in t) row .due
   pub by : at (round-in t) row .due ≤ getD es (l .segment) 0

@@ -3,7 +3,7 @@ use mathlib.Core.Path.{_≡_, refl, subst}
 use mathlib.Core.List.{List, [], _∷_}
 use Prim.Native.Nat.{ℕ}
 use native.Mathlib.Omega.{arith}
-use Rattle.rules.specs.Rows.{Row, frame-tail, no-tail, Round, row, blank, round, slots-left, heavier, into, sorted}
+use Rattle.rules.specs.Rows.{Row, frame-tail, unsealed-tail, Round, row, blank, round, slots-left, heavier, into, sorted}
 use Rattle.rules.specs.Plan.{due-by, fits-from, feasible, kept, blanks-from, plan, tight, tight-from, tight-after, same-row, in-plan, lightest-by, heaviest-outside}
 use Rattle.theory.specs.Full.{Fine}
 use Rattle.picture.specs.Picture.{Segment, segment, Picture}
@@ -16,15 +16,15 @@ frame k d w = row k d w frame-tail
 
 -- P1: a row of weight 4 due now, one of weight 10 due next: two segments, no row left out
 abbrev pub first-round : Round
-first-round = round 0 1 3 4 (frame 1 0 4 ∷ frame 2 1 10 ∷ []) no-tail
+first-round = round 0 1 3 4 (frame 1 0 4 ∷ frame 2 1 10 ∷ []) unsealed-tail
 
 -- three rows due by slot 1, and slot 2 free: the lightest is left out, and the blank is due in slot 2
 abbrev pub second-round : Round
-second-round = round 0 2 4 4 (frame 1 1 5 ∷ frame 2 1 9 ∷ frame 3 1 7 ∷ []) no-tail
+second-round = round 0 2 4 4 (frame 1 1 5 ∷ frame 2 1 9 ∷ frame 3 1 7 ∷ []) unsealed-tail
 
 -- a row due in each slot, and a lighter one that is left out at the end
 abbrev pub third-round : Round
-third-round = round 0 3 6 8 (frame 1 0 4 ∷ frame 2 1 20 ∷ frame 3 2 9 ∷ frame 4 3 8 ∷ frame 5 3 3 ∷ []) no-tail
+third-round = round 0 3 6 8 (frame 1 0 4 ∷ frame 2 1 20 ∷ frame 3 2 9 ∷ frame 4 3 8 ∷ frame 5 3 3 ∷ []) unsealed-tail
 
 abbrev pub first-segments : List Segment
 first-segments = segment 0 0 (frame 1 0 4) (frame 1 0 4) (blank 0) ∷ segment 1 1 (frame 2 1 10) (frame 1 0 4) (blank 1) ∷ []

@@ -7,8 +7,8 @@ use native.Mathlib.Omega.{arith}
 use lib.Dec.{leb}
 use borrow.Author.Tests.{le-leb, lt-leb}
 use Rattle.rules.specs.Rows.{Row, Round, row, blank, In}
-use Rattle.rules.specs.Plan.{plan, in-plan, tight-after, mark-in, mark, first-end, best}
-use Rattle.rules.specs.Steps.{shifted, replaced, leapt, is-ordinary}
+use Rattle.rules.specs.Plan.{plan, in-plan, tight-after, mark-in, mark, first-end}
+use Rattle.rules.specs.Steps.{goes, shifted, replaced, leapt, is-ordinary}
 use Rattle.theory.specs.All.{due-of-blank}
 use Rattle.theory.specs.Full.{Fine}
 use Rattle.theory.specs.Leap.{no-shift}
@@ -22,13 +22,13 @@ use Rattle.picture.specs.Chain.{links, chain-rows}
 
 module _ (r : Round) (f : Fine r) (g : Segment) (w : Right r g) where
   -- THE KIND of step
-  pub ordinary-first : best r (plan r) ≡ g .top → g .first ≡ r .slot → is-ordinary r ≡ true
+  pub ordinary-first : goes r ≡ g .top → g .first ≡ r .slot → is-ordinary r ≡ true
   unfolding is-ordinary
   ordinary-first e h =
       ap (λ (x : Row). leb (x .due) (first-end r (plan r))) e
       ∙ le-leb (g .top .due) (first-end r (plan r)) (omega (arith, w .top .of .2, first-ends r f (g .first) (g .last) (w .spans) h))
 
-  pub leap-later : best r (plan r) ≡ g .top → r .slot < g .first → is-ordinary r ≡ false
+  pub leap-later : goes r ≡ g .top → r .slot < g .first → is-ordinary r ≡ false
   unfolding is-ordinary
   leap-later e h =
       ap (λ (x : Row). leb (x .due) (first-end r (plan r))) e

@@ -6,9 +6,9 @@ use Prim.Native.Nat.{ℕ, suc, _≤_, _<_}
 use native.Mathlib.Omega.{arith}
 use borrow.Author.Tests.{le-leb, lt-leb}
 use Rattle.rules.specs.Rows.{Row, Round, blank, In}
-use Rattle.rules.specs.Plan.{plan, tight-after, mark, first-end, substitute, best}
+use Rattle.rules.specs.Plan.{plan, tight-after, mark, first-end, substitute}
 use Rattle.rules.specs.PlanM.{Outside}
-use Rattle.rules.specs.Steps.{set-to, kept-at, changed}
+use Rattle.rules.specs.Steps.{goes, set-to, kept-at, changed}
 use Rattle.theory.specs.Full.{Fine}
 use Rattle.theory.specs.Back.{length-changed}
 use Rattle.theory.specs.Best.{ordinary-is}
@@ -25,18 +25,18 @@ use Rattle.picture.specs.LeapMarks.{mark-end}
 
 module _ (r : Round) (f : Fine r) (o : r .slot ≤ r .last) (rs : List Row) (c : Rows-of-plan r rs) where
   -- A LEAP FROM AFAR: nothing stays behind
-  pub afar-sends : (z : ℕ) → Near r z → (p : Row) → best r (plan r) ≡ p → In p rs → z ≤ p .due → Sends r p false (p .ticket) (r .rows)
+  pub afar-sends : (z : ℕ) → Near r z → (p : Row) → goes r ≡ p → In p rs → z ≤ p .due → Sends r p false (p .ticket) (r .rows)
   afar-sends z k p e i h = let a = far-sent r f rs c z k o p e i h in record { goes = e; step = a .0; leaves = a .1; long = refl }
 
-  module _ (b e : ℕ) (s : Spans r b e) (p : Row) (goes : best r (plan r) ≡ p) (i : In p (plan r)) (from : b ≤ p .due) (by : p .due ≤ e) where
+  module _ (b e : ℕ) (s : Spans r b e) (p : Row) (turn : goes r ≡ p) (i : In p (plan r)) (from : b ≤ p .due) (by : p .due ≤ e) where
     -- ORDINARY: the first segment's
     pub ordinary-sends : b ≡ r .slot → Sends r p true (p .ticket) (r .rows)
     ordinary-sends h =
         let d : p .due ≤ first-end r (plan r) = omega (arith, by, first-ends r f b e s h) in
         record {
-          goes = goes;
-          step = ordinary-is r f o rs c p goes ∙ le-leb (p .due) (first-end r (plan r)) d;
-          leaves = sent-ordinary r f rs c p goes d;
+          goes = turn;
+          step = ordinary-is r f o rs c p turn ∙ le-leb (p .due) (first-end r (plan r)) d;
+          leaves = sent-ordinary r f rs c p turn d;
           long = refl;
         }
 
@@ -60,10 +60,10 @@ module _ (r : Round) (f : Fine r) (o : r .slot ≤ r .last) (rs : List Row) (c :
           let d = starts-at r f b e s (p .due) from by in
           let w = mark-end r f b e s (p .due) from by in
           record {
-            goes = goes;
-            step = ordinary-is r f o rs c p goes ∙ lt-leb (p .due) (first-end r (plan r)) past-first;
+            goes = turn;
+            step = ordinary-is r f o rs c p turn ∙ lt-leb (p .due) (first-end r (plan r)) past-first;
             leaves =
-                sent-kept r f rs c p goes i past-first (substitute-outside (blank b) h ∙ ap blank (sym d)) (omega (arith, w, m))
+                sent-kept r f rs c p turn i past-first (substitute-outside (blank b) h ∙ ap blank (sym d)) (omega (arith, w, m))
                 ∙ ap₂ (λ (v u : ℕ). after-slot r (closed (suc (r .slot)) 0 (changed (p .ticket) (kept-at v u p) (r .rows)))) d w;
             long = length-changed (p .ticket) (kept-at b (mark r e) p) (r .rows);
           }
@@ -77,10 +77,10 @@ module _ (r : Round) (f : Fine r) (o : r .slot ≤ r .last) (rs : List Row) (c :
           let l : Linked r rs (tight-after r (plan r) (p .due)) (tight-after r (plan r) (y .due)) hs =
           subst (λ (n : ℕ). Linked r rs n (tight-after r (plan r) (y .due)) hs) (sym d) (subst (λ (n : ℕ). Linked r rs e n hs) (sym k) ch) in
           record {
-            goes = goes;
-            step = ordinary-is r f o rs c p goes ∙ lt-leb (p .due) (first-end r (plan r)) past-first;
+            goes = turn;
+            step = ordinary-is r f o rs c p turn ∙ lt-leb (p .due) (first-end r (plan r)) past-first;
             leaves =
-                sent-row r f rs c p y hs goes past-first (substitute-outside y h) j l
+                sent-row r f rs c p y hs turn past-first (substitute-outside y h) j l
                 ∙ ap₂ (λ (n m : ℕ). after-slot r (closed (suc (r .slot)) (p .ticket) (changed (y .ticket) (set-to (y .due) m y) (moves r n hs (r .rows))))) d
                 (mark-end r f a g t (y .due) u v);
             long = length-changed (y .ticket) (set-to (y .due) (mark r g) y) (moves r e hs (r .rows)) ∙ length-moves r e hs (r .rows);

@@ -1,7 +1,7 @@
 -- From the counts to the plan, from the plan to its segments, and from these to the step.
-use mathlib.Core.Path.{_≡_, refl, sym, ap}
-use mathlib.Core.Bool.{true}
-use mathlib.Core.Logic.{inl, inr}
+use mathlib.Core.Path.{_≡_, refl, sym, ap, subst}
+use mathlib.Core.Bool.{Bool, true, false}
+use mathlib.Core.Logic.{inl, inr, _≢_}
 use mathlib.Core.List.{List}
 use Prim.Native.Nat.{ℕ, suc, _+_, _/_, _≤_}
 use native.Mathlib.Omega.{arith}
@@ -14,6 +14,10 @@ use Rattle.theory.specs.All.{all-map}
 use Rattle.theory.specs.Bounds.{Row-fine}
 use Rattle.theory.specs.Feas.{num}
 use Rattle.theory.specs.Count.{under, under-1, counts-next, counts-none, counts-below, counts-all}
+use Rattle.theory.specs.Flags.{with-flag, chosen-rows}
+use Rattle.theory.specs.Members.{Rows-of-plan}
+use Rattle.theory.specs.Near.{Near}
+use Rattle.theory.specs.Whole.{sends-idle}
 use Rattle.sorts.specs.declared.Round.{Round as Head}
 use Rattle.round.specs.Rows.{Ready, top-of}
 use Rattle.round.specs.Buckets.{Counted}
@@ -22,6 +26,7 @@ use Rattle.keys.specs.Key.{row-of, blank-key}
 use Rattle.buckets.specs.Reach.{Reaches, Reach-says, head-top}
 use Rattle.buckets.specs.declared.Reach.{Reach}
 use Rattle.buckets.proofs.ReachLaws.{reaches, count-rows}
+use Rattle.buckets.proofs.SegmentLaws.{whole-rows}
 use Rattle.plan.specs.Plans.{Plans, Heaviest-from}
 use Rattle.plan.specs.declared.Planned.{Planned}
 use Rattle.lead.specs.declared.Lead.{Lead}
@@ -31,7 +36,12 @@ use Rattle.closing.specs.Close.{Due-now}
 use Rattle.whole.specs.Whole as whole
 use Rattle.whole.specs.declared.Whole.{Whole}
 use Rattle.step.specs.Step.{Far-first, Planned-step, Whole-step}
-use Rattle.went.proofs.SendLaws.{num-most}
+use Rattle.went.specs.Send.{Silent, Sent-says, Leaves-alone}
+use Rattle.went.specs.declared.Went.{Went}
+use Rattle.went.proofs.SendLaws.{silence-says}
+use Rattle.first.specs.First.{Is-first}
+use Rattle.first.specs.Planned as first
+use Rattle.first.proofs.SendLaws.{first-sends}
 use Rattle.sender.specs.Crowded.{Crowded, Led}
 
 -- ROWS DUE NOW: no more than the first bucket counts
@@ -95,32 +105,51 @@ some-slot t x k o =
 
 -- THE PLAN MADE: its segments are given
 pub led : (t cs ks fs hs ls : List ℕ) (h : Head) (x : Reach) (e : ℕ) → Crowded t cs ks fs hs ls h x e → (ks2 fs2 : List ℕ) (p : Planned) →
-    Plans (round-in t) x true ks2 fs2 p → (cs2 hs2 : List ℕ) → length cs2 ≡ length cs → length hs2 ≡ length hs → Led t cs2 ks2 fs2 hs2 ls h x p e
-led t cs ks fs hs ls h x e c ks2 fs2 p q cs2 hs2 a b =
+    (asked : Bool) → (h .sealed ≢ 1 → asked ≡ true) → Plans (round-in t) x asked ks2 fs2 p → (cs2 hs2 : List ℕ) → length cs2 ≡ length cs →
+    length hs2 ≡ length hs → Led t cs2 ks2 fs2 hs2 ls h x p e
+led t cs ks fs hs ls h x e c ks2 fs2 p k m q cs2 hs2 a b =
     let g = given-laws.given t h ks2 fs2 (p .many) (x .free) (c .lent .ready) (q .chosen) (q .sorted) (c .lent .reaches .near)
     (some-slot t x (c .lent .reaches) (c .lent .some)) (q .many) in
     let v = known t h (c .lent .ready) in
-    let m = given-laws.slots-most (round-in t) ks2 fs2 (p .many) (h .slot .0) (x .free) g in
+    let n = given-laws.slots-most (round-in t) ks2 fs2 (p .many) (h .slot .0) (x .free) g in
     record {
       ready = c .lent .ready;
       given = g;
-      far = q .far refl;
+      far = λ u. q .far (m u);
       ends = omega (arith, a, c .lent .counted .enough, c .lent .reaches .sweep .high);
-      tops = omega (arith, b, m, v .used, c .lent .room);
-      lows = omega (arith, m, v .used, c .lows);
+      tops = omega (arith, b, n, v .used, c .lent .room);
+      lows = omega (arith, n, v .used, c .lows);
       due = c .due;
     }
 
--- THE STEP goes by them
-pub planned-step : {t cs ks fs hs ls : List ℕ} {h : Head} {x : Reach} {p : Planned} {e : ℕ} → Led t cs ks fs hs ls h x p e →
-    (es ts ms : List ℕ) (l : Lead) → Segments-say ks fs (p .many) (h .slot .0) (x .free) es ts ms l → Planned-step t h es ts ms (p .far) l
-planned-step {t} {x = x} {p = p} g es ts ms l s =
+-- SEALED, the plan's first goes
+pub first-lent : {t cs ks fs hs ls : List ℕ} {h : Head} {x : Reach} {p : Planned} {e : ℕ} → Led t cs ks fs hs ls h x p e → first.Lent ks fs (p .many)
+first-lent {t} {h = h} {x = x} g = record { of = round-in t; slot = h .slot .0; free = x .free; given = g .given }
+
+pub first-alone : {t cs ks fs hs ls : List ℕ} {h : Head} {x : Reach} {p : Planned} {e : ℕ} → Led t cs ks fs hs ls h x p e → h .sealed ≡ 1 →
+    {i : ℕ} → first.First-says ks fs (p .many) i → Leaves-alone t h false i
+first-alone {t} {ks = ks} {fs} {h = h} {x} {p} g u {i} s =
+    let r = round-in t in
+    let n = known t h (g .ready) in
+    let f = s r (h .slot .0) (x .free) (g .given) in
     record {
       ready = g .ready;
+      below = omega (arith, f .below, n .used);
+      sends = first-sends r (n .fine) (n .time) (with-flag r fs) (chosen-rows r (n .fine) fs (g .given .chosen)) (omega (arith, u, n .sealed))
+          (r .slot + x .free) (g .given .near) (omega (arith, g .given .some)) i f;
+    }
+
+-- THE STEP goes by them
+pub planned-step : {t cs ks fs hs ls : List ℕ} {h : Head} {x : Reach} {p : Planned} {e : ℕ} → Led t cs ks fs hs ls h x p e → h .sealed ≢ 1 →
+    (es ts ms : List ℕ) (l : Lead) → Segments-say ks fs (p .many) (h .slot .0) (x .free) es ts ms l → Planned-step t h es ts ms (p .far) l
+planned-step {t} {h = h} {x = x} {p = p} g u es ts ms l s =
+    record {
+      ready = g .ready;
+      unsealed = λ e. u (omega (arith, e, known t h (g .ready) .sealed));
       free = x .free;
       near = g .given .near;
       segments = s (round-in t) (g .given);
-      first-far = far-first (round-in t) (round-in t .slot + x .free) (p .far) (g .far);
+      first-far = far-first (round-in t) (round-in t .slot + x .free) (p .far) (g .far u);
     }
 
 -- WHERE NO ROW IS LEFT OUT
@@ -129,8 +158,42 @@ pub whole-given : (t cs : List ℕ) (h : Head) (x : Reach) → Ready t h → (h 
 whole-given t cs h x k n c s o =
     record { ready = k; some = omega (arith, n); counted = c; reaches = reaches t h cs x k c s; none = o }
 
-pub whole-step : (t cs : List ℕ) (h : Head) (x : Reach) → whole.Given t cs h x → (w : Whole) → whole.Picked (round-in t) (x .free) w → Whole-step t h w
-whole-step t cs h x g w p = record { ready = g .ready; reach = x; reaches = g .reaches; none = g .none; picked = p }
+module _ {t cs : List ℕ} {h : Head} {x : Reach} (g : whole.Given t cs h x) where
+  pub whole-step : h .sealed ≢ 1 → {w : Whole} → whole.Picked (round-in t) (x .free) w → Whole-step t h w
+  whole-step u p =
+      record {
+        ready = g .ready;
+        unsealed = λ e. u (omega (arith, e, known t h (g .ready) .sealed));
+        reach = x;
+        reaches = g .reaches;
+        none = g .none;
+        picked = p;
+      }
+
+  -- sealed, the first of all rows goes; silence where rows fill no slot
+  module _ (u : h .sealed ≡ 1) where
+    all-rows : Rows-of-plan (round-in t) (round-in t .rows)
+    all-rows = whole-rows (round-in t) (known t h (g .ready) .fine) x (g .reaches) (g .none)
+
+    is-sealed : round-in t .tail .sealed ≡ 1
+    is-sealed = omega (arith, u, known t h (g .ready) .sealed)
+
+    pub all-alone : (x .free ≡ 0 → ⊥) → {i : ℕ} → Is-first (round-in t) (round-in t .rows) i → Leaves-alone t h false i
+    all-alone o {i} f =
+        let r = round-in t in
+        let n = known t h (g .ready) in
+        record {
+          ready = g .ready;
+          below = omega (arith, f .below, n .used);
+          sends = first-sends r (n .fine) (n .time) (r .rows) all-rows is-sealed (r .slot + x .free) (g .reaches .near) (omega (arith, o)) i f;
+        }
+
+    pub all-idle : x .free ≡ 0 → {v : List ℕ} {w : Went} → Silent t v w → Sent-says t v w
+    all-idle o s =
+        let r = round-in t in
+        let n = known t h (g .ready) in
+        let z : r .slot + x .free ≡ r .slot = omega (arith, o) in
+        silence-says (g .ready) (sends-idle r (n .fine) (n .time) (r .rows) all-rows is-sealed (subst (λ (e : ℕ). Near r e) z (g .reaches .near))) s
 
 -- WHERE SOME ARE: arrays of one length serve each
 pub crowded : (t cs : List ℕ) (h : Head) (x : Reach) → Ready t h → Counted (round-in t) cs → Reach-says cs (head-top h) x → (x .over ≡ 0 → ⊥) →

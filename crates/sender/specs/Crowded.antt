@@ -1,4 +1,5 @@
 -- What a sending that leaves rows out is lent.
+use mathlib.Core.Logic.{_≢_}
 use mathlib.Core.List.{List}
 use Prim.Native.Nat.{ℕ, _+_, _≤_}
 use lib.ListN.{length}
@@ -17,11 +18,11 @@ pub record Crowded (t cs ks fs hs ls : List ℕ) (h : Head) (x : Reach) (expirin
   pub lows : h .used ≤ length ls
   pub due : Due-now t expiring
 
--- THE PLAN MADE, and a place for each segment's end, top and lightest
+-- THE PLAN MADE, unsealed with the heaviest far row, and a place for each segment's end, top and lightest
 pub record Led (t cs ks fs hs ls : List ℕ) (h : Head) (x : Reach) (p : Planned) (expiring : ℕ) : Type 0 where
   pub ready : Ready t h
   pub given : Given (round-in t) ks fs (p .many) (h .slot .0) (x .free)
-  pub far : Heaviest-from (round-in t) (round-in t .slot + x .free) (p .far)
+  pub far : h .sealed ≢ 1 → Heaviest-from (round-in t) (round-in t .slot + x .free) (p .far)
   pub ends : x .free ≤ length cs
   pub tops : x .free ≤ length hs
   pub lows : x .free ≤ length ls

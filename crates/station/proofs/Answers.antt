@@ -8,10 +8,10 @@ use Prim.Native.Nat.{ℕ, _<_}
 use native.Mathlib.Omega.{arith}
 use lib.Dec.{eqb}
 use Rattle.rules.specs.Rows.{Row, Round, All}
-use Rattle.rules.specs.Plan.{plan, best, substitute, in-plan}
-use Rattle.rules.specs.Steps.{is-ordinary}
+use Rattle.rules.specs.Plan.{plan, substitute, in-plan}
+use Rattle.rules.specs.Steps.{goes, is-ordinary}
 use Rattle.rules.specs.Table.{round-in, table-refusal}
-use Rattle.rules.specs.Calls.{taking, sending, marking, totalling, Call, opening, acting, asking, first-of, over, act, question, deed, Out, silence, frame, kept-blank, ordinary, leap, refused, ticket, step, blank-due, first, out-of, says, answer}
+use Rattle.rules.specs.Calls.{taking, sending, sealing, marking, totalling, Call, opening, acting, asking, first-of, over, act, question, deed, Out, silence, frame, kept-blank, ordinary, leap, refused, ticket, step, blank-due, first, out-of, says, answer}
 use Rattle.rules.specs.Looking.{with-ticket, stand-in, substitute-answer}
 use Rattle.theory.specs.Tests.{eqb?, both-ways, positive}
 use Rattle.theory.specs.All.{all-of-in}
@@ -20,9 +20,9 @@ use Rattle.theory.specs.Stays.{first-none}
 use Rattle.packing.specs.Packing.{Fits-out, silence-fits, frame-fits, blank-fits, Fits, ordinary-fits, leap-fits, mark-fits, total-fits, Unpacks, Fits-substitute, refusal-stands, row-stands, blank-stands}
 use Rattle.packing.proofs.Unpack.{unpacks, substitute-unpacks}
 use Rattle.station.specs.Exports.{Answers-fit, Replies-back}
-use Rattle.station.proofs.Fitting.{small-first, small-table, small-tests, answers-fit, accepted-act, accepted-question, opening-answers-fit, taking-answers}
+use Rattle.station.proofs.Fitting.{small-first, small-table, small-tests, answers-fit, accepted-act, accepted-question, opening-answers-fit, taking-answers, sealing-answers}
 use Rattle.station.proofs.Amounts.{total-most, mark-most}
-use Rattle.station.proofs.RowsFit.{Fits-row, best-fits, substitute-fits}
+use Rattle.station.proofs.RowsFit.{Fits-row, goes-fits, substitute-fits}
 
 -- A SENDING
 out-fits : (p : Row) → p .ticket < 16777216 → Fits-out (out-of p)
@@ -40,7 +40,7 @@ unfolding Answers-fit says deed act
 sending-answers t =
     answers-fit (acting sending) t
     (λ e. let s = accepted-act sending t e .0 in
-    step-fits (is-ordinary (round-in t)) _ (out-fits (best (round-in t) (plan (round-in t))) (best-fits (round-in t) s .0)))
+    step-fits (is-ordinary (round-in t)) _ (out-fits (goes (round-in t)) (goes-fits (round-in t) s .0)))
 
 -- A MARK, a total
 pub marking-answers : (s : ℕ) → Answers-fit (asking (marking s))
@@ -85,11 +85,12 @@ substitute-answers k t =
       | inr e ↦ rw (e .0) (refusal-stands {n = n} (positive n (e .1)) (small-first (table-refusal t) (first-of xs) (small-table t) (small-tests xs refl)))
     ]
 
--- ALL SIX
+-- ALL SEVEN
 pub all-answers : (c : Call) → Answers-fit c
 all-answers (opening u) = opening-answers-fit u
 all-answers (acting (taking f)) = taking-answers f
 all-answers (acting sending) = sending-answers
+all-answers (acting sealing) = sealing-answers
 all-answers (asking (marking s)) = marking-answers s
 all-answers (asking totalling) = totalling-answers
 

@@ -16,7 +16,7 @@ pub taking-exported : (d w d′ w′ n : ℕ) (a : Reply) (t z : List ℕ) → d
 taking-exported d w d′ w′ n a t z e g f s =
     let x : Exports (acting (taking (framed d′ w′))) n t z = (f ∙ ap pack (s .0), s .1) in rw (e, g) at x
 
--- sending, and a total
+-- sending, sealing, and a total
 pub exported : (c : Call) (n : ℕ) (a : Reply) (t z : List ℕ) → n ≡ pack a → Says c a t z → Exports c n t z
 exported c n a t z f s = (f ∙ ap pack (s .0), s .1)
 

@@ -1,4 +1,4 @@
--- What opening and taking answer is within the packing's bounds.
+-- What opening, taking and sealing answer is within the packing's bounds.
 use mathlib.Core.Path.{_≡_, refl}
 use mathlib.Core.Logic.{inl, inr}
 use mathlib.Core.Bool.{Bool, true, false, _&&_, not, cond}
@@ -10,12 +10,12 @@ use borrow.Author.Tests.{ltb-true}
 use lib.ListN.{length}
 use Rattle.rules.specs.Rows.{Frame, Setup, Round}
 use Rattle.rules.specs.Table.{round-in, round-good, same, table, table-refusal, length-good}
-use Rattle.rules.specs.Calls.{Act, taking, sending, Question, marking, totalling, Call, opening, acting, asking, Test, first-of, open-tests, take-tests, send-tests, mark-tests, total-tests, act, question, deed, first, table-first, round-refusal, refusal, says, answer}
+use Rattle.rules.specs.Calls.{Act, taking, sending, sealing, Question, marking, totalling, Call, opening, acting, asking, Test, first-of, open-tests, take-tests, send-tests, seal-tests, mark-tests, total-tests, act, question, deed, first, table-first, round-refusal, refusal, says, answer}
 use Rattle.theory.specs.Tests.{eqb?, and-true}
 use Rattle.theory.specs.Calls.{takes}
 use Rattle.theory.specs.Sane.{Sane, sound}
 use Rattle.theory.specs.Stays.{first-none}
-use Rattle.packing.specs.Packing.{value-place, Fits, refusal-fits, opening-fits, taking-fits}
+use Rattle.packing.specs.Packing.{value-place, Fits, refusal-fits, opening-fits, taking-fits, sealing-fits}
 use Rattle.station.specs.Exports.{Answers-fit}
 
 -- EVERY REFUSAL is below 2^8
@@ -47,8 +47,9 @@ small-tests (x ∷ xs) e =
 pub small-round : (c : Call) (r : Round) → round-refusal c r < value-place
 unfolding round-refusal deed act question
 small-round (opening u) r = small-tests (open-tests u) refl
-small-round (acting (taking f)) r = small-tests (take-tests (r .slot) (r .last) (r .next) (length (r .rows)) (r .room) f) refl
+small-round (acting (taking f)) r = small-tests (take-tests (r .slot) (r .last) (r .next) (length (r .rows)) (r .room) (r .tail) f) refl
 small-round (acting sending) r = small-tests (send-tests (r .slot) (r .last)) refl
+small-round (acting sealing) r = small-tests (seal-tests (r .slot) (r .last)) refl
 small-round (asking (marking s)) r = small-tests (mark-tests (r .slot) (r .last) s) refl
 small-round (asking totalling) r = small-tests (total-tests (r .slot) (r .last)) refl
 
@@ -88,3 +89,7 @@ taking-answers f t =
     answers-fit (acting (taking f)) t
     (λ e. let a = accepted-act (taking f) t e in
     let n = takes (round-in t) f (a .1) .tickets in taking-fits (omega (arith, a .0 .size .next)))
+
+pub sealing-answers : Answers-fit (acting sealing)
+unfolding Answers-fit says deed act
+sealing-answers t = answers-fit (acting sealing) t (λ e. sealing-fits)

@@ -1,15 +1,17 @@
--- The rows of a sound round, its plan, its pick and its substitutes are within the packing's places: tickets of 24 bits, due slots of 16.
+-- The rows of a sound round, its plan, what goes and its substitutes are within the packing's places: tickets of 24 bits, due slots of 16.
 use mathlib.Core.List.{List, [], _∷_}
 use Prim.Native.Nat.{ℕ, suc, _≤_, _<_}
 use native.Mathlib.Omega.{arith}
-use lib.Dec.{leb}
+use lib.Dec.{leb, eqb}
 use Rattle.rules.specs.Rows.{Row, Round, blank, All, In}
-use Rattle.rules.specs.Plan.{plan, first-end, segment-start, substitute, best}
+use Rattle.rules.specs.Plan.{plan, first-end, segment-start, substitute, best, canonical-first}
+use Rattle.rules.specs.Steps.{turn-of, goes}
 use Rattle.theory.specs.Tests.{both-ways}
 use Rattle.theory.specs.All.{all-in}
 use Rattle.theory.specs.Bounds.{Row-fine}
 use Rattle.theory.specs.Full.{Rising, plan-all}
 use Rattle.theory.specs.Back.{rising-le, outside-all, lightest-all, best-from-all}
+use Rattle.theory.specs.Turn.{first-from-all}
 use Rattle.theory.specs.Tights.{segment-from-tight}
 use Rattle.theory.specs.Sane.{Sane}
 
@@ -34,13 +36,19 @@ module _ (r : Round) (s : Sane r) where
   pub plan-fits : All Fits-row (plan r)
   plan-fits = plan-all Fits-row r rows-fit (λ d h k. blank-row-fits d (omega (arith, k, s .size .last)))
 
-  best-of : (ps : List Row) → All Fits-row ps → Fits-row (best r ps)
-  unfolding best
-  best-of [] a = blank-row-fits (r .slot) (omega (arith, s .fine .time, s .size .last))
-  best-of (p ∷ ps) a = best-from-all Fits-row r (p ∷ ps) ps p (a .0) (a .1)
+  slot-fits : Fits-row (blank (r .slot))
+  slot-fits = blank-row-fits (r .slot) (omega (arith, s .fine .time, s .size .last))
 
-  pub best-fits : Fits-row (best r (plan r))
-  best-fits = best-of (plan r) plan-fits
+  -- sealed or not
+  turn-fits : (ps : List Row) → All Fits-row ps → Fits-row (turn-of r ps)
+  unfolding turn-of best canonical-first
+  turn-fits [] a = both-ways Fits-row (eqb (r .tail .sealed) 1) _ _ (λ _. slot-fits) (λ _. slot-fits)
+  turn-fits (p ∷ ps) a =
+      both-ways Fits-row (eqb (r .tail .sealed) 1) _ _ (λ _. first-from-all Fits-row ps p (a .0) (a .1))
+      (λ _. best-from-all Fits-row r (p ∷ ps) ps p (a .0) (a .1))
+
+  pub goes-fits : Fits-row (goes r)
+  goes-fits = turn-fits (plan r) plan-fits
 
   pub substitute-fits : (p : Row) → In p (r .rows) → Fits-row (substitute r (plan r) p)
   unfolding substitute

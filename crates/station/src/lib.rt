@@ -1,16 +1,18 @@
 // The C boundary: the calls over numbers and the lent table, each reply packed into one number by docs/REPLIES.md.
 ghost use Rattle.rules.specs.Rows.{framed, until};
-ghost use Rattle.rules.specs.Calls.{taking, sending, marking, totalling, opening, acting, asking};
+ghost use Rattle.rules.specs.Calls.{taking, sending, sealing, marking, totalling, opening, acting, asking};
 ghost use Rattle.rules.specs.Looking.{substitute-answer};
 ghost use Rattle.station.specs.Exports.{Exports, Exports-look};
 use marking::mark_of;
 use opening::open_round;
 use packing::pack_marked;
 use packing::pack_opened;
+use packing::pack_sealed;
 use packing::pack_sent;
 use packing::pack_substituted;
 use packing::pack_taken;
 use packing::pack_totalled;
+use sealing::seal_round;
 use sending::send_slot;
 use sorts::Slot;
 use sorts::Ticket;
@@ -38,6 +40,13 @@ pub extern "C" fn lirvedd_send(table: &mut [u8]) -> u64
     ensures { λ r. ⌜ Exports (acting sending) r (now (table .entry)) (now (table .exit)) ⌝ }
 {
     pack_sent(send_slot(table))
+}
+
+#[no_mangle]
+pub extern "C" fn lirvedd_seal(table: &mut [u8]) -> u64
+    ensures { λ r. ⌜ Exports (acting sealing) r (now (table .entry)) (now (table .exit)) ⌝ }
+{
+    pack_sealed(seal_round(table))
 }
 
 // The calls below only read the table.

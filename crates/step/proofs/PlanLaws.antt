@@ -7,8 +7,9 @@ use Prim.Native.Nat.{ℕ, suc, _+_, _*_, _≤_, _<_}
 use native.Mathlib.Omega.{arith}
 use lib.ListN.{length, getD}
 use Rattle.rules.specs.Rows.{Row, Round, blank, In}
-use Rattle.rules.specs.Plan.{plan, planned, best}
+use Rattle.rules.specs.Plan.{plan, planned}
 use Rattle.rules.specs.PlanM.{Outside}
+use Rattle.rules.specs.Steps.{goes}
 use Rattle.rules.specs.Table.{round-in}
 use Rattle.theory.specs.Tests.{eqb?}
 use Rattle.theory.specs.All.{blank-weight}
@@ -19,6 +20,7 @@ use Rattle.theory.specs.Keys.{getD-in}
 use Rattle.theory.specs.Members.{Rows-of-plan, planned-rows, of-rows-in, of-rows-fine, in-plan-is}
 use Rattle.theory.specs.Near.{near-out}
 use Rattle.theory.specs.Same.{in-plan?}
+use Rattle.theory.specs.Turn.{unsealed-goes}
 use Rattle.picture.specs.Picture.{Segment, Heaviest, Among}
 use Rattle.picture.specs.Far.{Far}
 use Rattle.picture.specs.Near.{member-near}
@@ -144,7 +146,7 @@ module _ {t : List ℕ} {h : Head} {es ts ls : List ℕ} {far : ℕ} {l : Lead} 
                 y (of-rows-in r (n .fine) rs c y (k .0)) (k .1);
           } in
           let wt = ap weight-of (a .key) ∙ weight-is r (n .fine) (n .small) (n .cap) (a .row) (a .below) in
-          let b = far-goes r (w .free) es ts ls l (w .segments) (n .fine) (n .time) rs c (w .near) v u
+          let b = unsealed-goes r (w .unsealed) ∙ far-goes r (w .free) es ts ls l (w .segments) (n .fine) (n .time) rs c (w .near) v u
           (omega (arith, d, e, ap (λ (k : ℕ). k * 39088169) wt)) in
           let o : j ≡ a .row = q ∙ ap row-of (a .key) ∙ row-is r (n .fine) (n .small) (n .cap) (a .row) (a .below) in
           record {
@@ -156,9 +158,9 @@ module _ {t : List ℕ} {h : Head} {es ts ls : List ℕ} {far : ℕ} {l : Lead} 
 
     module _ (d : x ≤ l .score) where
       -- THE LEADER GOES
-      goes : best r (plan r) ≡ w .segments .leader .of .top
-      goes =
-          lead-goes r (w .free) es ts ls l (w .segments) (n .fine) (n .time) rs c (w .near) (λ y k.
+      leader-goes : goes r ≡ w .segments .leader .of .top
+      leader-goes =
+          unsealed-goes r (w .unsealed) ∙ lead-goes r (w .free) es ts ls l (w .segments) (n .fine) (n .time) rs c (w .near) (λ y k.
           each-row (λ y. z ≤ y .due → y .weight * 39088169 ≤ l .score) (blank 0) (r .rows)
           (λ m b o.
           let wt = weight-is r (n .fine) (n .small) (n .cap) m b in
@@ -166,8 +168,8 @@ module _ {t : List ℕ} {h : Head} {es ts ls : List ℕ} {far : ℕ} {l : Lead} 
           omega (arith, u, e, d))
           y (of-rows-in r (n .fine) rs c y (k .of .0)) (k .of .1))
 
-      row-goes : best r (plan r) ≡ at r (w .segments .leader .key .row)
-      row-goes = goes ∙ w .segments .leader .key .is
+      row-goes : goes r ≡ at r (w .segments .leader .key .row)
+      row-goes = leader-goes ∙ w .segments .leader .key .is
 
       pub first-alone : l .segment + 1 ≡ l .count → {j : ℕ} → j ≡ row-of (l .key) → Leaves-alone t h false j
       first-alone q {j} a =
@@ -180,7 +182,7 @@ module _ {t : List ℕ} {h : Head} {es ts ls : List ℕ} {far : ℕ} {l : Lead} 
             ready = w .ready;
             below = omega (arith, o, k .there, n .used);
             sends =
-                rw (o, ← k .is) (ordinary-sends r (n .fine) (n .time) rs c (g .first) (g .last) (v .spans) (g .top) goes (v .top .of .0) (v .top .of .1)
+                rw (o, ← k .is) (ordinary-sends r (n .fine) (n .time) rs c (g .first) (g .last) (v .spans) (g .top) leader-goes (v .top .of .0) (v .top .of .1)
                 (v .top .of .2) (lead-first r (w .free) es ts ls l (w .segments) i));
           }
 

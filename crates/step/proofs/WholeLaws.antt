@@ -29,7 +29,7 @@ module _ {t : List ℕ} {h : Head} {k : Whole} (w : Whole-step t h k) where
       record {
         ready = w .ready;
         below = omega (arith, p .leading .below, n .used);
-        sends = first-sends t h (w .reach) (w .ready) (w .reaches) (w .none) i p;
+        sends = first-sends t h (w .reach) (w .ready) (w .reaches) (w .none) (w .unsealed) i p;
       }
 
   pub whole-far : {i : ℕ} → k ≡ Far i → Leaves-alone t h true i
@@ -38,7 +38,7 @@ module _ {t : List ℕ} {h : Head} {k : Whole} (w : Whole-step t h k) where
       record {
         ready = w .ready;
         below = omega (arith, p .leading .below, n .used);
-        sends = far-sends t h (w .reach) (w .ready) (w .reaches) (w .none) i p;
+        sends = far-sends t h (w .reach) (w .ready) (w .reaches) (w .none) (w .unsealed) i p;
       }
 
   pub whole-kept : {i : ℕ} {b : Slot} {m : Weight} → k ≡ Kept i b m → Keeps-blank t h i (b .0) (m .0)
@@ -55,5 +55,5 @@ module _ {t : List ℕ} {h : Head} {k : Whole} (w : Whole-step t h k) where
         by = omega (arith, p .from, f .due-by);
         some = omega (arith, l .weight, g .some);
         most = omega (arith, l .weight, g .most);
-        sends = kept-sends t h (w .reach) (w .ready) (w .reaches) (w .none) i b m p;
+        sends = kept-sends t h (w .reach) (w .ready) (w .reaches) (w .none) (w .unsealed) i b m p;
       }

@@ -1,6 +1,6 @@
--- What a sending goes by: the segments and the heaviest far row, or the pick where no row is left out.
+-- What a sending in an unsealed round goes by: the segments and the heaviest far row, or the pick where no row is left out.
 use mathlib.Core.Path.{_≡_}
-use mathlib.Core.Logic.{_⊎_}
+use mathlib.Core.Logic.{_⊎_, _≢_}
 use mathlib.Core.List.{List}
 use Prim.Native.Nat.{ℕ, _+_, _≤_, _<_}
 use lib.ListN.{length}
@@ -31,6 +31,7 @@ pub record Far-first (r : Round) (z k : ℕ) : Type 0 where
 -- WHAT A SENDING BY THE PLAN GOES BY: the segments of the near slots, the one that leads, and the heaviest far row
 pub record Planned-step (t : List ℕ) (h : Head) (es ts ls : List ℕ) (far : ℕ) (l : Lead) : Type 0 where
   pub ready : Ready t h
+  pub unsealed : round-in t .tail .sealed ≢ 1
   pub free : ℕ
   pub near : Near (round-in t) (round-in t .slot + free)
   pub segments : Segmented (round-in t) free es ts ls l
@@ -39,6 +40,7 @@ pub record Planned-step (t : List ℕ) (h : Head) (es ts ls : List ℕ) (far : �
 -- WHERE NO ROW IS LEFT OUT: the pick that passes over the table found
 pub record Whole-step (t : List ℕ) (h : Head) (w : Whole) : Type 0 where
   pub ready : Ready t h
+  pub unsealed : round-in t .tail .sealed ≢ 1
   pub reach : Reach
   pub reaches : Reaches (round-in t) reach
   pub none : reach .over ≡ 0

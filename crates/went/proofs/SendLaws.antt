@@ -1,5 +1,5 @@
 -- Silence, a row that leaves alone, and a blank kept in a row.
-use mathlib.Core.Path.{_≡_, refl, sym, ap, _∙_}
+use mathlib.Core.Path.{_≡_, refl, sym, ap, _∙_, subst}
 use mathlib.Core.Bool.{Bool, true, false}
 use mathlib.Core.List.{List, [], _∷_}
 use Prim.Native.Nat.{ℕ, suc, _+_, _≤_, _<_}
@@ -9,14 +9,13 @@ use Rattle.rules.specs.Rows.{Row, Round, row, blank}
 use Rattle.rules.specs.Plan.{planned}
 use Rattle.rules.specs.Steps.{kept-at, changed}
 use Rattle.rules.specs.Conditions.{row-at}
-use Rattle.rules.specs.Table.{table, table-refusal, round-in}
+use Rattle.rules.specs.Table.{table-refusal, round-in}
 use Rattle.row.specs.Written.{with-kept}
 use Rattle.theory.specs.Bounds.{kept-right}
 use Rattle.theory.specs.Feas.{num, below-1}
-use Rattle.theory.specs.Close.{closed, after-slot}
 use Rattle.theory.specs.Members.{planned-rows}
 use Rattle.theory.specs.Sane.{sound}
-use Rattle.theory.specs.Whole.{sends-silence}
+use Rattle.theory.specs.Whole.{Sends, sends-silence}
 use Rattle.sorts.specs.declared.Round.{Round as Head}
 use Rattle.round.specs.Head.{Head-of}
 use Rattle.round.specs.Rows.{Ready, at}
@@ -42,28 +41,35 @@ num-most e [] = omega arith
 num-most e (x ∷ xs) = omega (arith, below-1 0 e x, num-most e xs)
 
 module _ {t : List ℕ} {h : Head} (k : Ready t h) where
-  pub silence-closes : Closes t h (h .used) (h .used)
-  silence-closes = (
-    k .sound,
-    k .head,
-    omega arith,
-    omega (arith, num-most (suc (round-in t .slot)) (round-in t .rows), known t h k .used),
-  )
+  pub silence-closes : {n : ℕ} → Due-now t n → Closes t h n (h .used)
+  silence-closes d = (k .sound, k .head, omega arith, d)
 
   pub silence-kept : {u : List ℕ} → u ≡ closed-up (gone-ticket t (h .used)) t → Silent t u (record { leap = false; ticket = record { 0 = 0 }; kind = 0 })
   silence-kept d =
       record { leaves = d ∙ ap (λ (g : ℕ). closed-up g t) (gone-none t h (k .head)); leap = refl; ticket = refl; kind = refl }
 
-  -- where no row waits it is what sending says
-  pub silence-says : h .used ≡ 0 → {u : List ℕ} {w : Went} → Silent t u w → Sent-says t u w
+  -- what sending says, where it is a blank's turn
+  pub silence-says : Sends (round-in t) (blank (round-in t .slot)) true 0 (round-in t .rows) → {u : List ℕ} {w : Went} → Silent t u w → Sent-says t u w
   unfolding blank
   silence-says e {u} {w} s =
       let r = round-in t in
-      let n = known t h k in
-      let d : r .rows ≡ [] = no-rows (r .rows) (omega (arith, e, n .used)) in
-      sent-says t h k (blank (r .slot)) false 0 [] u w (sends-silence r (n .fine) (n .time) (planned r) (planned-rows r (n .fine)) d)
-      (alone-closed t u 0 (s .leaves) ∙ ap (λ (xs : List Row). table (after-slot r (closed (suc (r .slot)) 0 xs))) d)
+      sent-says t h k (blank (r .slot)) false 0 (r .rows) u w e (alone-closed t u 0 (s .leaves))
       (record { leap = s .leap; ticket = s .ticket; kind = s .kind })
+
+  -- where no row waits it is, and none is due now
+  module _ (e : h .used ≡ 0) where
+    none-waits : round-in t .rows ≡ []
+    none-waits = no-rows (round-in t .rows) (omega (arith, e, known t h k .used))
+
+    pub none-sends : Sends (round-in t) (blank (round-in t .slot)) true 0 (round-in t .rows)
+    none-sends =
+        let r = round-in t in
+        let n = known t h k in
+        subst (λ (xs : List Row). Sends r (blank (r .slot)) true 0 xs) (sym none-waits)
+        (sends-silence r (n .fine) (n .time) (planned r) (planned-rows r (n .fine)) none-waits)
+
+    pub none-due : Due-now t 0
+    none-due = omega (arith, e, known t h k .used, num-most (suc (round-in t .slot)) (round-in t .rows))
 
 -- ALONE
 module _ {t : List ℕ} {h : Head} {leaps : Bool} {j : ℕ} (a : Leaves-alone t h leaps j) where

@@ -49,9 +49,9 @@ pub record Stood (t : List ℕ) (h : Head) (xs : List Row) (u : List ℕ) : Type
   pub holds : round-in u ≡ having (round-in t) xs
 
 head-made : (u : List ℕ) (h : Head) → h .slot .0 ≡ round-in u .slot → h .last .0 ≡ round-in u .last → h .next .0 ≡ round-in u .next →
-    h .used ≡ length (round-in u .rows) → h .room ≡ round-in u .room → Head-of u h
+    h .used ≡ length (round-in u .rows) → h .room ≡ round-in u .room → h .sealed ≡ round-in u .tail .sealed → Head-of u h
 unfolding round-in round
-head-made u h a b c d e = record { slot = a; last = b; next = c; used = d ∙ rows-count (used-in u) (drop head-size u); room = e }
+head-made u h a b c d e f = record { slot = a; last = b; next = c; used = d ∙ rows-count (used-in u) (drop head-size u); room = e; sealed = f }
 
 head-next : (t : List ℕ) (h : Head) → Head-of t h → h .next .0 ≡ round-in t .next
 unfolding round-in round
@@ -68,7 +68,7 @@ stood t h xs u k f e =
     let z = sound t (k .sound) .sane in
     let fine : Fine (having r xs) = record { time = z .fine .time; fine = f .fine; rising = f .rising } in
     let size : Sized (having r xs) =
-    record { last = z .size .last; room = z .size .room; next = z .size .next; long = omega (arith, f .long, z .size .long); tails = f .tails } in
+    record { last = z .size .last; room = z .size .room; next = z .size .next; long = omega (arith, f .long, z .size .long); tails = f .tails; tail = z .size .tail } in
     let back : round-in u ≡ having r xs = ap round-in e ∙ read-back (having r xs) fine size in
     record {
       sound = ap table-refusal e ∙ table-good (having r xs) fine size (z .some);
@@ -76,7 +76,8 @@ stood t h xs u k f e =
           head-made u h (known t h k .slot ∙ sym (ap (λ (y : Round). y .slot) back)) (known t h k .last ∙ sym (ap (λ (y : Round). y .last) back))
           (head-next t h (k .head) ∙ sym (ap (λ (y : Round). y .next) back))
           (known t h k .used ∙ sym (f .long) ∙ sym (ap (λ (y : Round). length (y .rows)) back))
-          (head-room t h (k .head) ∙ sym (ap (λ (y : Round). y .room) back));
+          (head-room t h (k .head) ∙ sym (ap (λ (y : Round). y .room) back))
+          (known t h k .sealed ∙ sym (ap (λ (y : Round). y .tail .sealed) back));
       holds = back;
     }
 

@@ -33,12 +33,12 @@ pub fn went_of(table: &[u8], round: Round, row: usize, leap: bool) -> Went
     }
 }
 
-// The slot alone moves on; right where no row waits.
-pub fn send_silence(table: &mut [u8], round: Round) -> Went
-    requires { ⌜ Ready (now table) round ⌝ }
+// The slot alone moves on: right where no row waits, or where a sealed round has none to send yet.
+pub fn send_silence(table: &mut [u8], round: Round, expiring: usize) -> Went
+    requires { ⌜ Ready (now table) round × Due-now (now table) expiring ⌝ }
     ensures { λ r. ⌜ Silent (now (table .entry)) (now (table .exit)) r ⌝ }
 {
-    close_up(table, round, round.used, round.used); // no row goes, and each can be due now
+    close_up(table, round, expiring, round.used); // no row's turn
     Went {
         leap: false,
         ticket: Ticket(0),

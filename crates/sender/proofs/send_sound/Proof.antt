@@ -1,21 +1,25 @@
 use borrow.Author.Needs.{needs}
 use Rattle.round.proofs.ReadLaws.{known}
 use mathlib.Core.Path.{refl}
-use Rattle.sender.proofs.SenderLaws.{due-now, few-now, whole-given, whole-step}
+use Rattle.sender.proofs.SenderLaws.{due-now, few-now, whole-given}
 use native.Mathlib.Omega.{arith}
 use Rattle.buckets.proofs.ReachLaws.{multiples}
-use Rattle.went.proofs.SendLaws.{silence-says}
+use Rattle.went.proofs.SendLaws.{silence-says, none-sends, none-due}
 use Rattle.sender.proofs.send_sound.Statement.{statement}
 use Rattle.sender.proofs.send_sound.Tie as tie
 
 send-silence-requires : tie.Need-send-silence-requires
-send-silence-requires c κs = search needs
+send-silence-requires c κs =
+    let s = c .before .before .before .before .before in
+    (s .pre .0, none-due (s .pre .0) (omega arith))
 
 same-length : tie.Need-same-length
 same-length c = search needs
 
 returns : tie.Need-returns
-returns c = silence-says (c .before .before .before .before .before .before .before .before .pre .0) (omega (arith, c .before .before .before .before .if1 .taken)) (c .before .before .send-silence .ensures)
+returns c =
+    let s = c .before .before .before .before .before .before .before .before in
+    silence-says (s .pre .0) (none-sends (s .pre .0) (omega arith)) (c .before .before .send-silence .ensures)
 
 reach-of-requires : tie.Need-reach-of-requires
 reach-of-requires c κs =
@@ -30,15 +34,12 @@ cast-expiring c =
     let s = c .before .before .before .before .before .before .before in
     omega (arith, few-now _ _ _ (s .pre .0) (s .pre .1))
 
-choose-whole-requires : tie.Need-choose-whole-requires
-choose-whole-requires c κs =
-    let s = c .before .before .before .before .before .before .before .before .before .before .before in
-    whole-given _ _ _ _ (s .pre .0) (λ z. omega (arith, z)) (s .pre .1) (c .before .before .before .before .before .reach-of .ensures) (omega arith)
-
-send-whole-requires : tie.Need-send-whole-requires
-send-whole-requires c κs =
-    let s = c .before .before .before .before .before .before .before .before .before .before .before .before .before in
-    (whole-step _ _ _ _ (whole-given _ _ _ _ (s .pre .0) (λ z. omega (arith, z)) (s .pre .1) (c .before .before .before .before .before .before .before .reach-of .ensures) (omega arith)) _ (c .before .choose-whole .ensures), due-now _ _ _ (s .pre .0) (s .pre .1) _ refl)
+send-all-requires : tie.Need-send-all-requires
+send-all-requires c κs =
+    let s = c .before .before .before .before .before .before .before .before .before .before .before in (
+      whole-given _ _ _ _ (s .pre .0) (λ z. omega (arith, z)) (s .pre .1) (c .before .before .before .before .before .reach-of .ensures) (omega arith),
+      due-now _ _ _ (s .pre .0) (s .pre .1) _ refl,
+    )
 
 same-length-2 : tie.Need-same-length-2
 same-length-2 c = search needs
@@ -87,8 +88,7 @@ send-sound-spec =
     reach-of-requires
     slice-read-expiring
     cast-expiring
-    choose-whole-requires
-    send-whole-requires
+    send-all-requires
     same-length-2
     same-length-3
     returns-2

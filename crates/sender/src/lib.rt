@@ -162,15 +162,15 @@ fn send_all(table: &mut [u8], counts: &[u32], round: Round, reach: Reach, expiri
     requires { ⌜ Given (now table) (now counts) round reach × Due-now (now table) expiring ⌝ }
     ensures { λ r. ⌜ Sent-says (now (table .entry)) (now (table .exit)) r ⌝ }
 {
-    if round.sealed == 1 {
-        if reach.free == 0 {
-            return send_silence(table, round, expiring);
-        }
-        let row = first_of_all(table, round);
-        return send_row(table, round, row, false, expiring);
+    if round.sealed != 1 {
+        let whole = choose_whole(table, counts, round, reach);
+        return send_whole(table, round, whole, expiring);
     }
-    let whole = choose_whole(table, counts, round, reach);
-    send_whole(table, round, whole, expiring)
+    if reach.free == 0 {
+        return send_silence(table, round, expiring);
+    }
+    let row = first_of_all(table, round);
+    send_row(table, round, row, false, expiring)
 }
 
 // A slot is left to send. Counts are the scan's.

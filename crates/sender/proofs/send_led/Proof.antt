@@ -1,5 +1,4 @@
 -- `sender::send_led` meets its contract.
-use native.Mathlib.Omega.{arith}
 use Rattle.sender.proofs.SenderLaws.{first-lent, first-alone, planned-step}
 use borrow.Author.Needs.{needs}
 use Rattle.sender.proofs.send_led.Statement.{statement}

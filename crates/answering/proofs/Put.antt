@@ -6,7 +6,7 @@ use native.Mathlib.Omega.{arith}
 use lib.ListN.{length, take, drop, length-append, length-take, length-drop, drop-of-length-le}
 use lib.Seq.{length-take-le, take-all, drop-drop, take-at, drop-at}
 use borrow.Rule.Slice.PartMut.{putMid}
-use Rattle.rules.specs.Calls.{Reply, refused, done, ticket, step, amount, blank-due, ordinary, leap, silence, frame, kept-blank}
+use Rattle.rules.specs.Calls.{Reply, refused, done, closed, ticket, step, amount, blank-due, ordinary, leap, silence, frame, kept-blank}
 use Rattle.rules.specs.Lines.{reply-digits, reply-text, reply-room, out-digits}
 use Rattle.theory.specs.Digits.{length-digits}
 use Rattle.replying.specs.Replying.{Replies}
@@ -16,6 +16,7 @@ pub reply-long : (r : Reply) → length (reply-text r) ≤ reply-room
 unfolding reply-text reply-digits out-digits
 reply-long (refused n) = simp (length-append, length-digits) (omega arith)
 reply-long done = simp (length-append, length-digits) (omega arith)
+reply-long closed = simp (length-append, length-digits) (omega arith)
 reply-long (ticket k) = simp (length-append, length-digits) (omega arith)
 reply-long (step (ordinary silence)) = simp (length-append, length-digits) (omega arith)
 reply-long (step (ordinary (frame k))) = simp (length-append, length-digits) (omega arith)

@@ -4,8 +4,9 @@ use mathlib.Core.Bool.{Bool, true, false}
 use mathlib.Core.List.{List, [], _∷_}
 use Prim.Native.Nat.{ℕ, zero, suc, _≤_}
 use native.Mathlib.Omega.{arith}
-use lib.ListN.{getD}
+use lib.ListN.{getD, take}
 use borrow.Author.Tests.{ne-eqb}
+use Rattle.rules.specs.Lines as rules
 use Rattle.rules.specs.Lines.{count-digits, forms, found, form-numbered, front-size}
 use Rattle.lines.specs.declared.forms.Form.{Form}
 use Rattle.lines.specs.Forms.{most-numbers, Small, Has-form}
@@ -22,21 +23,28 @@ small n a b h g k = record { few = h; room = refl; narrow = narrow }
     narrow (suc zero) = k
     narrow (suc (suc i)) = omega arith
 
-pub open-form : Has-form (form-numbered 0) (made 1 4 0 6 false)
-unfolding forms found count-digits front-size
-open-form = record { small = small 1 4 0 (omega arith) (omega arith) (omega arith); widths = refl; front = refl; payload = refl }
+-- each line's form, and the one of a number that no line has
+same : {f : rules.Form} {r : Form} (n a b m : ℕ) {p : Bool} → n ≤ most-numbers → a ≤ 8 → b ≤ 8 → take n (a ∷ b ∷ []) ≡ f .widths →
+    m ≡ front-size f → p ≡ f .payload → r ≡ made n a b m p → Has-form f r
+same n a b m h g k w f p e = rw e record { small = small n a b h g k; widths = w; front = f; payload = p }
 
-pub take-form : Has-form (form-numbered 1) (made 2 4 8 14 true)
+pub open-form : {r : Form} → r ≡ made 1 4 0 6 false → Has-form (form-numbered 0) r
 unfolding forms found count-digits front-size
-take-form = record { small = small 2 4 8 (omega arith) (omega arith) (omega arith); widths = refl; front = refl; payload = refl }
+open-form e = same 1 4 0 6 (omega arith) (omega arith) (omega arith) refl refl refl e
 
-pub send-form : Has-form (form-numbered 2) (made 0 0 0 2 false)
+pub take-form : {r : Form} → r ≡ made 2 4 8 14 true → Has-form (form-numbered 1) r
 unfolding forms found count-digits front-size
-send-form = record { small = small 0 0 0 (omega arith) (omega arith) (omega arith); widths = refl; front = refl; payload = refl }
+take-form e = same 2 4 8 14 (omega arith) (omega arith) (omega arith) refl refl refl e
 
--- a number that no line has
-pub no-form : (k : ℕ) → (k ≡ 0 → ⊥) → (k ≡ 1 → ⊥) → (k ≡ 2 → ⊥) → Has-form (form-numbered k) (made 0 0 0 2 false)
+pub send-form : {r : Form} → r ≡ made 0 0 0 2 false → Has-form (form-numbered 2) r
 unfolding forms found count-digits front-size
-no-form k f g h =
-    rw (ne-eqb k 0 f, ne-eqb k 1 g, ne-eqb k 2 h)
-    record { small = small 0 0 0 (omega arith) (omega arith) (omega arith); widths = refl; front = refl; payload = refl }
+send-form e = same 0 0 0 2 (omega arith) (omega arith) (omega arith) refl refl refl e
+
+pub seal-form : {r : Form} → r ≡ made 0 0 0 2 false → Has-form (form-numbered 3) r
+unfolding forms found count-digits front-size
+seal-form e = same 0 0 0 2 (omega arith) (omega arith) (omega arith) refl refl refl e
+
+pub no-form : (k : ℕ) {r : Form} → (k ≡ 0 → ⊥) → (k ≡ 1 → ⊥) → (k ≡ 2 → ⊥) → (k ≡ 3 → ⊥) → r ≡ made 0 0 0 2 false → Has-form (form-numbered k) r
+unfolding forms found count-digits front-size
+no-form k f g h i e =
+    rw (ne-eqb k 0 f, ne-eqb k 1 g, ne-eqb k 2 h, ne-eqb k 3 i) (same 0 0 0 2 (omega arith) (omega arith) (omega arith) refl refl refl e)

@@ -27,30 +27,28 @@ pub fn form_of(number: u32) -> Form
     ensures { λ r. ⌜ Has-form (form-numbered number) r ⌝ }
 {
     match number {
-        0 => Form {
-            count: 1,
-            widths: [SLOT_DIGITS, 0],
-            front: SHORT_DIGITS + SLOT_DIGITS,
-            payload: false,
-        },
-        1 => Form {
-            count: 2,
-            widths: [SLOT_DIGITS, WIDE_DIGITS],
-            front: SHORT_DIGITS + SLOT_DIGITS + WIDE_DIGITS,
-            payload: true,
-        },
-        2 => Form {
-            count: 0,
-            widths: [0, 0],
-            front: SHORT_DIGITS,
-            payload: false,
-        },
-        _ => Form {
-            count: 0,
-            widths: [0, 0],
-            front: SHORT_DIGITS,
-            payload: false,
-        },
+        0 => formed(1, [SLOT_DIGITS, 0], SHORT_DIGITS + SLOT_DIGITS, false),
+        1 => formed(
+            2,
+            [SLOT_DIGITS, WIDE_DIGITS],
+            SHORT_DIGITS + SLOT_DIGITS + WIDE_DIGITS,
+            true,
+        ),
+        2 => formed(0, [0, 0], SHORT_DIGITS, false),
+        3 => formed(0, [0, 0], SHORT_DIGITS, false),
+        _ => formed(0, [0, 0], SHORT_DIGITS, false),
+    }
+}
+
+// A form from its parts, so that the table above has a line for each.
+fn formed(count: usize, widths: [usize; MOST_NUMBERS], front: usize, payload: bool) -> Form
+    ensures { λ r. ⌜ r ≡ record { count = count; widths = widths; front = front; payload = payload } ⌝ }
+{
+    Form {
+        count,
+        widths,
+        front,
+        payload,
     }
 }
 
@@ -62,6 +60,7 @@ pub fn command_of(number: u32, values: [u32; MOST_NUMBERS]) -> Reading
         0 => Reading::Is(Command::Open(Slot(values[0]))),
         1 => Reading::Is(Command::Take(Slot(values[0]), Weight(values[1]))),
         2 => Reading::Is(Command::Send),
+        3 => Reading::Is(Command::Seal),
         _ => Reading::Broken,
     }
 }
@@ -73,6 +72,7 @@ pub fn line_number(command: Command) -> u32
         Command::Open(_) => 0,
         Command::Take(_, _) => 1,
         Command::Send => 2,
+        Command::Seal => 3,
     }
 }
 
@@ -84,5 +84,6 @@ pub fn values_of(command: Command) -> [u32; MOST_NUMBERS]
         Command::Open(last) => [last.0, 0],
         Command::Take(due, weight) => [due.0, weight.0],
         Command::Send => [0, 0],
+        Command::Seal => [0, 0],
     }
 }

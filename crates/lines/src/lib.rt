@@ -17,6 +17,7 @@ pub enum Command {
     Open(Slot),
     Take(Slot, Weight),
     Send,
+    Seal,
 }
 
 // What a line is read as: a command, or refusal 1.

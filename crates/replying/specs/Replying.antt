@@ -12,6 +12,10 @@ pub record Replies (line before after : List ℕ) (r : ℕ) : Type 0 where
   pub long : r ≡ length line
   pub left : after ≡ line ++ drop (length line) before
 
+-- the line of a reply without values by its number: 0 for an opening's, 3 for a sealing's
+unfoldable pub bare-text : (number : ℕ) → List ℕ
+bare-text n = digits short-digits n ++ (line-end ∷ [])
+
 -- the line of a step by numbers: what went out (0 silence, 1 a frame, 2 a kept blank), 0 ordinary or 1 a leap, and the ticket
 unfoldable pub step-text : (out leap ticket : ℕ) → List ℕ
 step-text o l k = digits short-digits 2 ++ digits short-digits o ++ digits short-digits l ++ digits wide-digits k ++ (line-end ∷ [])

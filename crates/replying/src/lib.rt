@@ -1,9 +1,9 @@
 // Reply lines, written into a lent buffer: what a call of the program answers, or a refusal's number.
 ghost use Prim.Native.Nat.{_≤_};
 ghost use lib.ListN.{length};
-ghost use Rattle.rules.specs.Calls.{refused, done, ticket};
+ghost use Rattle.rules.specs.Calls.{refused, ticket};
 ghost use Rattle.rules.specs.Lines.{reply-room, reply-text};
-ghost use Rattle.replying.specs.Replying.{Replies, step-text};
+ghost use Rattle.replying.specs.Replying.{Replies, bare-text, step-text};
 use digits::LINE_END;
 use digits::SHORT_DIGITS;
 use digits::WIDE_DIGITS;
@@ -13,12 +13,12 @@ use sorts::Ticket;
 // The room that each reply's line fits in.
 pub const REPLY_ROOM: usize = 15;
 
-// An opening's, into REPLY_ROOM or more.
-pub fn write_done_in_room(buffer: &mut [u8]) -> usize
+// An opening's (0) or a sealing's (3), into REPLY_ROOM or more.
+pub fn write_bare_in_room(number: u32, buffer: &mut [u8]) -> usize
     requires { ⌜ reply-room ≤ length (now buffer) ⌝ }
-    ensures { λ r. ⌜ Replies (reply-text done) (now (buffer .entry)) (now (buffer .exit)) r ⌝ }
+    ensures { λ r. ⌜ Replies (bare-text number) (now (buffer .entry)) (now (buffer .exit)) r ⌝ }
 {
-    put_number(0, SHORT_DIGITS, 0, buffer);
+    put_number(number, SHORT_DIGITS, 0, buffer);
     buffer[2] = LINE_END;
     3
 }

@@ -44,6 +44,7 @@ fn put_command(command: Command, out: &mut [u8])
         Command::Open(last) => put_numbers(0, 0, last, Weight(0), out),
         Command::Take(due, weight) => put_numbers(0, 1, due, weight, out),
         Command::Send => put_numbers(0, 2, Slot(0), Weight(0), out),
+        Command::Seal => put_numbers(0, 3, Slot(0), Weight(0), out),
     }
 }
 

@@ -24,6 +24,7 @@ pub fn try_write(request: Request, payload: &[u8], out: &mut [u8]) -> usize
         0 => put_line(Command::Open(slot), payload, room, out),
         1 => put_line(Command::Take(slot, weight), payload, room, out),
         2 => put_line(Command::Send, payload, room, out),
+        3 => put_line(Command::Seal, payload, room, out),
         _ => 0,
     }
 }

@@ -3,25 +3,31 @@ ghost use Prim.Native.Nat.{_≤_};
 ghost use lib.ListN.{length};
 ghost use Rattle.rules.specs.Calls.{step};
 ghost use Rattle.rules.specs.Lines.{reply-room, reply-text};
-ghost use Rattle.replies.specs.Replies.{of-opened, of-taken, of-out, of-step, of-sent};
+ghost use Rattle.replies.specs.Replies.{of-opened, of-taken, of-out, of-step, of-sent, of-sealed};
 ghost use Rattle.replying.specs.Replying.{Replies, step-text, out-number, out-ticket};
 use replies::Opened;
 use replies::Out;
+use replies::Sealed;
 use replies::Sent;
 use replies::Step;
 use replies::Taken;
-use replying::write_done_in_room;
+use replying::write_bare_in_room;
 use replying::write_refusal_in_room;
 use replying::write_step_in_room;
 use replying::write_ticket_in_room;
 use sorts::Ticket;
+
+// The whole of an opening's line, and of a sealing's.
+const DONE: u32 = 0;
+
+const CLOSED: u32 = 3;
 
 pub fn say_opened(opened: Opened, reply: &mut [u8]) -> usize
     requires { ⌜ reply-room ≤ length (now reply) ⌝ }
     ensures { λ r. ⌜ Replies (reply-text (of-opened opened)) (now (reply .entry)) (now (reply .exit)) r ⌝ }
 {
     match opened {
-        Opened::Done => write_done_in_room(reply),
+        Opened::Done => write_bare_in_room(DONE, reply),
         Opened::Refused(n) => write_refusal_in_room(n, reply),
     }
 }
@@ -43,6 +49,16 @@ pub fn say_sent(sent: Sent, reply: &mut [u8]) -> usize
     match sent {
         Sent::Went(step) => say_step(step, reply),
         Sent::Refused(n) => write_refusal_in_room(n, reply),
+    }
+}
+
+pub fn say_sealed(sealed: Sealed, reply: &mut [u8]) -> usize
+    requires { ⌜ reply-room ≤ length (now reply) ⌝ }
+    ensures { λ r. ⌜ Replies (reply-text (of-sealed sealed)) (now (reply .entry)) (now (reply .exit)) r ⌝ }
+{
+    match sealed {
+        Sealed::Closed => write_bare_in_room(CLOSED, reply),
+        Sealed::Refused(n) => write_refusal_in_room(n, reply),
     }
 }
 

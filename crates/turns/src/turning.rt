@@ -5,10 +5,12 @@ ghost use Rattle.rules.specs.Lines.{reply-room};
 ghost use Rattle.lines.specs.Cases.{of-command};
 ghost use Rattle.turns.specs.Turns.{Turns};
 use crate::saying::say_opened;
+use crate::saying::say_sealed;
 use crate::saying::say_sent;
 use crate::saying::say_taken;
 use lines::Command;
 use opening::open_round;
+use sealing::seal_round;
 use sending::send_slot;
 use taking::take_frame;
 
@@ -20,5 +22,6 @@ pub fn take_turn_in_room(command: Command, table: &mut [u8], reply: &mut [u8]) -
         Command::Open(last) => say_opened(open_round(last, table), reply),
         Command::Take(due, weight) => say_taken(take_frame(due, weight, table), reply),
         Command::Send => say_sent(send_slot(table), reply),
+        Command::Seal => say_sealed(seal_round(table), reply),
     }
 }

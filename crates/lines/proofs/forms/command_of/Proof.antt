@@ -28,11 +28,15 @@ unfolding command-of
 returns-3 c = rw (c .match .keys3)
 
 returns-4 : tie.Need-returns-4
-returns-4 c =
+unfolding command-of
+returns-4 c = rw (c .match .keys4)
+
+returns-5 : tie.Need-returns-5
+returns-5 c =
     let not = c .match .rest in
-    sym (no-line (c .before .args .number) (c .before .args .t2) (not .0 .0 .1) (not .0 .1) (not .1))
+    sym (no-line (c .before .args .number) (c .before .args .t2) (not .0 .0 .0 .1) (not .0 .0 .1) (not .0 .1) (not .1))
 
 pub command-of-spec : {M : Type 1} → statement M
 command-of-spec =
     tie.close
-    (tie.spec array-read-t7 array-read-t12 array-read-t16 returns returns-2 returns-3 returns-4)
+    (tie.spec array-read-t7 array-read-t12 array-read-t16 returns returns-2 returns-3 returns-4 returns-5)

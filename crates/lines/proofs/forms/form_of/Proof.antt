@@ -1,29 +1,64 @@
 -- `lines::form_of` meets its contract: by the line's number.
 use borrow.Author.Needs.{needs}
-use Rattle.lines.proofs.FormLaws.{open-form, take-form, send-form, no-form}
+use Rattle.lines.proofs.FormLaws.{open-form, take-form, send-form, seal-form, no-form}
 use Rattle.lines.proofs.forms.form_of.Statement.{statement}
 use Rattle.lines.proofs.forms.form_of.Tie as tie
 
-add-t4 : tie.Need-add-t4
-add-t4 c = search needs
+add-formed : tie.Need-add-formed
+add-formed c = search needs
 
-add-t6 : tie.Need-add-t6
-add-t6 c = search needs
+formed-requires : tie.Need-formed-requires
+formed-requires c κs = search needs
 
-add-t7 : tie.Need-add-t7
-add-t7 c = search needs
+add-formed-2 : tie.Need-add-formed-2
+add-formed-2 c = search needs
+
+add-formed-3 : tie.Need-add-formed-3
+add-formed-3 c = search needs
+
+formed-requires-2 : tie.Need-formed-requires-2
+formed-requires-2 c κs = search needs
+
+formed-requires-3 : tie.Need-formed-requires-3
+formed-requires-3 c κs = search needs
+
+formed-requires-4 : tie.Need-formed-requires-4
+formed-requires-4 c κs = search needs
+
+formed-requires-5 : tie.Need-formed-requires-5
+formed-requires-5 c κs = search needs
 
 returns : tie.Need-returns
-returns c = rw (c .match .keys1) open-form
+returns c = rw (c .before .match .keys1) (open-form (cc (c .formed .ensures)))
 
 returns-2 : tie.Need-returns-2
-returns-2 c = rw (c .match .keys2) take-form
+returns-2 c = rw (c .before .match .keys2) (take-form (cc (c .formed2 .ensures)))
 
 returns-3 : tie.Need-returns-3
-returns-3 c = rw (c .match .keys3) send-form
+returns-3 c = rw (c .before .match .keys3) (send-form (cc (c .formed3 .ensures)))
 
 returns-4 : tie.Need-returns-4
-returns-4 c = let not = c .match .rest in no-form (c .before .args .number) (not .0 .0 .1) (not .0 .1) (not .1)
+returns-4 c = rw (c .before .match .keys4) (seal-form (cc (c .formed4 .ensures)))
+
+returns-5 : tie.Need-returns-5
+returns-5 c =
+    let not = c .before .match .rest in
+    no-form (c .before .before .args .number) (not .0 .0 .0 .1) (not .0 .0 .1) (not .0 .1) (not .1) (cc (c .formed5 .ensures))
 
 pub form-of-spec : {M : Type 1} → statement M
-form-of-spec = tie.close (tie.spec add-t4 add-t6 add-t7 returns returns-2 returns-3 returns-4)
+form-of-spec =
+    tie.close
+    (tie.spec
+    add-formed
+    formed-requires
+    add-formed-2
+    add-formed-3
+    formed-requires-2
+    formed-requires-3
+    formed-requires-4
+    formed-requires-5
+    returns
+    returns-2
+    returns-3
+    returns-4
+    returns-5)

@@ -14,6 +14,9 @@ enum-known-command-2 c = search needs
 enum-told : tie.Need-enum-told
 enum-told c = search needs
 
+enum-told-2 : tie.Need-enum-told-2
+enum-told-2 c = search needs
+
 returns : tie.Need-returns
 unfolding values-of
 returns c = rw (c .before .command .given .1) record { room = refl; values = refl }
@@ -26,7 +29,11 @@ returns-3 : tie.Need-returns-3
 unfolding values-of
 returns-3 c = rw (c .enum-told .given .1) record { room = refl; values = refl }
 
+returns-4 : tie.Need-returns-4
+unfolding values-of
+returns-4 c = rw (c .enum-told2 .given .1) record { room = refl; values = refl }
+
 pub values-of-spec : {M : Type 1} → statement M
 values-of-spec =
     tie.close
-    (tie.spec enum-known-command enum-known-command-2 enum-told returns returns-2 returns-3)
+    (tie.spec enum-known-command enum-known-command-2 enum-told enum-told-2 returns returns-2 returns-3 returns-4)

@@ -1,4 +1,5 @@
 -- `turns::saying::say_opened` meets its contract.
+use Rattle.replying.proofs.Replying.{done-said}
 use Rattle.turns.proofs.Said.{said-by}
 use borrow.Author.Needs.{needs}
 use Rattle.turns.proofs.saying.say_opened.Statement.{statement}
@@ -7,8 +8,8 @@ use Rattle.turns.proofs.saying.say_opened.Tie as tie
 enum-told : tie.Need-enum-told
 enum-told c = search needs
 
-write-done-in-room-requires : tie.Need-write-done-in-room-requires
-write-done-in-room-requires c κs = search needs
+write-bare-in-room-requires : tie.Need-write-bare-in-room-requires
+write-bare-in-room-requires c κs = search needs
 
 enum-known-opened : tie.Need-enum-known-opened
 enum-known-opened c = search needs
@@ -20,7 +21,7 @@ same-length : tie.Need-same-length
 same-length c = search needs
 
 returns : tie.Need-returns
-returns c = said-by (c .before .before .write-done-in-room .ensures) (rw (c .before .before .before .before .enum-told .given .1))
+returns c = said-by (c .before .before .write-bare-in-room .ensures) (rw (c .before .before .before .before .enum-told .given .1) (cc done-said))
 
 same-length-2 : tie.Need-same-length-2
 same-length-2 c = search needs
@@ -33,7 +34,7 @@ say-opened-spec =
     tie.close
     (tie.spec
     enum-told
-    write-done-in-room-requires
+    write-bare-in-room-requires
     enum-known-opened
     write-refusal-in-room-requires
     same-length

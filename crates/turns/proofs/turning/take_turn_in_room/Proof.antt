@@ -32,6 +32,15 @@ send-slot-requires c κs = tt
 say-sent-requires : tie.Need-say-sent-requires
 say-sent-requires c κs = c .before .before .before .before .before .before .before .before .before .pre
 
+enum-told-2 : tie.Need-enum-told-2
+enum-told-2 c = c .match .keys4
+
+seal-round-requires : tie.Need-seal-round-requires
+seal-round-requires c κs = tt
+
+say-sealed-requires : tie.Need-say-sealed-requires
+say-sealed-requires c κs = c .before .before .before .before .before .before .before .before .before .pre
+
 same-length : tie.Need-same-length
 same-length c = c .before .before .before .before .before .before .open-round .kept .1 .0
 
@@ -70,6 +79,18 @@ returns-3 c =
     let told = c .before .before .before .before .before .before .before .before .enum-told .given .1 in
     turned _ _ _ _ _ _ _ _ (rw told) (c .before .before .before .before .before .before .send-slot .ensures) (c .before .before .say-sent .ensures)
 
+same-length-7 : tie.Need-same-length-7
+same-length-7 c = c .before .before .before .before .before .before .seal-round .kept .0
+
+same-length-8 : tie.Need-same-length-8
+same-length-8 c = c .before .before .say-sealed .kept .1 .0
+
+returns-4 : tie.Need-returns-4
+unfolding call-of
+returns-4 c =
+    let told = c .before .before .before .before .before .before .before .before .enum-told2 .given .1 in
+    turned _ _ _ _ _ _ _ _ (rw told) (c .before .before .before .before .before .before .seal-round .ensures) (c .before .before .say-sealed .ensures)
+
 pub take-turn-in-room-spec : {M : Type 1} → statement M
 take-turn-in-room-spec =
     tie.close
@@ -83,6 +104,9 @@ take-turn-in-room-spec =
     enum-told
     send-slot-requires
     say-sent-requires
+    enum-told-2
+    seal-round-requires
+    say-sealed-requires
     same-length
     same-length-2
     returns
@@ -91,4 +115,7 @@ take-turn-in-room-spec =
     returns-2
     same-length-5
     same-length-6
-    returns-3)
+    returns-3
+    same-length-7
+    same-length-8
+    returns-4)

@@ -1,11 +1,11 @@
 -- Rows closed up in place, run by run as the code goes.
 use mathlib.Core.Path.{_≡_, refl, sym, ap, ap₂, _∙_, subst}
-use mathlib.Core.Logic.{inl, inr}
-use mathlib.Core.Bool.{Bool, true, false, _&&_}
-use mathlib.Core.List.{List, _++_, append-assoc}
+use mathlib.Core.Logic.{inl, inr, _≢_}
+use mathlib.Core.Bool.{Bool, true, false, _&&_, cond, true≢false}
+use mathlib.Core.List.{List, [], _∷_, _++_, append-assoc}
 use Prim.Native.Nat.{ℕ, zero, suc, _+_, _*_, _-_, _≤_, _<_}
 use native.Mathlib.Omega.{arith}
-use lib.Dec.{leb}
+use lib.Dec.{leb, eqb}
 use borrow.Author.Tests.{le-leb, lt-leb, lt-ltb, le-ltb, ne-eqb, eq-eqb}
 use lib.ListN.{length, getD, take, drop, replicate, length-append}
 use lib.Seq.{paste, paste-zero, drop-at, drop-cons}
@@ -13,13 +13,14 @@ use Rattle.rules.specs.Limits.{head-size, row-size, due-at, slot-bytes}
 use Rattle.rules.specs.Rows.{Row, Round, row, round, blank}
 use Rattle.rules.specs.Conditions.{row-at, used-in, ticket-in, due-in}
 use Rattle.rules.specs.Table.{field, rows-bytes, table, round-in, table-refusal}
-use Rattle.theory.specs.Tests.{ltb?, eqb?}
+use Rattle.theory.specs.Tests.{either, leb?, ltb?, eqb?}
+use Rattle.theory.specs.Sum.{sum}
 use Rattle.theory.specs.All.{all-in}
 use Rattle.theory.specs.Feas.{below, num, below-yes}
 use Rattle.theory.specs.Back.{head-of, length-head-of, table-is}
 use Rattle.theory.specs.Fields.{field-drop}
 use Rattle.theory.specs.Bounds.{Row-fine}
-use Rattle.theory.specs.Change.{rising-above}
+use Rattle.theory.specs.Change.{rising-above, in-sum}
 use Rattle.theory.specs.Clauses.{rows-count}
 use Rattle.theory.specs.Sane.{sound}
 use Rattle.theory.specs.Keys.{getD-in, tickets-less}
@@ -28,7 +29,7 @@ use Rattle.round.specs.Head.{Head-of}
 use Rattle.sorts.specs.declared.Round.{Round as Head}
 use Rattle.round.proofs.ReadLaws.{at-held}
 use Rattle.runs.proofs.CopyLaws.{paste-next}
-use Rattle.closing.specs.Close.{Due-now, gone-ticket, Search, Next-leaving, Some-left, Left-behind, Closing-in, Closed-rows}
+use Rattle.closing.specs.Close.{Due-now, due-other, gone-ticket, Due-beside, Search, Next-leaving, Left-behind, Closing-in, Closed-rows}
 use Rattle.closing.proofs.HeadLaws.{head-slot, head-used, table-room}
 
 used-held : (t : List ℕ) → length (round-in t .rows) ≡ used-in t
@@ -63,18 +64,30 @@ ticket-goes s k x e = rw (eq-eqb (x .ticket) k e) (none (leb s (x .due)))
     none true = refl
     none false = refl
 
--- SO MANY of the rows from i on are due before e: never more further on
-due-next : (e : ℕ) (xs : List Row) (i : ℕ) → i < length xs → num 0 e (drop i xs) ≡ below 0 e (getD xs i (blank 0)) + num 0 e (drop (suc i) xs)
-due-next e xs i h = ap (num 0 e) (drop-cons xs i (blank 0) h)
+-- A MEASURE of the rows from i on never grows further on
+sum-next : (μ : Row → ℕ) (xs : List Row) (i : ℕ) → i < length xs → sum μ (drop i xs) ≡ μ (getD xs i (blank 0)) + sum μ (drop (suc i) xs)
+sum-next μ xs i h = ap (sum μ) (drop-cons xs i (blank 0) h)
 
-due-fall : (e : ℕ) (xs : List Row) (i m : ℕ) → i + m ≤ length xs → num 0 e (drop (i + m) xs) ≤ num 0 e (drop i xs)
-due-fall e xs i zero h = let p : i + 0 ≡ i = omega arith in rw p (omega arith)
-due-fall e xs i (suc m) h =
+sum-fall : (μ : Row → ℕ) (xs : List Row) (i m : ℕ) → i + m ≤ length xs → sum μ (drop (i + m) xs) ≤ sum μ (drop i xs)
+sum-fall μ xs i zero h = let p : i + 0 ≡ i = omega arith in rw p (omega arith)
+sum-fall μ xs i (suc m) h =
     let p : i + suc m ≡ suc (i + m) = omega arith in
-    rw p (omega (arith, due-fall e xs i m (omega arith), due-next e xs (i + m) (omega arith)))
+    rw p (omega (arith, sum-fall μ xs i m (omega arith), sum-next μ xs (i + m) (omega arith)))
 
-due-later : (e : ℕ) (xs : List Row) (i j : ℕ) → i ≤ j → j ≤ length xs → num 0 e (drop j xs) ≤ num 0 e (drop i xs)
-due-later e xs i j h k = let p : i + (j - i) ≡ j = omega arith in rw (p) at (due-fall e xs i (j - i) (omega arith))
+sum-later : (μ : Row → ℕ) (xs : List Row) (i j : ℕ) → i ≤ j → j ≤ length xs → sum μ (drop j xs) ≤ sum μ (drop i xs)
+sum-later μ xs i j h k = let p : i + (j - i) ≡ j = omega arith in rw (p) at (sum-fall μ xs i (j - i) (omega arith))
+
+-- the rows of one ticket, and those beside it
+due-own : (s k : ℕ) → Row → ℕ
+due-own s k x = cond (eqb (x .ticket) k) (below 0 s x) 0
+
+due-parts : (s k : ℕ) (xs : List Row) → sum (due-other s k) xs + sum (due-own s k) xs ≡ num 0 s xs
+unfolding due-own
+due-parts s k [] = refl
+due-parts s k (x ∷ xs) = elim (either (eqb (x .ticket) k)) [
+  | inl e ↦ rw e (omega (arith, due-parts s k xs))
+  | inr e ↦ rw e (omega (arith, due-parts s k xs))
+]
 
 module _ (r : Round) where
   abbrev head₁ : List ℕ
@@ -124,13 +137,13 @@ module _ (r : Round) where
             (subst (λ (v : List ℕ). Closing-in s k r (suc (i + m)) v) d (closing-paste s k head₁ (r .rows) zeros₁ (i + m) (blank 0) u l (c .1) g)),
       )
 
--- THE STATE: row i leaves or is past the last, the rows before it are closed up, and at most l due now are left from it on
+-- THE STATE: row i leaves or is past the last, the rows before it are closed up, and at most l due now are left from it on, beside the one that goes
 pub record Runs (t : List ℕ) (g i n l : ℕ) (w : List ℕ) : Type 0 where
   pub by : i ≤ length (round-in t .rows)
   pub long : length w ≡ length t
   pub kept : n ≡ kept-of (suc (round-in t .slot)) (gone-ticket t g) (round-in t .rows) i
   pub rows : Closing-in (suc (round-in t .slot)) (gone-ticket t g) (round-in t) i w
-  pub left : num 0 (suc (round-in t .slot)) (drop i (round-in t .rows)) ≤ l
+  pub left : sum (due-other (suc (round-in t .slot)) (gone-ticket t g)) (drop i (round-in t .rows)) ≤ l
   pub leaves : i < length (round-in t .rows) → stays (suc (round-in t .slot)) (gone-ticket t g) (at (round-in t) i) ≡ false
 
 module _ {t : List ℕ} {h : Head} {g : ℕ} (e : table-refusal t ≡ 0) (d : Head-of t h) (b : g ≤ h .used) where
@@ -145,6 +158,9 @@ module _ {t : List ℕ} {h : Head} {g : ℕ} (e : table-refusal t ≡ 0) (d : He
 
   abbrev row-of : ℕ → Row
   row-of = at (round-in t)
+
+  abbrev μ : Row → ℕ
+  μ = due-other s k
 
   due-is : (j : ℕ) → j < length xs → due-in t j ≡ row-of j .due
   unfolding row
@@ -181,6 +197,27 @@ module _ {t : List ℕ} {h : Head} {g : ℕ} (e : table-refusal t ≡ 0) (d : He
       less : (i j : ℕ) → i < j → j < length xs → row-of i .ticket < row-of j .ticket
       less i j = tickets-less 1 (round-in t .next) xs (blank 0) i j (sound t e .sane .fine .rising)
 
+  -- a row due now beside the one that goes counts
+  one-less : (j : ℕ) → j < length xs → j ≢ g → row-of j .due < s → sum μ (drop j xs) ≡ suc (sum μ (drop (suc j) xs))
+  one-less j l n c =
+      let y : μ (row-of j) ≡ 1 = rw (ne-eqb (row-of j .ticket) k (ticket-other j l n)) (below-yes 0 s (row-of j) (omega arith) c) in
+      omega (arith, sum-next μ xs j l, y)
+
+  pub gone-room : g < h .used → (g < 1024) × (row-at (suc g) ≤ length t)
+  gone-room l = let z = table-room t e (head-used d) in (omega (arith, l, z .0), omega (arith, l, z .1))
+
+  -- HOW MANY beside it, where so many are due now in all
+  pub beside-most : {n : ℕ} → Due-now t n → Due-beside t g n
+  beside-most c = omega (arith, c, due-parts s k xs)
+
+  pub beside-less : {n : ℕ} → Due-now t n → g < h .used → due-in t g ≡ h .slot .0 → suc (sum μ xs) ≤ n
+  unfolding due-own
+  beside-less c l u =
+      let p : g < length xs = omega (arith, l, head-used d) in
+      let y : due-own s k (row-of g) ≡ 1 =
+      rw (eq-eqb (row-of g .ticket) k (ticket-same g p refl)) (below-yes 0 s (row-of g) (omega arith) (omega (arith, due-is g p, u, head-slot d))) in
+      omega (arith, c, due-parts s k xs, y, in-sum (due-own s k) (row-of g) xs (getD-in xs (blank 0) g p))
+
   module _ {i : ℕ} {w : List ℕ} (q : Closing-in s k (round-in t) i w) (o : length w ≡ length t) {f : ℕ} (m : i ≤ f) where
     -- what is not closed up yet is as it was
     due-still : (j : ℕ) → f ≤ j → j < length xs → due-in w j ≡ row-of j .due
@@ -194,15 +231,10 @@ module _ {t : List ℕ} {h : Head} {g : ℕ} (e : table-refusal t ≡ 0) (d : He
         ∙ ap (λ (n : ℕ). field n slot-bytes t) p
         ∙ due-is j l
 
-    due-now : (j : ℕ) → f ≤ j → j < length xs → due-in w j ≡ h .slot .0 → num 0 s (drop j xs) ≡ suc (num 0 s (drop (suc j) xs))
-    due-now j a l c =
-        omega (
-          arith,
-          due-next s xs j l,
-          below-yes 0 s (row-of j) (omega arith) (omega (arith, due-still j a l, c, head-slot d)),
-        )
+    due-now : (j : ℕ) → f ≤ j → j < length xs → j ≢ g → due-in w j ≡ h .slot .0 → sum μ (drop j xs) ≡ suc (sum μ (drop (suc j) xs))
+    due-now j a l n c = one-less j l n (omega (arith, due-still j a l, c, head-slot d))
 
-    searched : {l : ℕ} → f ≤ h .used → num 0 s (drop f xs) ≤ l → Search (h .slot .0) g f (h .used) l w
+    searched : {l : ℕ} → f ≤ h .used → sum μ (drop f xs) ≤ l → Search (h .slot .0) g f (h .used) l w
     searched {l} n c =
         let z = table-room t e (head-used d) in
         record {
@@ -210,9 +242,9 @@ module _ {t : List ℕ} {h : Head} {g : ℕ} (e : table-refusal t ≡ 0) (d : He
           gone-by = b;
           few = z .0;
           long = omega (arith, z .1, o);
-          none = λ v j x y u.
+          none = λ v j x y n u.
               let p : j < length xs = omega (arith, y, head-used d) in
-              absurd (omega (arith, v, c, due-now j x p u, due-later s xs f j x (omega (arith, p))));
+              absurd (omega (arith, v, c, due-now j x p n u, sum-later μ xs f j x (omega (arith, p))));
         }
 
     module _ {n : ℕ} (v : Next-leaving (h .slot .0) g f (h .used) w n) where
@@ -242,7 +274,7 @@ module _ {t : List ℕ} {h : Head} {g : ℕ} (e : table-refusal t ≡ 0) (d : He
       subst (λ (v : List ℕ). Closing-in s k (round-in t) 0 v) (sym (table-is (round-in t)) ∙ sound t e .bytes)
       (closing-start s k (head-of (round-in t)) xs (zeros₁ (round-in t)) (length-head-of (round-in t)))
 
-  pub search-start : {l : ℕ} → Due-now t l → Search (h .slot .0) g 0 (h .used) l t
+  pub search-start : {l : ℕ} → Due-beside t g l → Search (h .slot .0) g 0 (h .used) l t
   search-start c = searched start refl (omega arith) (omega arith) c
 
   in-front : (n : ℕ) → n ≤ length xs → ((j : ℕ) → j < n → stays s k (row-of j) ≡ true) → (n ≡ kept-of s k xs n) × Closing-in s k (round-in t) n t
@@ -256,7 +288,7 @@ module _ {t : List ℕ} {h : Head} {g : ℕ} (e : table-refusal t ≡ 0) (d : He
             (ap (λ (x : ℕ). take row-size (drop (row-at x) t)) (sym (c .0))) refl,
       )
 
-  pub runs-start : {l i : ℕ} → Due-now t l → Next-leaving (h .slot .0) g 0 (h .used) t i → Runs t g i i l t
+  pub runs-start : {l i : ℕ} → Due-beside t g l → Next-leaving (h .slot .0) g 0 (h .used) t i → Runs t g i i l t
   runs-start {l} {i} c v =
       let n = next-by start refl (omega arith) v in
       let q = in-front i n (λ j. next-stay start refl (omega arith) v j (omega arith)) in
@@ -265,20 +297,23 @@ module _ {t : List ℕ} {h : Head} {g : ℕ} (e : table-refusal t ≡ 0) (d : He
         long = refl;
         kept = q .0;
         rows = q .1;
-        left = omega (arith, c, due-later s xs 0 i (omega arith) n);
+        left = omega (arith, c, sum-later μ xs 0 i (omega arith) n);
         leaves = next-leaves start refl (omega arith) v;
       }
 
   -- ONE ROW LEAVES, AND A RUN MOVES
   module _ {i n l : ℕ} {w : List ℕ} (q : Runs t g i n l w) (p : i < h .used) where
-    pub some-left : Some-left (h .slot .0) i l w
-    some-left =
-        let z = table-room t e (head-used d) in
-        record {
-          few = omega (arith, p, z .0);
-          long = omega (arith, p, z .1, q .long);
-          some = λ c. omega (arith, due-now (q .rows) (q .long) {f = i} (omega arith) i (omega arith) (omega (arith, p, head-used d)) c, q .left);
-        }
+    leaves-due : i ≢ g → row-of i .due < s
+    unfolding stays
+    leaves-due n =
+        let j : i < length xs = omega (arith, p, head-used d) in
+        elim (leb? s (row-of i .due)) [
+          | inr a ↦ a .1
+          | inl a ↦ absurd (true≢false (sym (stays-yes s k (row-of i) (a .1) (ticket-other i j n)) ∙ q .leaves j))
+        ]
+
+    pub some-left : i ≢ g → 1 ≤ l
+    some-left n = omega (arith, one-less i (omega (arith, p, head-used d)) n (leaves-due n), q .left)
 
     gone-on : Closing-in s k (round-in t) (i + 1) w
     gone-on =
@@ -293,15 +328,15 @@ module _ {t : List ℕ} {h : Head} {g : ℕ} (e : table-refusal t ≡ 0) (d : He
         let y : suc i ≡ i + 1 = omega arith in
         q .kept ∙ sym (kept-still s k xs i (blank 0) j (q .leaves j)) ∙ ap (kept-of s k xs) y
 
-    module _ {m : ℕ} (c : Left-behind (h .slot .0) i l w m) where
-      left-after : num 0 s (drop (i + 1) xs) ≤ m
+    module _ {m : ℕ} (c : Left-behind g i l m) where
+      left-after : sum μ (drop (i + 1) xs) ≤ m
       left-after =
           let j : i < length xs = omega (arith, p, head-used d) in
           let y : suc i ≡ i + 1 = omega arith in
-          let z = ap (λ (a : ℕ). num 0 s (drop a xs)) y in
+          let z = ap (λ (a : ℕ). sum μ (drop a xs)) y in
           elim c [
-            | inl a ↦ omega (arith, z, a .1, q .left, due-now (q .rows) (q .long) {f = i} (omega arith) i (omega arith) j (a .0))
-            | inr a ↦ omega (arith, z, a .1, q .left, due-later s xs i (suc i) (omega arith) j)
+            | inl a ↦ omega (arith, z, a .1, q .left, sum-later μ xs i (suc i) (omega arith) j)
+            | inr a ↦ omega (arith, z, a .1, q .left, one-less i j (a .0) (leaves-due (a .0)))
           ]
 
       pub search-more : Search (h .slot .0) g (i + 1) (h .used) m w
@@ -330,7 +365,7 @@ module _ {t : List ℕ} {h : Head} {g : ℕ} (e : table-refusal t ≡ 0) (d : He
               kept = z .0 ∙ ap (kept-of s k xs) x;
               rows = subst (λ (bs : List ℕ). Closing-in s k (round-in t) a bs) (sym f)
                   (subst (λ (j : ℕ). Closing-in s k (round-in t) j (paste w (row-at n) (drop (row-at (i + 1)) w) (row-size * (a - (i + 1))))) x (z .1));
-              left = omega (arith, left-after, due-later s xs (i + 1) a (v .before .onward) y);
+              left = omega (arith, left-after, sum-later μ xs (i + 1) a (v .before .onward) y);
               leaves = next-leaves gone-on (q .long) (omega arith) v;
             }
 

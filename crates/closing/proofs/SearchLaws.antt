@@ -76,7 +76,7 @@ module _ {s g f u l : ℕ} {t : List ℕ} {e : ℕ} (q : Search s g f u l t) (d 
   leaving-last z =
       let c = ends g f u e (q .by) (q .gone-by) d in
       record {
-        before = record { onward = c .from-on; by = c .by; none = λ j a b. q .none z j a (omega (arith, b, c .by)) };
+        before = record { onward = c .from-on; by = c .by; none = λ j a b. q .none z j a (omega (arith, b, c .by)) (c .other j a b) };
         other = c .other;
         leaves = λ h. inr (c .goes h);
       }

@@ -1,5 +1,6 @@
 // The table when its current slot is over: rows due in it leave, and the one that goes; the others close up, and the slot moves on.
 ghost use mathlib.Core.Path.{_≡_};
+ghost use mathlib.Core.Logic.{_≢_};
 ghost use mathlib.Core.Bool.{cond};
 ghost use Prim.Native.Nat.{suc, _≤_, _<_};
 ghost use lib.Dec.{leb};
@@ -7,7 +8,7 @@ ghost use lib.ListN.{length};
 ghost use Rattle.rules.specs.Conditions.{row-at, due-in};
 ghost use Rattle.rules.specs.Table.{table-refusal};
 ghost use Rattle.round.specs.Head.{Head-of};
-ghost use Rattle.closing.specs.Close.{Due-now, gone-ticket, Next-due, Search, Next-leaving, Some-left, Left-behind, Closed-rows, closed-up};
+ghost use Rattle.closing.specs.Close.{Due-now, Due-beside, gone-ticket, Next-due, Search, Next-leaving, Left-behind, Closed-rows, closed-up};
 use numbers::write2;
 use row::entry::due_in;
 use row::row_at;
@@ -41,7 +42,7 @@ fn search_end(from: usize, used: usize, gone: usize) -> usize
     used
 }
 
-// The next row that leaves, or how many there are. With no row due now left there is nothing to search.
+// The next row that leaves, or how many there are. With no row due now left beside the one that goes there is nothing to search.
 fn next_leaving(
     table: &[u8],
     from: usize,
@@ -60,15 +61,28 @@ fn next_leaving(
     next_due(table, from, end, slot)
 }
 
-// How many rows due now can be behind a row, where so many can be from it on.
-fn left_behind(table: &[u8], row: usize, slot: Slot, left: usize) -> usize
-    requires { ⌜ Some-left (slot .0) row left (now table) ⌝ }
-    ensures { λ r. ⌜ Left-behind (slot .0) row left (now (table .entry)) r ⌝ }
+// How many rows due now there can be beside the one that goes: this one need not be searched for.
+fn left_beside(table: &[u8], round: Round, expiring: usize, gone: usize) -> usize
+    requires { ⌜ (table-refusal (now table) ≡ 0) × Head-of (now table) round × (gone ≤ round .used) × Due-now (now table) expiring ⌝ }
+    ensures { λ r. ⌜ Due-beside (now (table .entry)) gone r ⌝ }
 {
-    if due_in(table, row) == slot.0 {
-        return left - 1;
+    if gone < round.used {
+        if due_in(table, gone) == round.slot.0 {
+            return expiring - 1;
+        }
     }
-    left
+    expiring
+}
+
+// How many of them can be behind a row that leaves, where so many can be from it on.
+fn left_behind(row: usize, gone: usize, left: usize) -> usize
+    requires { ⌜ (row ≢ gone → 1 ≤ left) ⌝ }
+    ensures { λ r. ⌜ Left-behind gone row left r ⌝ }
+{
+    if row == gone {
+        return left;
+    }
+    left - 1
 }
 
 // The rows that stay, moved to the front in runs between rows that leave. Answers how many.
@@ -77,11 +91,11 @@ fn close_rows(table: &mut [u8], round: Round, expiring: usize, gone: usize) -> u
     ensures { λ r. ⌜ Closed-rows (suc (round .slot .0)) (gone-ticket (now (table .entry)) gone) (now (table .entry)) (now (table .exit)) r ⌝ }
 {
     let used = round.used;
-    let mut left = expiring;
+    let mut left = left_beside(table, round, expiring, gone);
     let mut i = next_leaving(table, 0, used, round.slot, left, gone);
     let mut kept = i;
     while i < used {
-        left = left_behind(table, i, round.slot, left);
+        left = left_behind(i, gone, left);
         let from = i + 1;
         let next = next_leaving(table, from, used, round.slot, left, gone);
         move_run(table, from, next, kept);

@@ -11,6 +11,9 @@ Inv-loop table₀ round expiring gone used left₀ i₀ kept₀ table left i kep
 abbrev μ-loop : tie.MeasureT-loop
 μ-loop table₀ round expiring gone used left₀ i₀ kept₀ table left i kept = used - i
 
+left-beside-requires : tie.Need-left-beside-requires Inv-loop μ-loop
+left-beside-requires c κs = search needs
+
 next-leaving-requires : tie.Need-next-leaving-requires Inv-loop μ-loop
 next-leaving-requires c κs = search (search-start, needs)
 
@@ -28,8 +31,8 @@ next-leaving-requires-2 c κs = search (search-more, needs)
 
 move-run-requires : tie.Need-move-run-requires Inv-loop μ-loop
 move-run-requires c κs =
-    let l = c .before .before .before .before .before .before in
-    let s = l .before .before .before .before in
+    let l = c .before .before .before .before .before in
+    let s = l .before .before .before .before .before .before in
     let r = run-room (s .pre .0) (s .pre .1) (s .pre .2) (l .loop .inv) (search needs) (c .before .before .before .left-behind .ensures)
     (c .before .next-leaving2 .ensures) in
     search needs
@@ -39,8 +42,8 @@ sub-kept c = search needs
 
 add-kept : tie.Need-add-kept Inv-loop μ-loop
 add-kept c =
-    let l = c .before .before .before .before .before .before .before .before .before in
-    let s = l .before .before .before .before in
+    let l = c .before .before .before .before .before .before .before .before in
+    let s = l .before .before .before .before .before .before in
     let r = run-room (s .pre .0) (s .pre .1) (s .pre .2) (l .loop .inv) (search needs) (c .before .before .before .before .before .before .left-behind .ensures)
     (c .before .before .before .before .next-leaving2 .ensures) in
     search needs
@@ -50,8 +53,8 @@ loop-less c = search needs
 
 loop-again : tie.Need-loop-again Inv-loop μ-loop
 loop-again c =
-    let l = c .before .before .before .before .before .before .before .before .before in
-    let s = l .before .before .before .before in
+    let l = c .before .before .before .before .before .before .before .before in
+    let s = l .before .before .before .before .before .before in
     runs-more (s .pre .0) (s .pre .1) (s .pre .2) (l .loop .inv) (search needs) (c .before .before .before .before .before .before .left-behind .ensures)
     (c .before .before .before .before .next-leaving2 .ensures) (search needs) (search needs)
 
@@ -67,6 +70,7 @@ close-rows-spec =
     (tie.spec
     Inv-loop
     μ-loop
+    left-beside-requires
     next-leaving-requires
     loop-holds
     left-behind-requires

@@ -24,7 +24,7 @@ This page is written by tests/edits.py from the first lines of the edits.
 # The nearest is another program, not an edit of this one: it is proved that it sends otherwise.
 PLAYED_OUT = "`played-out-misses`, `canonical-first-differs`, `no-order-serves` in crates/theory/specs/PlayedOut.antt; "
 OVER = "checks/over_in_the_last_slot rules/last_slot_over"
-TURNED_DOWN = " ".join(f"{call}/every_{call}_turned_down" for call in ("opening", "taking", "sending"))
+TURNED_DOWN = " ".join(f"{call}/every_{call}_turned_down" for call in ("opening", "taking", "sending", "sealing"))
 
 BREAKAGES = [
     ("a sender that plans the first slot and plays that plan out afterwards (demand 2)",
@@ -116,6 +116,7 @@ CONTRACTS = {
     "opening": "`open_round` (`Says`): reply and bytes",
     "taking": "`take_frame` (`Says`): reply and bytes",
     "sending": "`send_slot` (`Says`): reply and bytes",
+    "sealing": "`seal_round` (`Says`): reply and bytes",
     "marking": "`mark_of` (`Says`): reply and bytes",
     "totalling": "`plan_total` (`Says`): reply and bytes",
     "substituting": "`substitute_of` (`Looks`): the reply; and the bytes as they were",

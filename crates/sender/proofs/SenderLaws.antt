@@ -1,11 +1,13 @@
--- From the counts to the plan, from the plan to its segments, and from these to the step.
+-- From the counts to the plan, from the plan to its first or its segments, and from these to the step.
 use mathlib.Core.Path.{_≡_, refl, sym, ap, subst}
-use mathlib.Core.Bool.{Bool, true, false}
+use mathlib.Core.Bool.{Bool, true, false, not}
 use mathlib.Core.Logic.{inl, inr, _≢_}
 use mathlib.Core.List.{List}
 use Prim.Native.Nat.{ℕ, suc, _+_, _/_, _≤_}
 use native.Mathlib.Omega.{arith}
+use lib.Dec.{eqb}
 use lib.ListN.{length, getD, replicate, length-replicate}
+use borrow.Author.Tests.{ne-eqb}
 use Rattle.rules.specs.Rows.{Round}
 use Rattle.rules.specs.Table.{round-in}
 use Rattle.theory.specs.Tests.{leb?, ltb?}
@@ -102,6 +104,10 @@ some-slot t x k o =
           let z : x .free ≡ 0 = omega (arith, g .1) in
           absurd (omega (arith, o, b, l, z, ap (λ (u : ℕ). sum (under (r .slot) (top-of r) u) (r .rows)) z))
     ]
+
+-- an unsealed round asks for its heaviest far row
+pub is-asked : (b : ℕ) → b ≢ 1 → not (eqb b 1) ≡ true
+is-asked b u = ap not (ne-eqb b 1 u)
 
 -- THE PLAN MADE: its segments are given
 pub led : (t cs ks fs hs ls : List ℕ) (h : Head) (x : Reach) (e : ℕ) → Crowded t cs ks fs hs ls h x e → (ks2 fs2 : List ℕ) (p : Planned) →

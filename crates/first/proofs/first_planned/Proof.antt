@@ -76,7 +76,7 @@ loop-less c = search needs
 loop-again : tie.Need-loop-again Inv-loop μ-loop
 loop-again c =
     let s = c .before .before .before .before .before .before .before .before .before .before .before .before .before .before in
-    choosing-sees (lent-placed (s .pre)) (c .before .before .before .before .before .before .before .before .loop .inv) (search needs) (omega (arith, c .before .before .before .before .before .due-of2 .ensures)) (flag-there (s .args .flags .now) (c .before .before .before .row-of2 .ensures) (omega arith)) (c .lesser .ensures)
+    choosing-sees (lent-placed (s .pre)) (c .before .before .before .before .before .before .before .before .loop .inv) (search needs) (omega (arith, c .before .before .before .before .before .due-of2 .ensures)) (flag-there (s .args .flags .now) (c .before .before .before .row-of2 .ensures) (omega arith)) (omega (arith, c .lesser .ensures))
 
 loop-less-2 : tie.Need-loop-less-2 Inv-loop μ-loop
 loop-less-2 c = search needs

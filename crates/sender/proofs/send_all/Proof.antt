@@ -1,4 +1,5 @@
 -- `sender::send_all` meets its contract.
+use native.Mathlib.Omega.{arith}
 use borrow.Author.Needs.{needs}
 use Rattle.sender.proofs.SenderLaws.{whole-step, all-alone, all-idle}
 use Rattle.sender.proofs.send_all.Statement.{statement}
@@ -8,7 +9,9 @@ choose-whole-requires : tie.Need-choose-whole-requires
 choose-whole-requires c κs = search needs
 
 send-whole-requires : tie.Need-send-whole-requires
-send-whole-requires c κs = search (whole-step, needs)
+send-whole-requires c κs =
+    let s = c .before .before .before .before .before .before .before in
+    (whole-step (s .pre .0) (λ e. omega (arith, e)) (c .before .choose-whole .ensures), s .pre .1)
 
 same-length : tie.Need-same-length
 same-length c = search needs
@@ -23,13 +26,17 @@ same-length-2 : tie.Need-same-length-2
 same-length-2 c = search needs
 
 returns-2 : tie.Need-returns-2
-returns-2 c = search (all-idle, needs)
+returns-2 c =
+    let s = c .before .before .before .before .before .before .before .before .before .before in
+    all-idle (s .pre .0) (omega arith) (omega arith) (c .before .before .send-silence .ensures)
 
 first-of-all-requires : tie.Need-first-of-all-requires
 first-of-all-requires c κs = search needs
 
 send-row-requires : tie.Need-send-row-requires
-send-row-requires c κs = search (all-alone, needs)
+send-row-requires c κs =
+    let s = c .before .before .before .before .before .before .before .before .before in
+    (all-alone (s .pre .0) (omega arith) (λ e. omega (arith, e)) (c .before .first-of-all .ensures), s .pre .1)
 
 same-length-3 : tie.Need-same-length-3
 same-length-3 c = search needs

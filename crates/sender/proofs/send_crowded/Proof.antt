@@ -1,9 +1,6 @@
 -- `sender::send_crowded` meets its contract.
-use mathlib.Core.Path.{ap}
-use mathlib.Core.Bool.{not}
 use borrow.Author.Needs.{needs}
-use borrow.Author.Tests.{ne-eqb}
-use Rattle.sender.proofs.SenderLaws.{led}
+use Rattle.sender.proofs.SenderLaws.{is-asked, led}
 use Rattle.sender.proofs.send_crowded.Statement.{statement}
 use Rattle.sender.proofs.send_crowded.Tie as tie
 
@@ -13,7 +10,7 @@ plan-of-requires c κs = search needs
 send-led-requires : tie.Need-send-led-requires
 send-led-requires c κs =
     let s = c .before .before .before .before .before .before .before .before .before .before .before .before .before .before .before .before .before .before .before .before .before .before .before .before .before .before .before in
-    led _ _ _ _ _ _ _ _ _ (s .pre) _ _ _ _ (λ u. ap not (ne-eqb (s .args .round .sealed) 1 u)) (c .before .before .before .before .before .before .before .before .before .before .before .before .before .before .plan-of .ensures) _ _ (search needs) (search needs)
+    led _ _ _ _ _ _ _ _ _ (s .pre) _ _ _ _ (λ u. search (is-asked, needs)) (c .before .before .before .before .before .before .before .before .before .before .before .before .before .before .plan-of .ensures) _ _ (search needs) (search needs)
 
 same-length : tie.Need-same-length
 same-length c = search needs

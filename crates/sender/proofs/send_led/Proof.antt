@@ -1,14 +1,17 @@
 -- `sender::send_led` meets its contract.
 use Rattle.sender.proofs.SenderLaws.{first-lent, first-alone, planned-step}
+use native.Mathlib.Omega.{arith}
 use borrow.Author.Needs.{needs}
 use Rattle.sender.proofs.send_led.Statement.{statement}
 use Rattle.sender.proofs.send_led.Tie as tie
 
 first-planned-requires : tie.Need-first-planned-requires
-first-planned-requires c κs = search (first-lent, needs)
+first-planned-requires c κs = first-lent (c .before .before .before .before .before .before .before .before .pre)
 
 send-row-requires : tie.Need-send-row-requires
-send-row-requires c κs = search (first-alone, needs)
+send-row-requires c κs =
+    let s = c .before .before .before .before .before .before .before .before .before .before in
+    (first-alone (s .pre) (omega arith) (c .before .first-planned .ensures), s .pre .due)
 
 same-length : tie.Need-same-length
 same-length c = search needs
@@ -20,7 +23,9 @@ segments-of-requires : tie.Need-segments-of-requires
 segments-of-requires c κs = search needs
 
 send-planned-requires : tie.Need-send-planned-requires
-send-planned-requires c κs = search (planned-step, needs)
+send-planned-requires c κs =
+    let s = c .before .before .before .before .before .before .before .before .before .before .before .before .before .before .before .before .before .before .before .before .before .before in
+    (planned-step (s .pre) (λ e. omega (arith, e, c .before .before .before .before .before .before .before .before .before .before .before .before .before .before .if1 .left)) _ _ _ _ (c .before .before .before .before .before .before .before .before .before .before .segments-of .ensures), s .pre .due)
 
 same-length-2 : tie.Need-same-length-2
 same-length-2 c = search needs

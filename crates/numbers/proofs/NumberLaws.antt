@@ -55,10 +55,9 @@ pub field8 : (bs : List ℕ) (a : ℕ) → a + 8 ≤ length bs → field a 8 bs 
 field8 bs a h = omega (arith, field-four bs a 4 (omega arith), field4 bs a (omega arith))
 
 -- stores side by side, as the code writes their places
-pub sets1 : (bs : List ℕ) (a v b : ℕ) → v ≤ 255 → b ≡ v → set bs a b ≡ sets bs a (low 1 v)
+pub sets1 : (bs : List ℕ) (a v : ℕ) → set bs a (v % 256) ≡ sets bs a (low 1 v)
 unfolding low
-sets1 bs a v b h e =
-    let f : b ≡ v % 256 = omega arith in ap (set bs a) f
+sets1 bs a v = refl
 
 pub sets2 : (bs : List ℕ) (a v : ℕ) → set (set bs a (v % 256)) (a + 1) (v / 256 % 256) ≡ sets bs a (low 2 v)
 unfolding low

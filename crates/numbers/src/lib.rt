@@ -5,6 +5,12 @@ ghost use lib.ListN.{length};
 ghost use lib.Seq.{sets};
 ghost use Rattle.rules.specs.Table.{low, field};
 
+fn join1(b0: u8) -> u32
+    ensures { λ r. ⌜ r ≡ b0 ⌝ }
+{
+    b0 as u32
+}
+
 fn join2(b0: u8, b1: u8) -> u32
     ensures { λ r. ⌜ r ≡ b0 + 256 * b1 ⌝ }
 {
@@ -23,11 +29,11 @@ fn join8(low: u32, high: u32) -> u64
     low as u64 + 4294967296 * (high as u64)
 }
 
-pub fn read1(bytes: &[u8], at: usize) -> u8
+pub fn read1(bytes: &[u8], at: usize) -> u32
     requires { ⌜ at + 1 ≤ length (now bytes) ⌝ }
     ensures { λ r. ⌜ r ≡ field at 1 (now (bytes .entry)) ⌝ }
 {
-    bytes[at]
+    join1(bytes[at])
 }
 
 pub fn read2(bytes: &[u8], at: usize) -> u32
@@ -52,11 +58,11 @@ pub fn read8(bytes: &[u8], at: usize) -> u64
     join8(read4(bytes, at), read4(bytes, at + 4))
 }
 
-pub fn write1(bytes: &mut [u8], at: usize, value: u8)
+pub fn write1(bytes: &mut [u8], at: usize, value: u32)
     requires { ⌜ at + 1 ≤ length (now bytes) ⌝ }
     ensures { λ _. ⌜ now (bytes .exit) ≡ sets (now (bytes .entry)) at (low 1 value) ⌝ }
 {
-    bytes[at] = value;
+    bytes[at] = (value % 256) as u8;
 }
 
 pub fn write2(bytes: &mut [u8], at: usize, value: u32)

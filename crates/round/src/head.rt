@@ -37,9 +37,9 @@ pub fn read_head(table: &[u8]) -> Round
         slot: Slot(read2(table, Round::SLOT_AT)),
         last: Slot(read2(table, Round::LAST_AT)),
         next: Ticket(read4(table, Round::NEXT_AT)),
+        sealed: read1(table, Round::SEALED_AT),
         used: read2(table, Round::USED_AT) as usize,
         room: rows_of(table),
-        sealed: read1(table, Round::SEALED_AT),
     }
 }
 

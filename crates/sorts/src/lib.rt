@@ -15,10 +15,10 @@ pub struct Round {
     pub slot: Slot,
     pub last: Slot,
     pub next: Ticket,
+    // 1 for a sealed round, else 0. A number of 32 bits here, so that the value has no gap.
+    pub sealed: u32,
     pub used: usize,
     pub room: usize,
-    // 1 for a sealed round, else 0.
-    pub sealed: u8,
 }
 
 impl Round {
@@ -78,9 +78,9 @@ impl Round {
             slot: Slot(0),
             last,
             next: Ticket(1),
+            sealed: 0,
             used: 0,
             room,
-            sealed: 0,
         }
     }
 
@@ -96,9 +96,9 @@ impl Round {
             slot,
             last,
             next: Ticket(self.next.0 + 1),
+            sealed: self.sealed,
             used: self.used + 1,
             room: self.room,
-            sealed: self.sealed,
         }
     }
 }

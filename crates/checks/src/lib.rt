@@ -3,7 +3,7 @@ ghost use mathlib.Core.Path.{_≡_};
 ghost use mathlib.Core.Bool.{_||_};
 ghost use lib.Dec.{ltb, leb};
 ghost use Rattle.rules.specs.Rows.{framed, until};
-ghost use Rattle.rules.specs.Calls.{first-of, open-tests, take-tests, send-tests, seal-tests, mark-tests};
+ghost use Rattle.rules.specs.Calls.{first-of, open-tests, take-tests, send-tests, mark-tests};
 ghost use Rattle.sorts.specs.Tail.{tail-of};
 use sorts::Round;
 use sorts::Slot;
@@ -48,15 +48,6 @@ pub fn taking_refusal(round: Round, due: Slot, weight: Weight) -> u32
 // Of a sending, and of every other call that asks for no more than a slot left.
 pub fn sending_refusal(round: Round) -> u32
     ensures { λ r. ⌜ r ≡ first-of (send-tests (round .slot .0) (round .last .0)) ⌝ }
-{
-    if is_over(round) {
-        return 5;
-    }
-    0
-}
-
-pub fn sealing_refusal(round: Round) -> u32
-    ensures { λ r. ⌜ r ≡ first-of (seal-tests (round .slot .0) (round .last .0)) ⌝ }
 {
     if is_over(round) {
         return 5;

@@ -4,7 +4,7 @@ ghost use Rattle.rules.specs.Table.{table-refusal};
 ghost use Rattle.rules.specs.Calls.{sealing, acting, Says};
 ghost use Rattle.round.specs.Head.{Head-of};
 ghost use Rattle.replies.specs.Replies.{of-sealed};
-use checks::sealing_refusal;
+use checks::sending_refusal;
 use replies::Sealed;
 use round::sound::Judged;
 use round::sound::judge;
@@ -24,7 +24,7 @@ fn seal_sound(table: &mut [u8], round: Round) -> Sealed
     requires { ⌜ (table-refusal (now table) ≡ 0) × Head-of (now table) round ⌝ }
     ensures { λ r. ⌜ Says (acting sealing) (of-sealed r) (now (table .entry)) (now (table .exit)) ⌝ }
 {
-    let refusal = sealing_refusal(round);
+    let refusal = sending_refusal(round);
     if 0 < refusal {
         return Sealed::Refused(refusal);
     }

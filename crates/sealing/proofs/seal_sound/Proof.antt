@@ -4,8 +4,8 @@ use Rattle.sealing.proofs.Closed.{byte-there, refused-says, closed-says
 use Rattle.sealing.proofs.seal_sound.Statement.{statement}
 use Rattle.sealing.proofs.seal_sound.Tie as tie
 
-sealing-refusal-requires : tie.Need-sealing-refusal-requires
-sealing-refusal-requires c κs = search needs
+sending-refusal-requires : tie.Need-sending-refusal-requires
+sending-refusal-requires c κs = search needs
 
 returns : tie.Need-returns
 returns c = search refused-says
@@ -20,4 +20,4 @@ returns-2 : tie.Need-returns-2
 returns-2 c = search closed-says
 
 pub seal-sound-spec : {M : Type 1} → statement M
-seal-sound-spec = tie.close (tie.spec sealing-refusal-requires returns slice-write-table same-length returns-2)
+seal-sound-spec = tie.close (tie.spec sending-refusal-requires returns slice-write-table same-length returns-2)

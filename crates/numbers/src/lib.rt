@@ -62,7 +62,8 @@ pub fn write1(bytes: &mut [u8], at: usize, value: u32)
     requires { ⌜ at + 1 ≤ length (now bytes) ⌝ }
     ensures { λ _. ⌜ now (bytes .exit) ≡ sets (now (bytes .entry)) at (low 1 value) ⌝ }
 {
-    bytes[at] = (value % 256) as u8;
+    let byte = value % 256;
+    bytes[at] = byte as u8;
 }
 
 pub fn write2(bytes: &mut [u8], at: usize, value: u32)

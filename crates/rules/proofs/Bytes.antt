@@ -9,18 +9,18 @@ use Rattle.rules.specs.Table.{low, value, field, put, row-bytes, rows-by
 use Rattle.rules.specs.Calls.{first, act, deed, round-refusal, leaves, table-first, refusal, left}
 use Rattle.rules.proofs.Played.{seals}
 
--- slot 0102, last slot 0304, next ticket 00060608, sealed, one frame and one kept blank in 259 rows (hexadecimal)
+-- slot 0102, last slot 0304, next ticket 00060608, sealed, one frame of class 2 and one kept blank in 259 rows (hexadecimal)
 abbrev pub vector-round : Round
-vector-round = round 258 772 394760 259 (row 66051 515 16777216 frame-tail ∷ row 394759 772 197121 blank-tail ∷ []) sealed-tail
+vector-round = round 258 772 394760 259 (row 66051 515 16777216 (frame-tail 2) ∷ row 394759 772 197121 blank-tail ∷ []) sealed-tail
 
 -- its bytes, whatever byte 10 is
 abbrev pub vector-with : (sealed : ℕ) → List ℕ
 vector-with b =
     -- current slot, last slot, next ticket, rows in use, sealed, zeros
     2 ∷ 1 ∷ 4 ∷ 3 ∷ 8 ∷ 6 ∷ 6 ∷ 0 ∷ 2 ∷ 0 ∷ b ∷ 0 ∷ 0 ∷ 0 ∷ 0 ∷ 0 ∷
-    -- ticket, due slot, weight, kind, zeros
-    3 ∷ 2 ∷ 1 ∷ 0 ∷ 3 ∷ 2 ∷ 0 ∷ 0 ∷ 0 ∷ 1 ∷ 0 ∷ 0 ∷ 0 ∷ 0 ∷ 0 ∷ 0 ∷ 0 ∷ 0 ∷ 0 ∷ 0 ∷ 0 ∷ 0 ∷ 0 ∷ 0 ∷
-    7 ∷ 6 ∷ 6 ∷ 0 ∷ 4 ∷ 3 ∷ 1 ∷ 2 ∷ 3 ∷ 0 ∷ 1 ∷ 0 ∷ 0 ∷ 0 ∷ 0 ∷ 0 ∷ 0 ∷ 0 ∷ 0 ∷ 0 ∷ 0 ∷ 0 ∷ 0 ∷ 0 ∷
+    -- ticket, due slot, weight, kind, class, zeros
+    3 ∷ 2 ∷ 1 ∷ 0 ∷ 3 ∷ 2 ∷ 0 ∷ 0 ∷ 0 ∷ 1 ∷ 0 ∷ 2 ∷ 0 ∷ 0 ∷ 0 ∷ 0 ∷ 0 ∷ 0 ∷ 0 ∷ 0 ∷ 0 ∷ 0 ∷ 0 ∷ 0 ∷
+    7 ∷ 6 ∷ 6 ∷ 0 ∷ 4 ∷ 3 ∷ 1 ∷ 2 ∷ 3 ∷ 0 ∷ 1 ∷ 3 ∷ 0 ∷ 0 ∷ 0 ∷ 0 ∷ 0 ∷ 0 ∷ 0 ∷ 0 ∷ 0 ∷ 0 ∷ 0 ∷ 0 ∷
     replicate (24 * 257) 0
 
 pub vector-written : table vector-round ≡ vector-with 1
@@ -40,7 +40,7 @@ unfolding row round low value field put row-bytes rows-bytes head-bytes table ro
 vector-sound = refl
 
 -- and the head alone with 0102 rows in use, unsealed
-pub vector-head : take 16 (table (round 258 772 394760 259 (replicate 258 (row 1 515 1 frame-tail)) unsealed-tail)) ≡ 2 ∷ 1 ∷ 4 ∷ 3 ∷ 8 ∷ 6 ∷ 6 ∷ 0 ∷ 2 ∷ 1 ∷ replicate 6 0
+pub vector-head : take 16 (table (round 258 772 394760 259 (replicate 258 (row 1 515 1 (frame-tail 0))) unsealed-tail)) ≡ 2 ∷ 1 ∷ 4 ∷ 3 ∷ 8 ∷ 6 ∷ 6 ∷ 0 ∷ 2 ∷ 1 ∷ replicate 6 0
 unfolding row round low put row-bytes rows-bytes head-bytes table
 vector-head = refl
 

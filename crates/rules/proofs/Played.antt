@@ -15,7 +15,10 @@ abbrev pub opens : (last : ℕ) → Call
 opens l = opening (until l)
 
 abbrev pub takes : (due weight : ℕ) → Call
-takes d w = acting (taking (framed d w))
+takes d w = acting (taking (framed d w 0))
+
+abbrev pub takes-of : (class due weight : ℕ) → Call
+takes-of c d w = acting (taking (framed d w c))
 
 abbrev pub sends : Call
 sends = acting sending
@@ -36,16 +39,19 @@ plain t l n k xs = round t l n k xs unsealed-tail
 abbrev pub plain-sealed : (slot last next room : ℕ) → List Row → Round
 plain-sealed t l n k xs = round t l n k xs sealed-tail
 
--- a waiting frame and a kept blank: ticket, due slot, weight
+-- a waiting frame, of class 0 and of any class, and a kept blank: ticket, due slot, weight
 abbrev pub waits : (ticket due weight : ℕ) → Row
-waits k d w = row k d w frame-tail
+waits k d w = row k d w (frame-tail 0)
+
+abbrev pub waits-of : (class ticket due weight : ℕ) → Row
+waits-of c k d w = row k d w (frame-tail c)
 
 abbrev pub keeps : (ticket due weight : ℕ) → Row
 keeps k d w = row k d w blank-tail
 
 -- entries lent to a listing, no two alike
 abbrev pub old : ℕ → Row
-old n = row 0 n 0 (record { kind = 9 })
+old n = row 0 n 0 (record { kind = 9; class = 9 })
 
 abbrev pub lent : (room : ℕ) → List Row
 lent zero = []

@@ -5,7 +5,7 @@ use mathlib.Core.List.{List, [], _∷_}
 use Prim.Native.Nat.{ℕ}
 use lib.Dec.{ltb, leb, eqb}
 use lib.ListN.{length}
-use Rattle.rules.specs.Limits.{most-last, most-weight, ticket-limit}
+use Rattle.rules.specs.Limits.{most-last, most-weight, ticket-limit, most-class}
 use Rattle.rules.specs.Rows.{Frame, Setup, Head-tail, Row, Round}
 use Rattle.rules.specs.Plan.{total, mark}
 use Rattle.rules.specs.Steps.{opened, taken, sealed, goes, sent, is-ordinary}
@@ -84,8 +84,8 @@ open-tests u = (ltb most-last (u .last) ⇒ 4) ∷ []
 
 abbrev pub take-tests : (slot last next used room : ℕ) → Head-tail → Frame → List Test
 take-tests t l n u k m f =
-    over t l ∷ is-sealed m ∷ ((eqb (f .weight) 0 || ltb most-weight (f .weight)) ⇒ 6) ∷ not-ahead t l (f .due) ∷ (eqb n ticket-limit ⇒ 8)
-    ∷ (leb k u ⇒ 9) ∷ []
+    over t l ∷ is-sealed m ∷ ((eqb (f .weight) 0 || ltb most-weight (f .weight)) ⇒ 6) ∷ not-ahead t l (f .due) ∷ (ltb most-class (f .class) ⇒ 14)
+    ∷ (eqb n ticket-limit ⇒ 8) ∷ (leb k u ⇒ 9) ∷ []
 
 abbrev pub send-tests : (slot last : ℕ) → List Test
 send-tests t l = over t l ∷ []

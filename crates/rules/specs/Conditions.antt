@@ -5,7 +5,7 @@ use mathlib.Core.Bool.{true, false}
 use mathlib.Core.List.{List, [], _∷_}
 use Prim.Native.Nat.{ℕ, suc, _+_, _*_, _≤_, _<_}
 use lib.ListN.{length, getD}
-use Rattle.rules.specs.Limits.{head-size, row-size, most-rows, most-last, most-weight, ticket-limit, slot-at, last-at, next-at, used-at, sealed-at, head-zeros-at, ticket-at, due-at, weight-at, kind-at, row-zeros-at, slot-bytes, wide-bytes, kind-bytes, flag-bytes}
+use Rattle.rules.specs.Limits.{head-size, row-size, most-rows, most-last, most-weight, ticket-limit, most-class, slot-at, last-at, next-at, used-at, sealed-at, head-zeros-at, ticket-at, due-at, weight-at, kind-at, class-at, row-zeros-at, slot-bytes, wide-bytes, kind-bytes, class-bytes, flag-bytes}
 use Rattle.rules.specs.Rows.{Row, In}
 use Rattle.rules.specs.Plan.{plan, in-plan, listed}
 use Rattle.rules.specs.Table.{field, rows-of, round-in}
@@ -51,11 +51,16 @@ weight-in t i = field (row-at i + weight-at) wide-bytes t
 abbrev pub kind-in : List ℕ → (row : ℕ) → ℕ
 kind-in t i = field (row-at i + kind-at) kind-bytes t
 
--- A SOUND TABLE: one fact for each clause of document 01, and of L1 the head's byte 10
+abbrev pub class-in : List ℕ → (row : ℕ) → ℕ
+class-in t i = field (row-at i + class-at) class-bytes t
+
+-- A SOUND TABLE: one fact for each clause of document 01, of L1 the head's byte 10, and of L2 two for a row's byte 11
 pub record Sound (t : List ℕ) : Type 0 where
   pub head-zeros : (i : ℕ) → head-zeros-at ≤ i → i < head-size → getD t i 0 ≡ 0
   pub row-zeros : (i j : ℕ) → i < used-in t → row-zeros-at ≤ j → j < row-size → getD t (row-at i + j) 0 ≡ 0
   pub kinds : (i : ℕ) → i < used-in t → kind-in t i ≤ 1
+  pub classes : (i : ℕ) → i < used-in t → class-in t i ≤ most-class
+  pub kept-class : (i : ℕ) → i < used-in t → kind-in t i ≡ 1 → class-in t i ≡ most-class
   pub rows-fit : used-in t ≤ rows-of t
   pub last-most : last-in t ≤ most-last
   pub slot-most : slot-in t ≤ suc (last-in t)
@@ -123,8 +128,8 @@ if-sound t cs = (Length-bad t gives 2) ∷ (Unsound t gives 3) ∷ cs
 
 unfoldable pub act-conditions : Act → List ℕ → List Condition
 act-conditions (taking f) t =
-    (Past t gives 5) ∷ ((sealed-in t ≡ 1) gives 13) ∷ (Weight-bad (f .weight) gives 6) ∷ (Slot-bad (f .due) t gives 7) ∷ ((next-in t ≡ ticket-limit) gives 8)
-    ∷ ((used-in t ≡ rows-of t) gives 9) ∷ []
+    (Past t gives 5) ∷ ((sealed-in t ≡ 1) gives 13) ∷ (Weight-bad (f .weight) gives 6) ∷ (Slot-bad (f .due) t gives 7)
+    ∷ ((most-class < f .class) gives 14) ∷ ((next-in t ≡ ticket-limit) gives 8) ∷ ((used-in t ≡ rows-of t) gives 9) ∷ []
 act-conditions sending t = (Past t gives 5) ∷ []
 act-conditions sealing t = (Past t gives 5) ∷ []
 

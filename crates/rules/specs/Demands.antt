@@ -6,13 +6,13 @@ use Prim.Native.Nat.{ℕ, suc, _+_, _*_, _-_, _≤_, _<_}
 use lib.Dec.{leb, eqb}
 use lib.ListN.{length, getD, take, drop}
 use Rattle.rules.specs.Limits.{head-size, row-size, most-rows, most-last, most-weight}
-use Rattle.rules.specs.Rows.{Frame, Setup, Row, Round, chosen, slots-left, sorted, heavier, canonical, Heavier, Canonical}
+use Rattle.rules.specs.Rows.{Frame, Setup, Row, Round, chosen, slots-left, sorted, heavier, canonical, old-heavier, Heavier, Canonical, Old-heavier}
 use Rattle.rules.specs.Plan.{plan, total, total-weight, mark, feasible, planned, listed, beats-golden, golden-more}
 use Rattle.rules.specs.Steps.{opened, sent}
 use Rattle.rules.specs.Table.{value, table, round-in, round-good, table-refusal}
 use Rattle.rules.specs.Calls.{taking, sending, marking, totalling, Call, opening, acting, asking, Reply, refused, done, ticket, step, amount, number-of, ordinary, silence, refusal, round-refusal, says, answer, left, run, replies, at}
 use Rattle.rules.specs.Looking.{substitute-answer, Shown, list-refusal, list-answer, list-left, View, the-plan, shows}
-use Rattle.rules.specs.Lines.{Command, command, text, stands, read, read-refusal, payload-at, Place, payload-place, payload, write-refusal, write-answer, write-left, fresh-table, printed}
+use Rattle.rules.specs.Lines.{Command, command, text, stands, read, read-refusal, payload-from, Place, payload-place, payload, write-refusal, write-answer, write-left, fresh-table, printed}
 use Rattle.rules.specs.Reads.{complete-from, begun-from, calls-of, written-for, between-after, Some-bytes, joined}
 use Rattle.rules.specs.Conditions.{_⟺_, Bytes, Length-bad, Sound, when, accepted, No-command, refusal-given, substitute-given, list-given, read-given}
 use Rattle.rules.specs.PlanM.{PlanM, Above-golden, Golden-more, score}
@@ -136,7 +136,9 @@ unfoldable pub Steps-only : Type 0
 Steps-only = (r n : Round) → round-good r ≡ true → r .slot ≤ r .last → Makes r n → n ≡ sent r
 
 unfoldable pub Orders : Type 0
-Orders = (a b : Row) → ((heavier a b ≡ true) ⟺ Heavier a b) × ((canonical a b ≡ true) ⟺ Canonical a b)
+Orders =
+    (a b : Row) →
+    ((heavier a b ≡ true) ⟺ Heavier a b) × ((canonical a b ≡ true) ⟺ Canonical a b) × ((old-heavier a b ≡ true) ⟺ Old-heavier a b)
 
 unfoldable pub Golden : Type 0
 Golden =
@@ -205,7 +207,7 @@ unfoldable pub Payload-places : Type 0
 Payload-places =
     ((line : List ℕ) → No-command line → Place-is (payload-place line) 0 0)
     × ((c : Command) → stands c [] ≡ true → Place-is (payload-place (text c [])) 0 0)
-    × ((c : Command) (ps : List ℕ) → stands c ps ≡ true → 1 ≤ length ps → Place-is (payload-place (text c ps)) payload-at (payload-at + length ps))
+    × ((c : Command) (ps : List ℕ) → stands c ps ≡ true → 1 ≤ length ps → Place-is (payload-place (text c ps)) (payload-from c) (payload-from c + length ps))
 
 -- THE PROGRAM: for every way in which an input is cut into reads, what is written for them, one after another, is what the whole prints;
 -- the table is that of the calls of its lines, and the line begun is held

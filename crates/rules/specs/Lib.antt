@@ -15,4 +15,5 @@ pub mod PlanM
 pub mod StepsOf
 pub mod Demands
 pub mod Sealed
+pub mod Classes
 pub mod Hindsight

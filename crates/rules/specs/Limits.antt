@@ -22,7 +22,11 @@ most-weight = 16777216
 abbrev pub ticket-limit : ℕ
 ticket-limit = 16777216
 
--- widths in bytes: a slot or a count of rows; a ticket or a weight; a kind; yes or no
+-- classes are 0 (price) to 3 (picture) (L2)
+abbrev pub most-class : ℕ
+most-class = 3
+
+-- widths in bytes: a slot or a count of rows; a ticket or a weight; a kind; a class; yes or no
 abbrev pub slot-bytes : ℕ
 slot-bytes = 2
 
@@ -31,6 +35,9 @@ wide-bytes = 4
 
 abbrev pub kind-bytes : ℕ
 kind-bytes = 1
+
+abbrev pub class-bytes : ℕ
+class-bytes = 1
 
 abbrev pub flag-bytes : ℕ
 flag-bytes = 1
@@ -65,9 +72,9 @@ sealed-at = 10
 abbrev pub head-zeros-at : ℕ
 head-zeros-at = size head-widths
 
--- a row: ticket, due slot, weight, its tail, which is the kind; where each begins, and its zeros
+-- a row: ticket, due slot, weight, its tail, which is kind and class; where each begins, and its zeros
 abbrev pub tail-widths : List ℕ
-tail-widths = kind-bytes ∷ []
+tail-widths = kind-bytes ∷ class-bytes ∷ []
 
 abbrev pub row-widths : List ℕ
 row-widths = wide-bytes ∷ slot-bytes ∷ wide-bytes ∷ tail-widths
@@ -84,10 +91,13 @@ weight-at = 6
 abbrev pub kind-at : ℕ
 kind-at = 10
 
+abbrev pub class-at : ℕ
+class-at = 11
+
 abbrev pub row-zeros-at : ℕ
 row-zeros-at = size row-widths
 
--- text lines: digits of a line's or a refusal's number, of a slot, of a weight or ticket, and the most payload digits
+-- text lines: digits of a line's or a refusal's number or of a class, of a slot, of a weight or ticket, and the most payload digits
 abbrev pub short-digits : ℕ
 short-digits = 2
 

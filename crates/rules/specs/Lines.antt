@@ -70,6 +70,7 @@ forms =
     ∷ form 1 (slot-digits ∷ wide-digits ∷ []) true
     ∷ form 2 [] false
     ∷ form 3 [] false
+    ∷ form 4 (slot-digits ∷ wide-digits ∷ short-digits ∷ []) true
     ∷ []
 
 -- the form of a line number; a number that no line has would stand alone, and makes no command
@@ -91,30 +92,34 @@ payload-fits false n = eqb n 0
 unfoldable pub has-length : Form → (n : ℕ) → Bool
 has-length f n = leb (front-size f) n && payload-fits (f .payload) (n - front-size f)
 
--- A COMMAND, one for each line number: that number and its values; the call that it asks for
+-- A COMMAND, one for each line number: that number and its values; the call that it asks for, where 01 means class 0
 pub data Command : Type 0 where
   open-line : (last : ℕ) → Command
   take-line : (due weight : ℕ) → Command
   send-line : Command
   seal-line : Command
+  class-line : (due weight class : ℕ) → Command
 
 unfoldable pub line-number : Command → ℕ
 line-number (open-line l) = 0
 line-number (take-line d w) = 1
 line-number send-line = 2
 line-number seal-line = 3
+line-number (class-line d w c) = 4
 
 unfoldable pub values-of : Command → List ℕ
 values-of (open-line l) = l ∷ []
 values-of (take-line d w) = d ∷ w ∷ []
 values-of send-line = []
 values-of seal-line = []
+values-of (class-line d w c) = d ∷ w ∷ c ∷ []
 
 unfoldable pub call-of : Command → Call
 call-of (open-line l) = opening (until l)
-call-of (take-line d w) = acting (taking (framed d w))
+call-of (take-line d w) = acting (taking (framed d w 0))
 call-of send-line = acting sending
 call-of seal-line = acting sealing
+call-of (class-line d w c) = acting (taking (framed d w c))
 
 abbrev pub form-of : Command → Form
 form-of c = form-numbered (line-number c)
@@ -150,7 +155,8 @@ command-of k vs =
     cond (eqb k 0) (command (open-line (getD vs 0 0)))
     (cond (eqb k 1) (command (take-line (getD vs 0 0) (getD vs 1 0)))
     (cond (eqb k 2) (command send-line)
-    (cond (eqb k 3) (command seal-line) broken)))
+    (cond (eqb k 3) (command seal-line)
+    (cond (eqb k 4) (command (class-line (getD vs 0 0) (getD vs 1 0) (getD vs 2 0))) broken))))
 
 unfoldable pub read-digits : List ℕ → Reading
 read-digits ds =
@@ -182,9 +188,19 @@ payload-place line = place-of (read line) (length line)
 unfoldable pub payload : List ℕ → List ℕ
 payload line = take (payload-place line .end - payload-place line .start) (drop (payload-place line .start) line)
 
--- where the payload of line 01 begins
+-- where the payload of line 01 begins, and that of line 04; of a command, 0 where it has none
 abbrev pub payload-at : ℕ
 payload-at = 14
+
+abbrev pub class-payload-at : ℕ
+class-payload-at = 16
+
+abbrev pub payload-from : Command → ℕ
+payload-from (open-line l) = 0
+payload-from (take-line d w) = payload-at
+payload-from send-line = 0
+payload-from seal-line = 0
+payload-from (class-line d w c) = class-payload-at
 
 -- THE WRITER into a lent buffer: 1, 12; the length with its 0A, and the buffer afterwards
 unfoldable pub write-refusal : Command → (payload : List ℕ) → (room : ℕ) → ℕ

@@ -19,7 +19,8 @@ fits-from (suc n) s t xs = leb (due-by s xs) (suc s - t) && fits-from n (suc s) 
 unfoldable pub feasible : Round → List Row → Bool
 feasible r xs = fits-from (slots-left r) (r .slot) (r .slot) xs
 
--- THE PLAN: rows from heaviest to lightest, then blanks by rising due slots, each kept that leaves the set feasible
+-- THE PLAN: rows from heaviest to lightest, then blanks by rising due slots, each kept that leaves the set feasible;
+-- by whichever order among rows, and by heavier
 unfoldable pub kept : Round → (rest plan : List Row) → List Row
 kept r [] ps = ps
 kept r (x ∷ xs) ps = kept r xs (cond (feasible r (x ∷ ps)) (x ∷ ps) ps)
@@ -28,8 +29,11 @@ unfoldable pub blanks-from : (left s : ℕ) → (many : ℕ) → List Row
 blanks-from zero s k = []
 blanks-from (suc n) s k = replicate k (blank s) ++ blanks-from n (suc s) k
 
+abbrev pub plan-by : (before : Row → Row → Bool) → Round → List Row
+plan-by f r = kept r (sorted f (r .rows) ++ blanks-from (slots-left r) (r .slot) (slots-left r)) []
+
 unfoldable pub plan : Round → List Row
-plan r = kept r (sorted heavier (r .rows) ++ blanks-from (slots-left r) (r .slot) (slots-left r)) []
+plan r = plan-by heavier r
 
 -- THE TOTAL of the plan
 unfoldable pub total-weight : List Row → ℕ

@@ -6,7 +6,7 @@ use lib.Dec.{ltb, eqb}
 use lib.ListN.{length}
 use Rattle.rules.specs.Limits.{most-payload}
 use Rattle.rules.specs.Calls.{Call, refused, run}
-use Rattle.rules.specs.Lines.{call-of, line-end, Reading, command, broken, reading-refusal, read, payload-at, reply-text, printed-from}
+use Rattle.rules.specs.Lines.{call-of, line-end, Reading, command, broken, reading-refusal, read, class-payload-at, reply-text, printed-from}
 
 -- an input's COMPLETE LINES, each with its 0A; and the LINE BEGUN behind the last 0A
 unfoldable pub complete-from : (begun : List ℕ) → List ℕ → List (List ℕ)
@@ -31,9 +31,9 @@ unfoldable pub stops : (lines : List (List ℕ)) → Bool
 stops [] = false
 stops (x ∷ xs) = not (eqb (reading-refusal (read x)) 0) || stops xs
 
--- no command's line is longer than 01 with a whole payload and its 0A: a longer line begun is refused before it ends
+-- no command's line is longer than 04 with a whole payload and its 0A: a longer line begun is refused before it ends
 abbrev pub longest-line : ℕ
-longest-line = suc (payload-at + most-payload)
+longest-line = suc (class-payload-at + most-payload)
 
 unfoldable pub overlong : (begun : List ℕ) → Bool
 overlong xs = ltb longest-line (length xs)

@@ -5,14 +5,16 @@ use mathlib.Core.Bool.{Bool, _&&_, _||_, cond}
 use mathlib.Core.List.{List, [], _∷_}
 use Prim.Native.Nat.{ℕ, suc, _-_, _<_}
 use lib.Dec.{ltb, eqb}
+use Rattle.rules.specs.Limits.{most-class}
 
--- A FRAME as it is handed in (the paper's packet)
+-- A FRAME as it is handed in (the paper's packet), with its class (L2)
 pub record Frame : Type 0 where
   pub due : ℕ
   pub weight : ℕ
+  pub class : ℕ
 
-abbrev pub framed : (due weight : ℕ) → Frame
-framed d w = record { due = d; weight = w }
+abbrev pub framed : (due weight class : ℕ) → Frame
+framed d w c = record { due = d; weight = w; class = c }
 
 -- A SETUP: what a round is opened with
 pub record Setup : Type 0 where
@@ -21,15 +23,16 @@ pub record Setup : Type 0 where
 abbrev pub until : (last : ℕ) → Setup
 until l = record { last = l }
 
--- A ROW's TAIL: what plan, marks and steps hand on unread. The kind is 0 of a frame, 1 of a kept blank
+-- A ROW's TAIL: what steps hand on as it is. The kind is 0 of a frame, 1 of a kept blank. The class (L2) only decides ties; a kept blank's is 3
 pub record Tail : Type 0 where
   pub kind : ℕ
+  pub class : ℕ
 
-abbrev pub frame-tail : Tail
-frame-tail = record { kind = 0 }
+abbrev pub frame-tail : (class : ℕ) → Tail
+frame-tail c = record { kind = 0; class = c }
 
 abbrev pub blank-tail : Tail
-blank-tail = record { kind = 1 }
+blank-tail = record { kind = 1; class = most-class }
 
 -- A ROW: a frame or a kept blank. Ticket 0: a blank without a row (a virtual packet)
 pub record Row : Type 0 where
@@ -42,7 +45,7 @@ unfoldable pub row : (ticket due weight : ℕ) → Tail → Row
 row k d w m = record { ticket = k; due = d; weight = w; tail = m }
 
 unfoldable pub blank : (due : ℕ) → Row
-blank s = record { ticket = 0; due = s; weight = 0; tail = frame-tail }
+blank s = record { ticket = 0; due = s; weight = 0; tail = frame-tail most-class }
 
 -- A HEAD's TAIL: what a round has beside its slots, tickets and rows, handed on by taking and sending. Sealed (L1) is 1, else 0
 pub record Head-tail : Type 0 where
@@ -78,18 +81,35 @@ with-tail m r = round (r .slot) (r .last) (r .next) (r .room) (r .rows) m
 unfoldable pub slots-left : Round → ℕ
 slots-left r = suc (r .last) - r .slot
 
--- HEAVIER: larger weight, then earlier due slot, then smaller ticket. CANONICAL ORDER: earlier due slot, then heavier
+-- HEAVIER: larger weight, then earlier due slot, then smaller class (L2), then smaller ticket. CANONICAL ORDER: earlier due slot, then heavier
 unfoldable pub heavier : Row → Row → Bool
 heavier a b =
     ltb (b .weight) (a .weight)
-    || (eqb (a .weight) (b .weight) && (ltb (a .due) (b .due) || (eqb (a .due) (b .due) && ltb (a .ticket) (b .ticket))))
+    || (eqb (a .weight) (b .weight)
+    && (ltb (a .due) (b .due)
+    || (eqb (a .due) (b .due)
+    && (ltb (a .tail .class) (b .tail .class) || (eqb (a .tail .class) (b .tail .class) && ltb (a .ticket) (b .ticket))))))
 
 unfoldable pub canonical : Row → Row → Bool
 canonical a b = ltb (a .due) (b .due) || (eqb (a .due) (b .due) && heavier a b)
 
+-- THE OLD ORDER, document 01's own, which L2 refines: larger weight, then earlier due slot, then smaller ticket
+unfoldable pub old-heavier : Row → Row → Bool
+old-heavier a b =
+    ltb (b .weight) (a .weight)
+    || (eqb (a .weight) (b .weight) && (ltb (a .due) (b .due) || (eqb (a .due) (b .due) && ltb (a .ticket) (b .ticket))))
+
 -- the same as facts
 abbrev pub Heavier : Row → Row → Type 0
 Heavier a b =
+    (b .weight < a .weight)
+    ⊎ ((a .weight ≡ b .weight)
+    × ((a .due < b .due)
+    ⊎ ((a .due ≡ b .due)
+    × ((a .tail .class < b .tail .class) ⊎ ((a .tail .class ≡ b .tail .class) × (a .ticket < b .ticket))))))
+
+abbrev pub Old-heavier : Row → Row → Type 0
+Old-heavier a b =
     (b .weight < a .weight)
     ⊎ ((a .weight ≡ b .weight) × ((a .due < b .due) ⊎ ((a .due ≡ b .due) × (a .ticket < b .ticket))))
 

@@ -12,7 +12,7 @@ opened u k = round 0 (u .last) 1 k [] unsealed-tail
 
 -- TAKING: the first unused row gets the next ticket
 abbrev pub taken-row : (ticket : ℕ) → Frame → Row
-taken-row k f = row k (f .due) (f .weight) frame-tail
+taken-row k f = row k (f .due) (f .weight) (frame-tail (f .class))
 
 unfoldable pub taken : Round → Frame → Round
 taken r f = going-on (r .slot) (suc (r .next)) (r .rows ++ (taken-row (r .next) f ∷ [])) r

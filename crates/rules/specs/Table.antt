@@ -1,11 +1,11 @@
 -- Rounds as tables of bytes, low byte first, with refusals 2 and 3.
-use mathlib.Core.Bool.{Bool, true, false, _&&_, not, cond}
+use mathlib.Core.Bool.{Bool, true, false, _&&_, _||_, not, cond}
 use mathlib.Core.List.{List, [], _∷_, _++_}
 use Prim.Native.Nat.{ℕ, zero, suc, _+_, _*_, _-_, _/_, _%_}
 use lib.Dec.{ltb, leb, eqb}
 use lib.ListN.{length, take, drop, replicate}
-use Rattle.rules.specs.Limits.{head-size, row-size, most-rows, most-last, most-weight, ticket-limit, slot-bytes, wide-bytes, kind-bytes, flag-bytes}
-use Rattle.rules.specs.Limits.{head-widths, slot-at, last-at, next-at, used-at, sealed-at, head-zeros-at, row-widths, ticket-at, due-at, weight-at, kind-at, row-zeros-at}
+use Rattle.rules.specs.Limits.{head-size, row-size, most-rows, most-last, most-weight, ticket-limit, most-class, slot-bytes, wide-bytes, kind-bytes, class-bytes, flag-bytes}
+use Rattle.rules.specs.Limits.{head-widths, slot-at, last-at, next-at, used-at, sealed-at, head-zeros-at, row-widths, ticket-at, due-at, weight-at, kind-at, class-at, row-zeros-at}
 use Rattle.rules.specs.Rows.{Tail, Row, Head-tail, Round, row, round}
 
 -- a number as bytes, and back
@@ -28,7 +28,7 @@ put (n ∷ ns) (v ∷ vs) = low n v ++ put ns vs
 
 -- A ROW's numbers and bytes
 abbrev pub tail-values : Tail → List ℕ
-tail-values m = m .kind ∷ []
+tail-values m = m .kind ∷ m .class ∷ []
 
 abbrev pub row-values : Row → List ℕ
 row-values x = x .ticket ∷ x .due ∷ x .weight ∷ tail-values (x .tail)
@@ -57,7 +57,7 @@ table r =
 
 -- the row that bytes begin with
 abbrev pub tail-in : List ℕ → Tail
-tail-in bs = record { kind = field kind-at kind-bytes bs }
+tail-in bs = record { kind = field kind-at kind-bytes bs; class = field class-at class-bytes bs }
 
 abbrev pub front-row : List ℕ → Row
 front-row bs = row (field ticket-at wide-bytes bs) (field due-at slot-bytes bs) (field weight-at wide-bytes bs) (tail-in bs)
@@ -90,7 +90,7 @@ every (b ∷ bs) = b && every bs
 
 -- a row's bounds, beside the slot, the last, the next ticket and the ticket of the row before
 abbrev pub tail-tests : Tail → List Bool
-tail-tests m = leb (m .kind) 1 ∷ []
+tail-tests m = leb (m .kind) 1 ∷ leb (m .class) most-class ∷ (eqb (m .kind) 0 || eqb (m .class) most-class) ∷ []
 
 abbrev pub row-tests : (slot last next before : ℕ) → Row → List Bool
 row-tests s l n b x =

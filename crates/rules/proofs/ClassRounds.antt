@@ -14,11 +14,11 @@ use Rattle.rules.specs.Looking.{with-ticket, stand-in, substitute-answer
 use Rattle.rules.specs.Classes.{old-total, old-mark}
 use Rattle.rules.proofs.Played.{opens, takes, takes-of, sends, seals, marks, totals, plain, plain-sealed, waits, waits-of, keeps, old, turn, listing, substituting, lists, refuses, head, Hand, found, tickets-of, played}
 
--- a kept blank of a class, and a frame: what only a damaged table holds
+-- a kept blank of any class; only a damaged table has one of another class than 3
 abbrev pub keeps-of : (class ticket due weight : ℕ) → Row
 keeps-of c k d w = row k d w (record { kind = 1; class = c })
 
--- what waits in the rounds below: three equal frames of classes 2, 1 and 0 and one of class 3; a leap with a shift
+-- four frames alike but for their classes; and what waits before a leap with a shift
 abbrev pub four-classes : List Row
 four-classes = waits-of 2 1 2 5 ∷ waits-of 1 2 2 5 ∷ waits-of 0 3 2 5 ∷ waits-of 3 4 2 5 ∷ []
 

@@ -77,7 +77,7 @@ reads =
           [];
       held = 48 ∷ 50 ∷ [];
       over = false;
-      rows = row 1 0 4 frame-tail ∷ row 2 1 11 frame-tail ∷ [];
+      rows = row 1 0 4 (frame-tail 0) ∷ row 2 1 11 (frame-tail 0) ∷ [];
     } ∷
     -- one byte at a time
     record {
@@ -131,10 +131,10 @@ reads =
       over = true;
       rows = [];
     } ∷
-    -- 63 bytes without a 0A are held, and the 0A makes a line of them; 64 are refused before it
+    -- 65 bytes without a 0A are held, and the 0A makes a line of them; 66 are refused before it
     record {
       reads =
-          (replicate 63 48) ∷
+          (replicate 65 48) ∷
           (10 ∷ []) ∷
           [];
       writes =
@@ -147,19 +147,19 @@ reads =
     } ∷
     record {
       reads =
-          (replicate 63 48) ∷
+          (replicate 65 48) ∷
           [];
       writes =
           [] ∷
           [];
-      held = replicate 63 48;
+      held = replicate 65 48;
       over = false;
       rows = [];
     } ∷
     record {
       reads =
           (48 ∷ 48 ∷ 48 ∷ 48 ∷ 48 ∷ 49 ∷ 10 ∷ replicate 40 48) ∷
-          (replicate 24 48) ∷
+          (replicate 26 48) ∷
           (10 ∷ []) ∷
           [];
       writes =

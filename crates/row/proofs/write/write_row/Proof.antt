@@ -1,4 +1,4 @@
--- `row::write::write_row` meets its contract: four stores are the row's numbers.
+-- `row::write::write_row` meets its contract: five stores are the row's numbers.
 use native.Mathlib.Omega.{arith}
 use lib.ListN.{length-set}
 use borrow.Author.Needs.{needs}

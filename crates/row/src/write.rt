@@ -26,7 +26,7 @@ pub fn write_row(table: &mut [u8], at: usize, ticket: Ticket, due: Slot, weight:
     write4(table, at + Round::TICKET_AT, ticket.0);
     write2(table, at + Round::DUE_AT, due.0);
     write4(table, at + Round::WEIGHT_AT, weight.0);
-    table[at + Round::KIND_AT] = 0;
+    write1(table, at + Round::KIND_AT, 0);
     write1(table, at + Round::CLASS_AT, class.0);
 }
 

@@ -10,8 +10,8 @@ use Rattle.theory.specs.Order.{Not-before, heavier-no, not-before-self, not-bef
 use Rattle.theory.specs.Full.{Fine}
 use Rattle.theory.specs.Keys.{getD-in}
 use Rattle.theory.specs.Index.{each-row}
-use Rattle.round.specs.Rows.{at, Due-at, Weight-at, Class-at}
-use Rattle.keys.specs.Key.{key, key-at, row-of}
+use Rattle.round.specs.Rows.{at, Due-at}
+use Rattle.keys.specs.Key.{key-at, row-of}
 use Rattle.keys.specs.KeyLaws.{row-is, greater-key}
 use Rattle.first.specs.First.{Is-first, Behind, Ahead, first-of, Sees, Leads}
 use Rattle.first.specs.declared.First.{First}
@@ -22,12 +22,6 @@ split P n a b j h = elim (eqb? j n) [
   | inl e ↦ subst P (sym (e .1)) b
   | inr e ↦ let k = e .1 in a j (omega arith)
 ]
-
--- a row's key as it is read
-pub key-read : (r : Round) (i d w c k : ℕ) → Due-at r i d → Weight-at r i w → Class-at r i c → k ≡ key w d c i → k ≡ key-at r i
-key-read r i d w c k a b s e =
-    e ∙ ap (λ (x : ℕ). key x d c i) (b .is) ∙ ap (λ (x : ℕ). key (at r i .weight) x c i) (a .is)
-    ∙ ap (λ (x : ℕ). key (at r i .weight) (at r i .due) x i) (s .is)
 
 pub lead-start : (r : Round) (d k : ℕ) → Due-at r 0 d → k ≡ key-at r 0 → Leads r 1 (first-of d k)
 lead-start r d k a e =

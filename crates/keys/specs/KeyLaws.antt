@@ -14,7 +14,7 @@ use Rattle.theory.specs.Bounds.{Row-fine}
 use Rattle.theory.specs.Full.{Fine}
 use Rattle.theory.specs.Order.{Not-over, heavier?}
 use Rattle.theory.specs.Keys.{getD-in, tickets-rise}
-use Rattle.round.specs.Rows.{at}
+use Rattle.round.specs.Rows.{Due-at, Weight-at, Class-at, at}
 use Rattle.keys.specs.Key.{key, rank, ranked, weight-of, lack-of, due-of, row-of, blank-key, key-at, May-lack, Lacks}
 
 -- RANKS are compared by due slot, then by class; and a key is made of one
@@ -62,6 +62,12 @@ key-some w d c i h = omega arith
 pub key-most : (w d c i : ℕ) → 1 ≤ w → d ≤ 4095 → c ≤ 3 → i < 1024 → key w d c i < blank-key
 unfolding key
 key-most w d c i h k l m = omega arith
+
+-- the key of a row as the code reads it
+pub key-read : (r : Round) (i d w c k : ℕ) → Due-at r i d → Weight-at r i w → Class-at r i c → k ≡ key w d c i → k ≡ key-at r i
+key-read r i d w c k a b s e =
+    e ∙ ap (λ (x : ℕ). key x d c i) (b .is) ∙ ap (λ (x : ℕ). key (at r i .weight) x c i) (a .is)
+    ∙ ap (λ (x : ℕ). key (at r i .weight) (at r i .due) x i) (s .is)
 
 -- a flag is 1 or 0
 pub flag-fits : (k f : ℕ) → k ≤ blank-key → f ≤ 1 → k * f < 18446744073709551616

@@ -8,7 +8,7 @@ use lib.Dec.{ltb, leb, eqb}
 use borrow.Author.Tests.{le-ltb, lt-leb}
 use lib.ListN.{length, drop, replicate}
 use Rattle.rules.specs.Limits.{most-last, most-weight, ticket-limit}
-use Rattle.rules.specs.Rows.{Frame, Setup, Row, Round, row, round}
+use Rattle.rules.specs.Rows.{Frame, Setup, Row, Round, row, blank, round}
 use Rattle.rules.specs.Plan.{plan, total, first-end, mark, best, canonical-first}
 use Rattle.rules.specs.Steps.{opened, taken, sealed, turn-of, goes, sent, is-ordinary}
 use Rattle.rules.specs.Table.{low, field, put, row-bytes, rows-bytes, head-bytes, table, rows-in, rows-of, round-in, every, rows-good, round-good}
@@ -24,6 +24,11 @@ row-bytes-are x h g =
     let d : x .tail .class % 256 ≡ x .tail .class = omega arith in
     ap (λ (b : ℕ). low 4 (x .ticket) ++ low 2 (x .due) ++ low 4 (x .weight) ++ (b ∷ x .tail .class % 256 ∷ []) ++ replicate 12 0) e
     ∙ ap (λ (c : ℕ). low 4 (x .ticket) ++ low 2 (x .due) ++ low 4 (x .weight) ++ (x .tail .kind ∷ c ∷ []) ++ replicate 12 0) d
+
+-- A BLANK without a row: ticket 0, weight 0, class 3
+pub blank-is : (s : ℕ) → blank s ≡ row 0 s 0 (record { kind = 0; class = 3 })
+unfolding blank row
+blank-is s = refl
 
 -- THE TABLE's, of a seal that fits its byte
 pub table-is : (r : Round) → r .tail .sealed < 256 → table r ≡

@@ -3,7 +3,6 @@ use mathlib.Core.Path.{_≡_, ap, _∙_}
 use mathlib.Core.List.{List}
 use Prim.Native.Nat.{ℕ, suc, _+_}
 use native.Mathlib.Omega.{arith}
-use lib.ListN.{set}
 use lib.Seq.{sets}
 use Rattle.rules.specs.Limits.{ticket-at, due-at, weight-at, kind-at, class-at, slot-bytes, wide-bytes, class-bytes, kind-bytes, most-class}
 use Rattle.rules.specs.Rows.{framed, row}
@@ -13,17 +12,17 @@ use Rattle.row.specs.Numbers.{row-numbers}
 use Rattle.row.specs.Written.{with-shift, with-weight, with-kept}
 
 -- A ROW's five stores are one
-pub row-stored : (t u v w x : List ℕ) (a k d m c : ℕ) → u ≡ sets t (a + ticket-at) (low wide-bytes k) → v ≡ sets u (a + due-at) (low slot-bytes d) →
-    w ≡ sets v (a + weight-at) (low wide-bytes m) → x ≡ sets (set w (a + kind-at) 0) (a + class-at) (low class-bytes c) →
-    x ≡ sets t a (row-numbers k (framed d m c))
+pub row-stored : (t u v w x y : List ℕ) (a k d m c : ℕ) → u ≡ sets t (a + ticket-at) (low wide-bytes k) → v ≡ sets u (a + due-at) (low slot-bytes d) →
+    w ≡ sets v (a + weight-at) (low wide-bytes m) → x ≡ sets w (a + kind-at) (low kind-bytes 0) →
+    y ≡ sets x (a + class-at) (low class-bytes c) → y ≡ sets t a (row-numbers k (framed d m c))
 unfolding low put row row-numbers
-row-stored t u v w x a k d m c e f g h =
+row-stored t u v w x y a k d m c e f g h i =
     let o : a + 0 ≡ a = omega arith in
     let p : a + 4 ≡ suc (suc (suc (suc a))) = omega arith in
     let q : a + 6 ≡ suc (suc (suc (suc (suc (suc a))))) = omega arith in
     let r : a + 10 ≡ suc (suc (suc (suc (suc (suc (suc (suc (suc (suc a))))))))) = omega arith in
-    let y : a + 11 ≡ suc (suc (suc (suc (suc (suc (suc (suc (suc (suc (suc a)))))))))) = omega arith in
-    h ∙ (rw (g, f, e, o, p, q, r, y))
+    let n : a + 11 ≡ suc (suc (suc (suc (suc (suc (suc (suc (suc (suc (suc a)))))))))) = omega arith in
+    i ∙ (rw (h, g, f, e, o, p, q, r, n))
 
 -- two stores side by side are one; at is where the row begins
 pub shift-stored : (t u v : List ℕ) (at i d w : ℕ) → at ≡ row-at i → u ≡ sets t (at + due-at) (low slot-bytes d) →

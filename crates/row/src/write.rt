@@ -19,14 +19,21 @@ use sorts::Ticket;
 use sorts::Weight;
 
 // The numbers of a frame's row written; its zero bytes stay as they are.
-pub fn write_row(table: &mut [u8], at: usize, ticket: Ticket, due: Slot, weight: Weight, class: Class)
+pub fn write_row(
+    table: &mut [u8],
+    at: usize,
+    ticket: Ticket,
+    due: Slot,
+    weight: Weight,
+    class: Class,
+)
     requires { ⌜ at + row-size ≤ length (now table) ⌝ }
     ensures { λ _. ⌜ now (table .exit) ≡ sets (now (table .entry)) at (row-numbers (ticket .0) (framed (due .0) (weight .0) (class .0))) ⌝ }
 {
     write4(table, at + Round::TICKET_AT, ticket.0);
     write2(table, at + Round::DUE_AT, due.0);
     write4(table, at + Round::WEIGHT_AT, weight.0);
-    table[at + Round::KIND_AT] = 0;
+    write1(table, at + Round::KIND_AT, 0);
     write1(table, at + Round::CLASS_AT, class.0);
 }
 

@@ -124,6 +124,14 @@ class-rounds =
           turn sends (step (ordinary (frame 1))) (waits 2 1 5 ∷ waits 3 1 5 ∷ []) (5 ∷ []) ∷
           [];
     } ∷
+    -- so too a kept blank that is due before frames of class 0
+    record {
+      start = table (plain 0 1 4 8 (waits 1 1 5 ∷ keeps 2 0 5 ∷ waits 3 1 5 ∷ []));
+      turns =
+          listing (2 ∷ 1 ∷ []) (ticket 2 ∷ ticket 3 ∷ []) ∷
+          turn sends (step (ordinary (kept-blank 2))) (waits 1 1 5 ∷ waits 3 1 5 ∷ []) (5 ∷ []) ∷
+          [];
+    } ∷
     -- the weight before the class, in the plan and in the canonical order
     record {
       start = table (plain 0 0 3 8 (waits 1 0 5 ∷ waits-of 3 2 0 6 ∷ []));

@@ -21,10 +21,10 @@ use Rattle.theory.specs.Near.{near-mark}
 use Rattle.theory.specs.Segments.{Segment, segment-end, first-segment, segment-none}
 use Rattle.theory.specs.Substitute.{first-row}
 use Rattle.sorts.specs.declared.Round.{Round as Head}
-use Rattle.round.specs.Rows.{Due-at, Weight-at, at}
+use Rattle.round.specs.Rows.{Due-at, Weight-at, Class-at, at}
 use Rattle.round.proofs.ReadLaws.{known}
 use Rattle.keys.specs.Key.{key, row-of, key-at}
-use Rattle.keys.specs.KeyLaws.{row-is, some-key, greater-key}
+use Rattle.keys.specs.KeyLaws.{row-is, key-read, some-key, greater-key}
 use Rattle.buckets.specs.declared.Reach.{Reach}
 use Rattle.buckets.specs.Stretch.{Full, Stretches}
 use Rattle.buckets.proofs.SegmentLaws.{whole-rows, full, stretch-segment}
@@ -71,10 +71,10 @@ lightest-start r e = record { most = λ j h. absurd (omega (arith, h)); some = �
 pub due-more : (r : Round) (i e k : ℕ) → Due-key r i e k → Due-key r (i + 1) e k
 due-more r i e k d = record { row = d .row; below = omega (arith, d .below); by = d .by; is = d .is }
 
-pub lightest-step : (r : Round) (e i k d w x l : ℕ) → Due-at r i d → Weight-at r i w → x ≡ key w d i → l ≡ cond (leb d e) (max k x) k →
-    Lightest-so-far r e i k → Lightest-so-far r e (i + 1) l
-lightest-step r e i k d w x l a b c q s =
-    let g : x ≡ key-at r i = let u = a .is in let v = b .is in cc in
+pub lightest-step : (r : Round) (e i k d w t x l : ℕ) → Due-at r i d → Weight-at r i w → Class-at r i t → x ≡ key w d t i →
+    l ≡ cond (leb d e) (max k x) k → Lightest-so-far r e i k → Lightest-so-far r e (i + 1) l
+lightest-step r e i k d w t x l a b f c q s =
+    let g : x ≡ key-at r i = key-read r i d w t x a b f c in
     elim (leb? d e) [
       | inr n ↦
           let z : l ≡ k = q ∙ rw (n .0) refl in

@@ -13,8 +13,10 @@ use buckets::stretch::stretch_of;
 use keys::key_of;
 use keys::larger;
 use keys::row_of;
+use round::read::class_at;
 use round::read::due_at;
 use round::read::weight_at;
+use sorts::Class;
 use sorts::Round;
 use sorts::Slot;
 use sorts::Weight;
@@ -84,7 +86,8 @@ fn lightest_by(table: &[u8], round: Round, by: u32) -> u64
     let mut i: usize = 0;
     while i < used {
         let due = due_at(table, round, i);
-        let key = key_of(Weight(weight_at(table, round, i)), Slot(due), i);
+        let class = class_at(table, round, i);
+        let key = key_of(Weight(weight_at(table, round, i)), Slot(due), Class(class), i);
         low = lighter(low, due, by, key);
         i += 1;
     }

@@ -1,45 +1,61 @@
-// The plan's canonical first, which a sealed round sends: the earliest due, of these the heaviest, of equals the first in the table.
-ghost use Prim.Native.Nat.{_≤_};
+// The plan's canonical first, which a sealed round sends: the earliest due, of these the heaviest, of equals that of the smallest class, then the first in the table.
+ghost use mathlib.Core.Path.{_≡_};
+ghost use Prim.Native.Nat.{_≤_, _<_};
 ghost use Rattle.rules.specs.Table.{round-in};
-ghost use Rattle.round.specs.Rows.{Ready};
+ghost use Rattle.round.specs.Rows.{Ready, Due-at};
+ghost use Rattle.keys.specs.Key.{key-at};
 ghost use Rattle.first.specs.First.{Sees, Is-first};
 ghost use Rattle.first.specs.Planned.{Lent, First-says, Some-flagged, First-flagged};
 use keys::due_of;
+use keys::key_of;
 use keys::lesser;
 use keys::row_of;
+use round::read::class_at;
 use round::read::due_at;
 use round::read::weight_at;
+use sorts::Class;
 use sorts::Round;
+use sorts::Slot;
+use sorts::Weight;
 
-// The first of the rows so far.
+// The first of the rows so far, by its due slot and its key.
 struct First {
     due: u32,
-    weight: u32,
-    row: usize,
+    key: u64,
 }
 
-// A row behind it in the table, due no later, is compared.
-fn see(first: First, due: u32, weight: u32, row: usize) -> First
-    ensures { λ r. ⌜ Sees first due weight row r ⌝ }
+// A row due no later is compared: of one due slot the lesser key is the heavier row's.
+fn see(first: First, due: u32, key: u64) -> First
+    ensures { λ r. ⌜ Sees first due key r ⌝ }
 {
     if due == first.due {
-        if weight <= first.weight {
+        if first.key <= key {
             return first;
         }
     }
-    First { due, weight, row }
+    First { due, key }
 }
 
-// Where no row is left out. A weight is read only where the due slot can win.
+// The key of a row due then.
+fn key_at(table: &[u8], round: Round, due: u32, row: usize) -> u64
+    requires { ⌜ Ready (now table) round × (row < round .used) × Due-at (round-in (now table)) row due ⌝ }
+    ensures { λ r. ⌜ r ≡ key-at (round-in (now (table .entry))) row ⌝ }
+{
+    let weight = weight_at(table, round, row);
+    let class = class_at(table, round, row);
+    key_of(Weight(weight), Slot(due), Class(class), row)
+}
+
+// Where no row is left out. A key is made only where the due slot can win.
 pub fn first_of_all(table: &[u8], round: Round) -> usize
     requires { ⌜ Ready (now table) round × (1 ≤ round .used) ⌝ }
     ensures { λ r. ⌜ Is-first (round-in (now (table .entry))) (round-in (now (table .entry)) .rows) r ⌝ }
 {
     let used = round.used;
+    let start = due_at(table, round, 0);
     let mut first = First {
-        due: due_at(table, round, 0),
-        weight: weight_at(table, round, 0),
-        row: 0,
+        due: start,
+        key: key_at(table, round, start, 0),
     };
     let mut i: usize = 1;
     while i < used {
@@ -47,10 +63,10 @@ pub fn first_of_all(table: &[u8], round: Round) -> usize
         let due = due_at(table, round, row);
         i += 1;
         if due <= first.due {
-            first = see(first, due, weight_at(table, round, row), row);
+            first = see(first, due, key_at(table, round, due, row));
         }
     }
-    first.row
+    row_of(first.key)
 }
 
 // The place of the first key with a flag; there is one.

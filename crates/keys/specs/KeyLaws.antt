@@ -1,42 +1,73 @@
--- What a key tells, and that keys are the order heavier: key-weight, key-due, key-row, key-some, lacks-more, heavier-key, keys-apart.
+-- What ranks and keys tell, and that keys are the order heavier: rank-less, ranked-key, key-weight, key-due, key-row, key-some, lacks-more, heavier-key, keys-apart.
 use mathlib.Core.Path.{_≡_, sym, ap, _∙_}
-use mathlib.Core.Logic.{inl, inr}
+use mathlib.Core.Logic.{_⊎_, inl, inr}
 use mathlib.Core.Bool.{true, false}
-use Prim.Native.Nat.{ℕ, zero, suc, _+_, _*_, _-_, _≤_, _<_}
+use Prim.Native.Nat.{ℕ, zero, suc, _+_, _*_, _-_, _/_, _≤_, _<_}
 use native.Mathlib.Omega.{arith}
 use lib.Dec.{ltb}
 use lib.ListN.{length}
 use borrow.Author.Tests.{lt-ltb, le-ltb, ltb-true, ltb-false}
 use Rattle.rules.specs.Rows.{Row, Round, blank, heavier, Heavier}
+use Rattle.theory.specs.Tests.{ltb?}
 use Rattle.theory.specs.All.{all-in}
 use Rattle.theory.specs.Bounds.{Row-fine}
 use Rattle.theory.specs.Full.{Fine}
 use Rattle.theory.specs.Order.{Not-over, heavier?}
 use Rattle.theory.specs.Keys.{getD-in, tickets-rise}
-use Rattle.round.specs.Rows.{at}
-use Rattle.keys.specs.Key.{key, weight-of, lack-of, due-of, row-of, blank-key, key-at, May-lack, Lacks}
+use Rattle.round.specs.Rows.{Due-at, Weight-at, Class-at, at}
+use Rattle.keys.specs.Key.{key, rank, ranked, weight-of, lack-of, due-of, row-of, blank-key, key-at, May-lack, Lacks}
+
+-- RANKS are compared by due slot, then by class; and a key is made of one
+pub rank-less : (d c e f : ℕ) → c ≤ 3 → rank d c < rank e f → (d < e) ⊎ ((d ≡ e) × (c < f))
+rank-less d c e f h l = elim (ltb? d e) [ inl a ↦ inl (a .1) | inr a ↦ inr (omega (arith, a .1, h, l), omega (arith, a .1, h, l)) ]
+
+pub rank-same : (d c e f : ℕ) → c ≤ 3 → f ≤ 3 → rank d c ≡ rank e f → (d ≡ e) × (c ≡ f)
+rank-same d c e f h k q = (omega arith, omega arith)
+
+-- of no class, or the smallest, they tell which due slot is earlier
+pub rank-near : (d c e : ℕ) → rank d c < rank e 0 → d < e
+rank-near d c e h = omega arith
+
+pub rank-far : (d c e : ℕ) → c ≤ 3 → rank e 0 ≤ rank d c → e ≤ d
+rank-far d c e h k = omega arith
+
+pub rank-due : (d c : ℕ) → c ≤ 3 → rank d c / 4 ≡ d
+rank-due d c h = omega arith
+
+pub rank-fits : (d c : ℕ) → d ≤ 4095 → c ≤ 3 → rank d c ≤ 16383
+rank-fits d c h k = omega arith
+
+pub ranked-key : (w d c i : ℕ) → ranked w (rank d c) i ≡ key w d c i
+unfolding key ranked
+ranked-key w d c i = omega arith
 
 -- WHAT A KEY TELLS
-pub key-weight : (w d i : ℕ) → w ≤ 16777216 → d ≤ 4095 → i < 1024 → weight-of (key w d i) ≡ w
+pub key-weight : (w d c i : ℕ) → w ≤ 16777216 → d ≤ 4095 → c ≤ 3 → i < 1024 → weight-of (key w d c i) ≡ w
 unfolding key
-key-weight w d i a b c = omega arith
+key-weight w d c i h k l m = omega arith
 
-pub key-due : (w d i : ℕ) → d ≤ 4095 → i < 1024 → due-of (key w d i) ≡ d
+pub key-due : (w d c i : ℕ) → d ≤ 4095 → c ≤ 3 → i < 1024 → due-of (key w d c i) ≡ d
 unfolding key
-key-due w d i b c = omega arith
+key-due w d c i k l m = omega arith
 
-pub key-row : (w d i : ℕ) → i < 1024 → row-of (key w d i) ≡ i
+pub key-row : (w d c i : ℕ) → i < 1024 → row-of (key w d c i) ≡ i
 unfolding key
-key-row w d i c = omega arith
+key-row w d c i m = omega arith
 
 -- no key is 0, and only what weighs nothing has a blank's
-pub key-some : (w d i : ℕ) → w ≤ 16777216 → 1 ≤ key w d i
+pub key-some : (w d c i : ℕ) → w ≤ 16777216 → 1 ≤ key w d c i
 unfolding key
-key-some w d i a = omega arith
+key-some w d c i h = omega arith
 
-pub key-most : (w d i : ℕ) → 1 ≤ w → d ≤ 4095 → i < 1024 → key w d i < blank-key
+pub key-most : (w d c i : ℕ) → 1 ≤ w → d ≤ 4095 → c ≤ 3 → i < 1024 → key w d c i < blank-key
 unfolding key
-key-most w d i a b c = omega arith
+key-most w d c i h k l m = omega arith
+
+-- the key of a row as the code reads it
+pub key-read : (r : Round) (i d w c k : ℕ) → Due-at r i d → Weight-at r i w → Class-at r i c → k ≡ key w d c i → k ≡ key-at r i
+key-read r i d w c k a b s e =
+    e ∙ ap (λ (x : ℕ). key x d c i) (b .is) ∙ ap (λ (x : ℕ). key (at r i .weight) x c i) (a .is)
+    ∙ ap (λ (x : ℕ). key (at r i .weight) (at r i .due) x i) (s .is)
 
 -- a flag is 1 or 0
 pub flag-fits : (k f : ℕ) → k ≤ blank-key → f ≤ 1 → k * f < 18446744073709551616
@@ -64,22 +95,27 @@ lacks-once n l v w d e = omega arith
 
 -- A LESSER KEY IS A HEAVIER ROW, where indices rise as tickets do
 pub heavier-by-key : (a b : Row) (i j : ℕ) → i < 1024 → j < 1024 → a .due ≤ 4095 → b .due ≤ 4095 → a .weight ≤ 16777216 → b .weight ≤ 16777216 →
-    ltb (a .ticket) (b .ticket) ≡ ltb i j → heavier a b ≡ ltb (key (a .weight) (a .due) i) (key (b .weight) (b .due) j)
+    a .tail .class ≤ 3 → b .tail .class ≤ 3 → ltb (a .ticket) (b .ticket) ≡ ltb i j →
+    heavier a b ≡ ltb (key (a .weight) (a .due) (a .tail .class) i) (key (b .weight) (b .due) (b .tail .class) j)
 unfolding key
-heavier-by-key a b i j h k m n o p e = elim (heavier? a b) [
+heavier-by-key a b i j h k m n o p q s e = elim (heavier? a b) [
   | inl u ↦ u .0 ∙ sym (lt-ltb _ _ (above (u .1)))
   | inr u ↦ u .0 ∙ sym (le-ltb _ _ (below (u .1)))
 ]
   where
-    above : Heavier a b → (16777217 - a .weight) * 16777216 + a .due * 4096 + i < (16777217 - b .weight) * 16777216 + b .due * 4096 + j
+    above : Heavier a b → (16777217 - a .weight) * 16777216 + a .due * 4096 + a .tail .class * 1024 + i
+        < (16777217 - b .weight) * 16777216 + b .due * 4096 + b .tail .class * 1024 + j
     above (inl u) = omega arith
     above (inr (u, inl v)) = omega arith
-    above (inr (u, inr (v, w))) = let c : i < j = ltb-true i j (sym e ∙ lt-ltb (a .ticket) (b .ticket) w) in omega arith
+    above (inr (u, inr (v, inl w))) = omega arith
+    above (inr (u, inr (v, inr (w, x)))) = let c : i < j = ltb-true i j (sym e ∙ lt-ltb (a .ticket) (b .ticket) x) in omega arith
 
-    below : Not-over a b → (16777217 - b .weight) * 16777216 + b .due * 4096 + j ≤ (16777217 - a .weight) * 16777216 + a .due * 4096 + i
+    below : Not-over a b → (16777217 - b .weight) * 16777216 + b .due * 4096 + b .tail .class * 1024 + j
+        ≤ (16777217 - a .weight) * 16777216 + a .due * 4096 + a .tail .class * 1024 + i
     below (inl u) = omega arith
     below (inr (u, inl v)) = omega arith
-    below (inr (u, inr (v, w))) = let c : j ≤ i = ltb-false i j (sym e ∙ le-ltb (a .ticket) (b .ticket) w) in omega arith
+    below (inr (u, inr (v, inl w))) = omega arith
+    below (inr (u, inr (v, inr (w, x)))) = let c : j ≤ i = ltb-false i j (sym e ∙ le-ltb (a .ticket) (b .ticket) x) in omega arith
 
 -- A ROUND'S ROWS by index
 module _ (r : Round) (f : Fine r) (small : length (r .rows) ≤ 1024) (cap : r .last ≤ 4095) where
@@ -88,19 +124,21 @@ module _ (r : Round) (f : Fine r) (small : length (r .rows) ≤ 1024) (cap : r .
 
   pub weight-is : (i : ℕ) → i < length (r .rows) → weight-of (key-at r i) ≡ at r i .weight
   weight-is i h =
-      let b = row-fine i h in key-weight (at r i .weight) (at r i .due) i (b .most) (omega (arith, b .due-by)) (omega (arith, h))
+      let b = row-fine i h in key-weight (at r i .weight) (at r i .due) (at r i .tail .class) i (b .most) (omega (arith, b .due-by)) (b .class) (omega (arith, h))
 
   pub due-is : (i : ℕ) → i < length (r .rows) → due-of (key-at r i) ≡ at r i .due
-  due-is i h = let b = row-fine i h in key-due (at r i .weight) (at r i .due) i (omega (arith, b .due-by)) (omega (arith, h))
+  due-is i h =
+      let b = row-fine i h in
+      key-due (at r i .weight) (at r i .due) (at r i .tail .class) i (omega (arith, b .due-by)) (b .class) (omega (arith, h))
 
   pub row-is : (i : ℕ) → i < length (r .rows) → row-of (key-at r i) ≡ i
-  row-is i h = key-row (at r i .weight) (at r i .due) i (omega (arith, h))
+  row-is i h = key-row (at r i .weight) (at r i .due) (at r i .tail .class) i (omega (arith, h))
 
   pub some-key : (i : ℕ) → i < length (r .rows) → (1 ≤ key-at r i) × (key-at r i < blank-key)
   some-key i h =
       let b = row-fine i h in (
-        key-some (at r i .weight) (at r i .due) i (b .most),
-        key-most (at r i .weight) (at r i .due) i (b .some) (omega (arith, b .due-by)) (omega (arith, h)),
+        key-some (at r i .weight) (at r i .due) (at r i .tail .class) i (b .most),
+        key-most (at r i .weight) (at r i .due) (at r i .tail .class) i (b .some) (omega (arith, b .due-by)) (b .class) (omega (arith, h)),
       )
 
   -- different rows have different keys
@@ -113,6 +151,7 @@ module _ (r : Round) (f : Fine r) (small : length (r .rows) ≤ 1024) (cap : r .
       let b = row-fine i h in
       let c = row-fine j k in
       heavier-by-key (at r i) (at r j) i j (omega (arith, h)) (omega (arith, k)) (omega (arith, b .due-by)) (omega (arith, c .due-by)) (b .most) (c .most)
+      (b .class) (c .class)
       (tickets-rise 1 (r .next) (r .rows) (blank 0) i j (f .rising) h k)
 
   pub lesser-key : (i j : ℕ) → i < length (r .rows) → j < length (r .rows) → key-at r i < key-at r j → heavier (at r i) (at r j) ≡ true

@@ -1,7 +1,8 @@
 // One number for a row, by which rows are compared, and the laws of that number: the only place that knows how a key is made.
 ghost use mathlib.Core.Path.{_≡_};
-ghost use Prim.Native.Nat.{_*_, _≤_, _<_, max, min};
-ghost use Rattle.keys.specs.Key.{key, weight-of, lack-of, due-of, row-of, blank-key, May-lack, Lacks};
+ghost use Prim.Native.Nat.{_*_, _/_, _≤_, _<_, max, min};
+ghost use Rattle.keys.specs.Key.{key, rank, ranked, weight-of, lack-of, due-of, row-of, blank-key, May-lack, Lacks};
+use sorts::Class;
 use sorts::Slot;
 use sorts::Weight;
 
@@ -10,11 +11,32 @@ pub mod canonical; // canonical.rt: one number for a row's place in canonical or
 // No row: what a blank would have, which weighs nothing.
 pub const BLANK: u64 = 281474993487872;
 
-pub fn key_of(weight: Weight, due: Slot, row: usize) -> u64
-    requires { ⌜ (weight .0 ≤ 16777216) × (due .0 ≤ 4095) × (row < 1024) ⌝ }
-    ensures { λ r. ⌜ r ≡ key (weight .0) (due .0) row ⌝ }
+// Due slot and class as one number: rows of one weight go by it. The due slot that it tells.
+pub fn rank_of(due: Slot, class: Class) -> u32
+    requires { ⌜ (due .0 ≤ 65535) × (class .0 ≤ 3) ⌝ }
+    ensures { λ r. ⌜ r ≡ rank (due .0) (class .0) ⌝ }
 {
-    BLANK - weight.0 as u64 * 16777216 + (due.0 as u64 * 4096 + row as u64)
+    due.0 * 4 + class.0
+}
+
+pub fn rank_due(rank: u32) -> u32
+    ensures { λ r. ⌜ r ≡ rank / 4 ⌝ }
+{
+    rank / 4
+}
+
+pub fn key_by(weight: Weight, rank: u32, row: usize) -> u64
+    requires { ⌜ (weight .0 ≤ 16777216) × (rank ≤ 16383) × (row < 1024) ⌝ }
+    ensures { λ r. ⌜ r ≡ ranked (weight .0) rank row ⌝ }
+{
+    BLANK - weight.0 as u64 * 16777216 + (rank as u64 * 1024 + row as u64)
+}
+
+pub fn key_of(weight: Weight, due: Slot, class: Class, row: usize) -> u64
+    requires { ⌜ (weight .0 ≤ 16777216) × (due .0 ≤ 4095) × (class .0 ≤ 3) × (row < 1024) ⌝ }
+    ensures { λ r. ⌜ r ≡ key (weight .0) (due .0) (class .0) row ⌝ }
+{
+    key_by(weight, rank_of(due, class), row)
 }
 
 // What a key tells: the weight (0 of BLANK), the due slot, the row.

@@ -4,7 +4,7 @@ use Prim.Native.Nat.{ℕ}
 use native.Mathlib.Omega.{arith}
 use Rattle.rules.specs.Lines as rules
 use Rattle.lines.specs.declared.Command.{Command}
-use Rattle.lines.specs.declared.Command.the-variants.{Open, Take, Send, Seal}
+use Rattle.lines.specs.declared.Command.the-variants.{Open, Take, Send, Seal, Classed}
 use Rattle.lines.specs.declared.Reading.{Reading}
 use Rattle.lines.specs.declared.Reading.the-variants.{Is, Broken}
 use Rattle.lines.specs.Cases.{of-command, of-reading}
@@ -15,12 +15,14 @@ back (rules.open-line l) = Open record { 0 = l }
 back (rules.take-line d w) = Take record { 0 = d } record { 0 = w }
 back rules.send-line = Send
 back rules.seal-line = Seal
+back (rules.class-line d w c) = Classed record { 0 = d } record { 0 = w } record { 0 = c }
 
 back-of : (x : Command) → back (of-command x) ≡ x
 back-of (Open l) = refl
 back-of (Take d w) = refl
 back-of Send = refl
 back-of Seal = refl
+back-of (Classed d w c) = refl
 
 pub command-once : (x y : Command) → of-command x ≡ of-command y → x ≡ y
 command-once x y e = sym (back-of x) ∙ ap back e ∙ back-of y

@@ -119,4 +119,4 @@ collected-all {ns} {line} {i} c h =
 -- values that are the same one by one make the same command
 pub command-same : (k : ℕ) (vs ws : List ℕ) → ((i : ℕ) → getD vs i 0 ≡ getD ws i 0) → command-of k vs ≡ command-of k ws
 unfolding command-of
-command-same k vs ws h = rw (h 0, h 1)
+command-same k vs ws h = rw (h 0, h 1, h 2)

@@ -12,7 +12,7 @@ use Rattle.lines.specs.declared.reader.Numbers.{Numbers}
 
 -- the most numbers that a line has
 abbrev pub most-numbers : ℕ
-most-numbers = 2
+most-numbers = 3
 
 -- the digits of each of a form's numbers, and as many values
 abbrev pub widths-in : Form → List ℕ

@@ -8,11 +8,12 @@ use crate::Reading;
 use digits::SHORT_DIGITS;
 use digits::SLOT_DIGITS;
 use digits::WIDE_DIGITS;
+use sorts::Class;
 use sorts::Slot;
 use sorts::Weight;
 
 // The most numbers that a line has behind its own.
-pub const MOST_NUMBERS: usize = 2;
+pub const MOST_NUMBERS: usize = 3;
 
 // How many numbers a line has, the digits of each, the digits before the payload, and whether a payload may follow.
 pub struct Form {
@@ -27,16 +28,22 @@ pub fn form_of(number: u32) -> Form
     ensures { λ r. ⌜ Has-form (form-numbered number) r ⌝ }
 {
     match number {
-        0 => formed(1, [SLOT_DIGITS, 0], SHORT_DIGITS + SLOT_DIGITS, false),
+        0 => formed(1, [SLOT_DIGITS, 0, 0], SHORT_DIGITS + SLOT_DIGITS, false),
         1 => formed(
             2,
-            [SLOT_DIGITS, WIDE_DIGITS],
+            [SLOT_DIGITS, WIDE_DIGITS, 0],
             SHORT_DIGITS + SLOT_DIGITS + WIDE_DIGITS,
             true,
         ),
-        2 => formed(0, [0, 0], SHORT_DIGITS, false),
-        3 => formed(0, [0, 0], SHORT_DIGITS, false),
-        _ => formed(0, [0, 0], SHORT_DIGITS, false),
+        2 => formed(0, [0, 0, 0], SHORT_DIGITS, false),
+        3 => formed(0, [0, 0, 0], SHORT_DIGITS, false),
+        4 => formed(
+            3,
+            [SLOT_DIGITS, WIDE_DIGITS, SHORT_DIGITS],
+            SHORT_DIGITS + SLOT_DIGITS + WIDE_DIGITS + SHORT_DIGITS,
+            true,
+        ),
+        _ => formed(0, [0, 0, 0], SHORT_DIGITS, false),
     }
 }
 
@@ -61,6 +68,7 @@ pub fn command_of(number: u32, values: [u32; MOST_NUMBERS]) -> Reading
         1 => Reading::Is(Command::Take(Slot(values[0]), Weight(values[1]))),
         2 => Reading::Is(Command::Send),
         3 => Reading::Is(Command::Seal),
+        4 => Reading::Is(Command::Classed(Slot(values[0]), Weight(values[1]), Class(values[2]))),
         _ => Reading::Broken,
     }
 }
@@ -73,6 +81,7 @@ pub fn line_number(command: Command) -> u32
         Command::Take(_, _) => 1,
         Command::Send => 2,
         Command::Seal => 3,
+        Command::Classed(_, _, _) => 4,
     }
 }
 
@@ -81,9 +90,10 @@ pub fn values_of(command: Command) -> [u32; MOST_NUMBERS]
     ensures { λ r. ⌜ Has-values (of-command command) r ⌝ }
 {
     match command {
-        Command::Open(last) => [last.0, 0],
-        Command::Take(due, weight) => [due.0, weight.0],
-        Command::Send => [0, 0],
-        Command::Seal => [0, 0],
+        Command::Open(last) => [last.0, 0, 0],
+        Command::Take(due, weight) => [due.0, weight.0, 0],
+        Command::Send => [0, 0, 0],
+        Command::Seal => [0, 0, 0],
+        Command::Classed(due, weight, class) => [due.0, weight.0, class.0],
     }
 }

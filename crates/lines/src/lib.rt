@@ -1,4 +1,5 @@
 // Text lines: the form of each, the command reader, the payload's part of a line, and where a line ends.
+use sorts::Class;
 use sorts::Slot;
 use sorts::Weight;
 
@@ -18,6 +19,7 @@ pub enum Command {
     Take(Slot, Weight),
     Send,
     Seal,
+    Classed(Slot, Weight, Class),
 }
 
 // What a line is read as: a command, or refusal 1.

@@ -7,9 +7,9 @@ use lib.ListN.{length, getD, drop}
 use Rattle.rules.specs.Limits.{head-size}
 use Rattle.rules.specs.Rows.{Row, row, round, blank}
 use Rattle.rules.specs.Table.{rows-in, round-in}
-use Rattle.rules.specs.Conditions.{row-at, used-in, ticket-in, due-in, weight-in, kind-in}
+use Rattle.rules.specs.Conditions.{row-at, used-in, ticket-in, due-in, weight-in, kind-in, class-in}
 use Rattle.theory.specs.All.{all-in}
-use Rattle.theory.specs.Bounds.{Row-fine}
+use Rattle.theory.specs.Bounds.{Row-fine, Tail-fine}
 use Rattle.theory.specs.Full.{Fine}
 use Rattle.theory.specs.Same.{row-ticket}
 use Rattle.theory.specs.Keys.{getD-in}
@@ -17,7 +17,7 @@ use Rattle.theory.specs.Sane.{sound}
 use Rattle.theory.specs.Clauses.{rows-count, length-long, accepted-length}
 use Rattle.theory.specs.Soundness.{row-in, row-there, row-next}
 use Rattle.sorts.specs.declared.Round.{Round as Head}
-use Rattle.round.specs.Rows.{Ready, Ticket-at, Due-at, Weight-at, Kind-at, at}
+use Rattle.round.specs.Rows.{Ready, Ticket-at, Due-at, Weight-at, Kind-at, Class-at, at}
 
 -- WHAT A READY TABLE IS: its round is sound and small, and the head's numbers are the round's
 pub record Known (t : List ℕ) (h : Head) : Type 0 where
@@ -94,7 +94,7 @@ weight-read t h i w k l e =
     let f = at-fine t h k i l in
     record { is = is; some = omega (arith, is, f .some); most = omega (arith, is, f .most) }
 
--- and a ticket and a kind
+-- and a ticket, a kind and a class
 pub ticket-read : (t : List ℕ) (h : Head) (i k : ℕ) → Ready t h → i < h .used → k ≡ ticket-in t i → Ticket-at (round-in t) i k
 unfolding row
 ticket-read t h i k r l e =
@@ -107,3 +107,12 @@ ticket-read t h i k r l e =
 pub kind-read : (t : List ℕ) (h : Head) (i k : ℕ) → Ready t h → i < h .used → k ≡ kind-in t i → Kind-at (round-in t) i k
 unfolding row
 kind-read t h i k r l e = e ∙ sym (ap (λ (x : Row). x .tail .kind) (at-is t h r i l))
+
+pub class-read : (t : List ℕ) (h : Head) (i c : ℕ) → Ready t h → i < h .used → c ≡ class-in t i → Class-at (round-in t) i c
+unfolding row
+class-read t h i c r l e =
+    let n = known t h r in
+    let is : c ≡ at (round-in t) i .tail .class = e ∙ sym (ap (λ (x : Row). x .tail .class) (at-is t h r i l)) in
+    let fine = all-in Tail-fine (at (round-in t) i) (round-in t .rows) (sound t (r .sound) .sane .size .tails)
+    (getD-in (round-in t .rows) (blank 0) i (omega (arith, l, n .used))) in
+    record { is = is; most = omega (arith, is, fine .classes) }

@@ -1,15 +1,15 @@
 -- The used rows in turn: judged so far, and counted so far.
 use mathlib.Core.Path.{_≡_, refl, sym, ap, ap₂, _∙_}
-use mathlib.Core.Bool.{Bool, true, false, _&&_, false≢true}
+use mathlib.Core.Bool.{Bool, true, false, _&&_, _||_, false≢true}
 use mathlib.Core.List.{List}
-use Prim.Native.Nat.{ℕ, zero, suc, _+_, _-_, _≤_, _<_, min}
+use Prim.Native.Nat.{ℕ, zero, suc, _+_, _-_, _%_, _≤_, _<_, min}
 use native.Mathlib.Omega.{arith}
-use native.Mathlib.Numerals.{unary-clauses}
+use native.Mathlib.Numerals.{unary-clauses, add-one}
 use lib.Dec.{ltb, leb, eqb}
 use borrow.Author.Tests.{lt-ltb, lt-leb, ne-eqb, leb-true}
 use lib.ListN.{length, getD, set, take, drop, length-take, length-drop}
 use lib.Seq.{drop-drop}
-use Rattle.rules.specs.Limits.{row-size, most-weight, ticket-at, due-at, wide-bytes, slot-bytes}
+use Rattle.rules.specs.Limits.{row-size, most-weight, most-class, ticket-at, due-at, wide-bytes, slot-bytes}
 use Rattle.rules.specs.Rows.{Row, Round, row}
 use Rattle.rules.specs.Table.{field, every, round-in}
 use Rattle.rules.specs.Conditions.{row-at}
@@ -19,16 +19,21 @@ use Rattle.theory.specs.Fields.{field-drop, field-take}
 use Rattle.theory.specs.Judge.{zeros, row-judged, rows-judged}
 use Rattle.sorts.specs.declared.Round.{Round as Head}
 use Rattle.row.specs.declared.seen.Seen.{Seen}
-use Rattle.row.specs.Seen.{Sees, fair}
+use Rattle.row.specs.Seen.{Sees, fair, kind-good}
 use Rattle.round.specs.Rows.{at, top-of, place}
-use Rattle.round.specs.Scan.{Rows-lent, all-judged, Rows-say}
-use Rattle.row.proofs.RowLaws.{row-parts, in-time}
+use Rattle.round.specs.Scan.{Rows-lent, all-judged, Rows-say, kinds-good, Frames-seen}
+use Rattle.zeros.proofs.ZeroLaws.{and-assoc}
+use Rattle.row.proofs.RowLaws.{row-parts, in-time, frame-good}
 use Rattle.round.proofs.ReadLaws.{at-held}
 use Rattle.round.proofs.CountLaws.{Counting, count-bound, count-more, counting-end, round-is}
 
 and-on : (x : Bool) → x && true ≡ x
 and-on true = refl
 and-on false = refl
+
+and-off : (x : Bool) → x && false ≡ false
+and-off true = refl
+and-off false = refl
 
 pub record Bucket-at (r : Round) (i c : ℕ) : Type 0 where
   pub is : c ≡ place r i
@@ -49,8 +54,8 @@ unfolding row-judged every row
 late-row s l n b xs h =
     let d = field 4 2 xs in
     late (ltb b (field 0 4 xs)) (ltb (field 0 4 xs) n) (leb s d) (leb d l)
-    (leb 1 (field 6 4 xs) && (leb (field 6 4 xs) most-weight && (leb (field 10 1 xs) 1 && true)))
-    (zeros (drop 11 xs)) (λ e. lt-leb d l (omega (arith, leb-true s d e, h)))
+    (leb 1 (field 6 4 xs) && (leb (field 6 4 xs) most-weight && (leb (field 10 1 xs) 1 && (leb (field 11 1 xs) most-class && ((eqb (field 10 1 xs) 0 || eqb (field 11 1 xs) most-class) && true)))))
+    (zeros (drop 12 xs)) (λ e. lt-leb d l (omega (arith, leb-true s d e, h)))
 
 pub none-left : (s l n b u : ℕ) (bs : List ℕ) → l < s → eqb u 0 ≡ rows-judged u s l n b bs
 unfolding rows-judged
@@ -60,13 +65,16 @@ none-left s l n b (suc u) bs h = ne-eqb (suc u) 0 (λ e. omega (arith, e)) ∙ s
 -- JUDGED SO FAR: what is asked of all rows is what is left to ask of those before i, and what is asked of the others
 pub record Judging (t : List ℕ) (h : Head) (i : ℕ) (s : Seen) : Type 0 where
   pub by : i ≤ h .used
-  pub rest : all-judged t h ≡ (ltb (s .ticket .0) (h .next .0) && fair s)
+  pub frames : Frames-seen t i s
+  pub rest : all-judged t h ≡ (ltb (s .ticket .0) (h .next .0) && (fair s && kinds-good t i))
       && rows-judged (h .used - i) (h .slot .0) (h .last .0) (h .next .0) (s .ticket .0) (drop (row-at i) t)
 
 pub judging-start : (t : List ℕ) (h : Head) → Rows-lent t h → Judging t h 0 (record { ticket = record { 0 = 0 }; ahead = 0; weights = 0; plain = 0 })
+unfolding kinds-good
 judging-start t h k =
     record {
       by = omega arith;
+      frames = λ e. refl;
       rest = rw (lt-ltb 0 (h .next .0) (k .next)) (simp unary-clauses);
     }
 
@@ -80,6 +88,10 @@ rows-step s l n b t u i h =
     let f : row-at (i + 1) ≡ row-at i + row-size = omega arith in
     rw (e, f, ← drop-drop row-size (row-at i) t)
 
+pub kinds-next : (t : List ℕ) (i : ℕ) → kinds-good t (i + 1) ≡ kinds-good t i && kind-good (take row-size (drop (row-at i) t))
+unfolding kinds-good
+kinds-next t i = rw (add-one i)
+
 -- ROW i as the code lends it
 abbrev pub lent : (t : List ℕ) (a : ℕ) → List ℕ
 lent t a = take (a + row-size - a) (drop a t)
@@ -91,6 +103,27 @@ lent-is t a i e =
 
 pub lent-long : (t : List ℕ) (h : Head) (a i : ℕ) → Rows-lent t h → a ≡ row-at i → i < h .used → length (lent t a) ≡ row-size
 lent-long t h a i k e o = simp (length-take, length-drop) (omega (arith, k .within, e, o))
+
+-- THE KINDS, asked from the last row back
+pub record Kinds-left (t : List ℕ) (u k : ℕ) : Type 0 where
+  pub by : k ≤ u
+  pub rest : kinds-good t u ≡ kinds-good t k
+
+module _ (t : List ℕ) (u k a : ℕ) (x : Bool) (some : 0 < k) (e : a ≡ row-at (k - 1)) (d : x ≡ kind-good (lent t a)) (j : Kinds-left t u k) where
+  kinds-step : kinds-good t u ≡ kinds-good t (k - 1) && x
+  kinds-step =
+      let f : k ≡ k - 1 + 1 = omega (arith, some) in
+      j .rest ∙ ap (kinds-good t) f ∙ kinds-next t (k - 1) ∙ ap (λ (y : Bool). kinds-good t (k - 1) && y) (sym (d ∙ ap kind-good (lent-is t a (k - 1) e)))
+
+  pub kinds-on : x ≡ true → Kinds-left t u (k - 1)
+  kinds-on p = record { by = omega (arith, j .by); rest = kinds-step ∙ rw p (and-on (kinds-good t (k - 1))) }
+
+  pub kinds-off : x ≡ false → false ≡ kinds-good t u
+  kinds-off p = sym (kinds-step ∙ rw p (and-off (kinds-good t (k - 1))))
+
+pub kinds-all : (t : List ℕ) (u k : ℕ) → k ≤ 0 → Kinds-left t u k → true ≡ kinds-good t u
+unfolding kinds-good
+kinds-all t u k h j = let e : k ≡ 0 = omega (arith, h) in sym (j .rest ∙ rw e)
 
 pub fewer-left : (u i : ℕ) → i < u → u - (i + 1) < u - i
 fewer-left u i o = omega (arith, o)
@@ -104,21 +137,28 @@ module _ (t : List ℕ) (h : Head) (k : Rows-lent t h) (time : h .slot .0 ≤ h 
   ticket-there : s .ticket .0 ≡ field ticket-at wide-bytes (drop (row-at i) t)
   ticket-there = seen-there .ticket ∙ field-take ticket-at wide-bytes row-size (drop (row-at i) t) (omega arith)
 
+  -- its kind is one more to ask about, and good where all are frames
+  one-more : kinds-good t (i + 1) ≡ kinds-good t i && kind-good (take row-size (drop (row-at i) t))
+  one-more = kinds-next t i
+
+  frames-on : Judging t h i b → Frames-seen t (i + 1) s
+  frames-on j e = let f = seen-there .frames e in one-more ∙ rw (j .frames (f .0), frame-good (take row-size (drop (row-at i) t)) (f .1))
+
   -- what its judge asks at once goes in front of the rest
   judging-row : Judging t h i b →
-      all-judged t h ≡ (ltb (b .ticket .0) (s .ticket .0) && leb (s .ahead) span) && ((ltb (s .ticket .0) (h .next .0) && fair s)
+      all-judged t h ≡ (ltb (b .ticket .0) (s .ticket .0) && leb (s .ahead) span) && ((ltb (s .ticket .0) (h .next .0) && (fair s && kinds-good t (i + 1)))
       && rows-judged (h .used - (i + 1)) (h .slot .0) (h .last .0) (h .next .0) (s .ticket .0) (drop (row-at (i + 1)) t))
   judging-row j =
       j .rest
-      ∙ ap (λ (n : Bool). (ltb (b .ticket .0) (h .next .0) && fair b) && n)
+      ∙ ap (λ (n : Bool). (ltb (b .ticket .0) (h .next .0) && (fair b && kinds-good t i)) && n)
       (rows-step (h .slot .0) (h .last .0) (h .next .0) (b .ticket .0) t (h .used) i o)
-      ∙ row-parts (h .slot .0) (h .last .0) (h .next .0) b (take row-size (drop (row-at i) t)) s
+      ∙ row-parts (h .slot .0) (h .last .0) (h .next .0) b (kinds-good t i) (take row-size (drop (row-at i) t)) s
       (rows-judged (h .used - (i + 1)) (h .slot .0) (h .last .0) (h .next .0) (field ticket-at wide-bytes (drop (row-at i) t)) (drop (row-at (i + 1)) t))
       time (k .last) seen-there
-      ∙ rw (← ticket-there, ← d)
+      ∙ rw (← ticket-there, ← d, ← one-more)
 
   pub judging-on : (x : Bool) → x ≡ ltb (b .ticket .0) (s .ticket .0) && leb (s .ahead) span → x ≡ true → Judging t h i b → Judging t h (i + 1) s
-  judging-on x p q j = record { by = omega (arith, o); rest = judging-row j ∙ rw (sym p ∙ q) }
+  judging-on x p q j = record { by = omega (arith, o); frames = frames-on j; rest = judging-row j ∙ rw (sym p ∙ q) }
 
   pub judging-off : (x : Bool) → x ≡ ltb (b .ticket .0) (s .ticket .0) && leb (s .ahead) span → x ≡ false → Judging t h i b → false ≡ all-judged t h
   judging-off x p q j = sym (judging-row j ∙ rw (sym p ∙ q))
@@ -145,12 +185,30 @@ module _ (t : List ℕ) (h : Head) (k : Rows-lent t h) (time : h .slot .0 ≤ h 
       let ahead : s .ahead ≡ at (round-in t) i .due - round-in t .slot = u ∙ rw (due-there, n .slot) in
       record { is = g ∙ ap₂ min ahead last-bucket; by = at-most (s .ahead) top c (top-of (round-in t)) g last-bucket }
 
-pub judging-end : (t : List ℕ) (h : Head) (i : ℕ) (s : Seen) (x : Bool) → Judging t h i s → h .used ≤ i → x ≡ ltb (s .ticket .0) (h .next .0) && fair s →
-    x ≡ all-judged t h
+-- ASKED ONCE of all rows: all but the kinds, then the kinds
+abbrev pub passing : List ℕ → Head → Seen → Bool
+passing t h s = ltb (s .ticket .0) (h .next .0) && (fair s && kinds-good t (h .used))
+
+module _ (t : List ℕ) (h : Head) (s : Seen) (x : Bool) (e : x ≡ ltb (s .ticket .0) (h .next .0) && fair s) where
+  passed : x && kinds-good t (h .used) ≡ passing t h s
+  passed = ap (λ (n : Bool). n && kinds-good t (h .used)) e ∙ and-assoc (ltb (s .ticket .0) (h .next .0)) (fair s) (kinds-good t (h .used))
+
+  pub pass-off : x ≡ false → false ≡ passing t h s
+  pass-off f = ap (λ (n : Bool). n && kinds-good t (h .used)) (sym f) ∙ passed
+
+  pub pass-on : (y : Bool) → x ≡ true → y ≡ kinds-good t (h .used) → y ≡ passing t h s
+  pass-on y f g = g ∙ ap (λ (n : Bool). n && kinds-good t (h .used)) (sym f) ∙ passed
+
+-- all rows are asked about once i is at the last
+pub frames-end : (t : List ℕ) (h : Head) (i : ℕ) (s : Seen) → Judging t h i s → h .used ≤ i → Frames-seen t (h .used) s
+frames-end t h i s j o = let e : i ≡ h .used = omega (arith, j .by, o) in rw (← e) (j .frames)
+
+pub judging-end : (t : List ℕ) (h : Head) (i : ℕ) (s : Seen) (x : Bool) → Judging t h i s → h .used ≤ i → x ≡ passing t h s → x ≡ all-judged t h
 unfolding rows-judged
 judging-end t h i s x j o e =
     let f : h .used - i ≡ 0 = omega (arith, o) in
-    sym (j .rest ∙ rw (f, ← e) (and-on x))
+    let g : i ≡ h .used = omega (arith, j .by, o) in
+    sym (j .rest ∙ rw (f, g, ← e) (and-on x))
 
 -- JUDGED AND COUNTED SO FAR
 pub record Scanned (t : List ℕ) (h : Head) (i : ℕ) (s : Seen) (cs : List ℕ) : Type 0 where
@@ -183,7 +241,7 @@ say-none t h cs x l e =
 pub say-off : (t : List ℕ) (h : Head) (cs : List ℕ) → false ≡ all-judged t h → Rows-say t h cs false
 say-off t h cs e = record { judged = e; counted = λ f _. absurd (false≢true f) }
 
-pub say-all : (t : List ℕ) (h : Head) (i : ℕ) (s : Seen) (cs : List ℕ) (x : Bool) → Rows-lent t h → h .used ≤ i → x ≡ ltb (s .ticket .0) (h .next .0) && fair s →
+pub say-all : (t : List ℕ) (h : Head) (i : ℕ) (s : Seen) (cs : List ℕ) (x : Bool) → Rows-lent t h → h .used ≤ i → x ≡ passing t h s →
     Scanned t h i s cs → Rows-say t h cs x
 say-all t h i s cs x k o e z =
     record { judged = judging-end t h i s x (z .judging) o e; counted = λ _ _. counting-end t h i cs k (z .judging .by) o (z .counting) }

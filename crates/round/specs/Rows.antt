@@ -1,9 +1,9 @@
--- A sound table's rows by index: ticket, due slot, weight, kind and bucket.
+-- A sound table's rows by index: ticket, due slot, weight, kind, class and bucket.
 use mathlib.Core.Path.{_≡_}
 use mathlib.Core.List.{List}
 use Prim.Native.Nat.{ℕ, _-_, _≤_, min}
 use lib.ListN.{length, getD}
-use Rattle.rules.specs.Limits.{most-last, most-weight}
+use Rattle.rules.specs.Limits.{most-last, most-weight, most-class}
 use Rattle.rules.specs.Rows.{Row, Round, blank}
 use Rattle.rules.specs.Table.{table-refusal}
 use Rattle.theory.specs.Count.{bucket}
@@ -37,10 +37,14 @@ pub record Weight-at (r : Round) (i w : ℕ) : Type 0 where
   pub some : 1 ≤ w
   pub most : w ≤ most-weight
 
--- its ticket and its kind
+-- its ticket, its kind and its class
 pub record Ticket-at (r : Round) (i k : ℕ) : Type 0 where
   pub is : k ≡ at r i .ticket
   pub some : 1 ≤ k
 
 abbrev pub Kind-at : Round → (row kind : ℕ) → Type 0
 Kind-at r i k = k ≡ at r i .tail .kind
+
+pub record Class-at (r : Round) (i c : ℕ) : Type 0 where
+  pub is : c ≡ at r i .tail .class
+  pub most : c ≤ most-class

@@ -1,8 +1,9 @@
-// A sound table's rows read: ticket, due slot, weight, kind, and the bucket of a due slot.
+// A sound table's rows read: ticket, due slot, weight, kind, class, and the bucket of a due slot.
 ghost use mathlib.Core.Path.{_≡_};
 ghost use Prim.Native.Nat.{_-_, _≤_, _<_, min};
 ghost use Rattle.rules.specs.Table.{round-in};
-ghost use Rattle.round.specs.Rows.{Ready, Ticket-at, Due-at, Weight-at, Kind-at};
+ghost use Rattle.round.specs.Rows.{Ready, Ticket-at, Due-at, Weight-at, Kind-at, Class-at};
+use row::entry::class_in;
 use row::entry::due_in;
 use row::entry::kind_in;
 use row::entry::ticket_in;
@@ -49,6 +50,13 @@ pub fn kind_at(table: &[u8], round: Round, row: usize) -> u8
     ensures { λ r. ⌜ Kind-at (round-in (now (table .entry))) row r ⌝ }
 {
     kind_in(table, row)
+}
+
+pub fn class_at(table: &[u8], round: Round, row: usize) -> u32
+    requires { ⌜ Ready (now table) round × (row < round .used) ⌝ }
+    ensures { λ r. ⌜ Class-at (round-in (now (table .entry))) row r ⌝ }
+{
+    class_in(table, row)
 }
 
 // The bucket of a slot so far ahead.

@@ -1,11 +1,11 @@
 -- What the rows so far have shown.
 use mathlib.Core.Path.{_≡_}
-use mathlib.Core.Bool.{Bool, _&&_}
+use mathlib.Core.Bool.{Bool, _&&_, _||_}
 use mathlib.Core.List.{List}
-use Prim.Native.Nat.{ℕ, _+_, _-_, _≤_, _<_}
-use lib.Dec.{ltb, leb}
+use Prim.Native.Nat.{ℕ, _+_, _-_, _%_, _≤_, _<_}
+use lib.Dec.{ltb, leb, eqb}
 use lib.ListN.{drop}
-use Rattle.rules.specs.Limits.{most-weight, ticket-at, due-at, weight-at, kind-at, row-zeros-at, slot-bytes, wide-bytes, kind-bytes}
+use Rattle.rules.specs.Limits.{most-weight, most-class, ticket-at, due-at, weight-at, kind-at, class-at, row-zeros-at, slot-bytes, wide-bytes, kind-bytes, class-bytes}
 use Rattle.rules.specs.Table.{field}
 use Rattle.theory.specs.Judge.{zeros}
 use Rattle.row.specs.declared.seen.Seen.{Seen}
@@ -17,11 +17,16 @@ pub record Differs (a b r : ℕ) : Type 0 where
 
 -- no weight or plain word so far is out of bounds
 abbrev pub fair : Seen → Bool
-fair s = ltb (s .weights) most-weight && leb (s .plain) 1
+fair s = ltb (s .weights) most-weight && ltb (s .plain) 1024
 
--- ONE ROW MORE: its ticket, its due slot, and whether weight, kind and zeros keep it fair
+-- a row's kind, and the class that goes with it
+unfoldable pub kind-good : (row : List ℕ) → Bool
+kind-good xs = leb (field kind-at kind-bytes xs) 1 && (eqb (field kind-at kind-bytes xs) 0 || eqb (field class-at class-bytes xs) most-class)
+
+-- ONE ROW MORE: its ticket, its due slot, whether weight, class and zeros keep it fair, and that all so far are frames only if it is one
 pub record Sees (slot : ℕ) (before : Seen) (row : List ℕ) (s : Seen) : Type 0 where
   pub ticket : s .ticket .0 ≡ field ticket-at wide-bytes row
   pub due : Differs (field due-at slot-bytes row) slot (s .ahead)
   pub rest : fair s ≡ fair before && ((leb 1 (field weight-at wide-bytes row) && leb (field weight-at wide-bytes row) most-weight)
-      && (leb (field kind-at kind-bytes row) 1 && zeros (drop row-zeros-at row)))
+      && (leb (field class-at class-bytes row) most-class && zeros (drop row-zeros-at row)))
+  pub frames : s .plain % 256 ≡ 0 → (before .plain % 256 ≡ 0) × (field kind-at kind-bytes row ≡ 0)

@@ -3,9 +3,10 @@ ghost use mathlib.Core.Path.{_≡_};
 ghost use Prim.Native.Nat.{suc, _≤_, _<_};
 ghost use lib.ListN.{length};
 ghost use Rattle.rules.specs.Limits.{most-rows};
-ghost use Rattle.rules.specs.Conditions.{row-at, ticket-in, due-in, weight-in, kind-in};
+ghost use Rattle.rules.specs.Conditions.{row-at, ticket-in, due-in, weight-in, kind-in, class-in};
 ghost use Rattle.row.specs.Entry.{Entry-in};
 use crate::row_at;
+use numbers::read1;
 use numbers::read2;
 use numbers::read4;
 use sorts::Round;
@@ -40,6 +41,13 @@ pub fn kind_in(table: &[u8], row: usize) -> u8
     ensures { λ r. ⌜ r ≡ kind-in (now (table .entry)) row ⌝ }
 {
     table[row_at(row) + Round::KIND_AT]
+}
+
+pub fn class_in(table: &[u8], row: usize) -> u32
+    requires { ⌜ (row < most-rows) × (row-at (suc row) ≤ length (now table)) ⌝ }
+    ensures { λ r. ⌜ r ≡ class-in (now (table .entry)) row ⌝ }
+{
+    read1(table, row_at(row) + Round::CLASS_AT)
 }
 
 pub struct Numbers {

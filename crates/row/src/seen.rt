@@ -1,10 +1,11 @@
 // The judge of one row, and what the rows so far have shown.
-ghost use mathlib.Core.Bool.{_&&_};
+ghost use mathlib.Core.Bool.{_&&_, _||_};
 ghost use mathlib.Core.Path.{_≡_};
-ghost use lib.Dec.{ltb, leb};
+ghost use Prim.Native.Nat.{_%_};
+ghost use lib.Dec.{ltb, leb, eqb};
 ghost use lib.ListN.{length};
-ghost use Rattle.rules.specs.Limits.{row-size};
-ghost use Rattle.row.specs.Seen.{Differs, Sees, fair};
+ghost use Rattle.rules.specs.Limits.{row-size, most-class};
+ghost use Rattle.row.specs.Seen.{Differs, Sees, fair, kind-good};
 use numbers::read2;
 use numbers::read4;
 use numbers::read8;
@@ -12,7 +13,7 @@ use sorts::Round;
 use sorts::Slot;
 use sorts::Ticket;
 
-// The last row's ticket and how far ahead it is due; or-ed together, all weights less 1, and all words that hold kind and zeros.
+// The last row's ticket and how far ahead it is due; or-ed together, all weights less 1, and all words that hold kind, class and zeros.
 pub struct Seen {
     pub ticket: Ticket,
     pub ahead: u32,
@@ -25,7 +26,7 @@ pub fn see_row(row: &[u8], slot: Slot, seen: Seen) -> Seen
     requires { ⌜ length (now row) ≡ row-size ⌝ }
     ensures { λ r. ⌜ Sees (slot .0) seen (now (row .entry)) r ⌝ }
 {
-    // A word is at most 1 when its first byte is and the others are zero; two that overlap hold kind and zeros.
+    // A word is below 1,024 when its second byte is at most 3 and those behind it are zero; two that overlap hold kind, class and zeros.
     let plain = read8(row, Round::KIND_AT) | read8(row, Round::ROW_SIZE - 8);
     Seen {
         ticket: Ticket(read4(row, Round::TICKET_AT)),
@@ -49,9 +50,33 @@ pub fn row_follows(before: Ticket, seen: Seen, span: u32) -> bool
     (before.0 < seen.ticket.0) & (seen.ahead <= span)
 }
 
-// Asked once, of all rows: rising tickets are below the next one where the last is.
+// Asked once, of all rows but for their kinds: rising tickets are below the next one where the last is.
 pub fn rows_pass(seen: Seen, next: Ticket) -> bool
     ensures { λ r. ⌜ r ≡ ltb (seen .ticket .0) (next .0) && fair seen ⌝ }
 {
-    (seen.ticket.0 < next.0) & ((seen.weights < Round::WEIGHT.0) & (seen.plain <= 1))
+    (seen.ticket.0 < next.0) & ((seen.weights < Round::WEIGHT.0) & (seen.plain < 1024))
+}
+
+// Whether all rows so far are frames, by the first byte of their words; where it is not 0 the kinds are asked row by row.
+pub fn all_frames(seen: Seen) -> bool
+    ensures { λ r. ⌜ r ≡ eqb (seen .plain % 256) 0 ⌝ }
+{
+    seen.plain % 256 == 0
+}
+
+// A row is a frame, or a kept blank, which has its own class.
+pub fn kind_is_good(row: &[u8]) -> bool
+    requires { ⌜ length (now row) ≡ row-size ⌝ }
+    ensures { λ r. ⌜ r ≡ kind-good (now (row .entry)) ⌝ }
+{
+    is_good(row[Round::KIND_AT], row[Round::CLASS_AT])
+}
+
+fn is_good(kind: u8, class: u8) -> bool
+    ensures { λ r. ⌜ r ≡ leb kind 1 && (eqb kind 0 || eqb class most-class) ⌝ }
+{
+    if kind == 0 {
+        return true;
+    }
+    (kind == 1) & (class as u32 == Round::CLASS.0)
 }

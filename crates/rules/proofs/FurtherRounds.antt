@@ -10,7 +10,7 @@ use Rattle.rules.specs.Steps.{opened, taken, sealed, changed, without, h
 use Rattle.rules.specs.Table.{low, value, field, put, row-bytes, rows-bytes, head-bytes, table, rows-in, rows-of, round-in, length-good, every, rows-good, round-good, same, table-refusal}
 use Rattle.rules.specs.Calls.{frame, kept-blank, ordinary, leap, refused, done, ticket, step, amount, blank-due, number-of, first, act, question, deed, round-refusal, out-of, says, leaves, table-first, refusal, answer, left}
 use Rattle.rules.specs.Looking.{with-ticket, stand-in, substitute-answer, list-refusal, list-answer, list-left, shows}
-use Rattle.rules.proofs.Played.{opens, takes, sends, seals, marks, totals, plain, plain-sealed, waits, keeps, old, turn, listing, substituting, lists, refuses, Hand, found, played}
+use Rattle.rules.proofs.Played.{opens, takes, sends, seals, marks, totals, plain, plain-sealed, waits, waits-of, keeps, old, turn, listing, substituting, lists, refuses, Hand, found, played}
 
 -- what waits in P4 before its sending
 abbrev pub p4-rows : List Row
@@ -31,12 +31,12 @@ further-rounds =
           turn sends (step (leap (frame 2))) (waits 1 3 1 ∷ waits 3 3 3 ∷ []) (0 ∷ 0 ∷ 0 ∷ 0 ∷ []) ∷
           [];
     } ∷
-    -- a kept blank goes out before its due slot, a frame waiting, and leaves its row
+    -- a kept blank goes out before its due slot, a frame of its class waiting, and leaves its row
     record {
-      start = table (plain 0 1 3 8 (keeps 1 1 5 ∷ waits 2 1 5 ∷ []));
+      start = table (plain 0 1 3 8 (keeps 1 1 5 ∷ waits-of 3 2 1 5 ∷ []));
       turns =
           listing (1 ∷ 2 ∷ []) (ticket 2 ∷ ticket 2 ∷ []) ∷
-          turn sends (step (ordinary (kept-blank 1))) (waits 2 1 5 ∷ []) (5 ∷ []) ∷
+          turn sends (step (ordinary (kept-blank 1))) (waits-of 3 2 1 5 ∷ []) (5 ∷ []) ∷
           [];
     } ∷
     -- three shifts, each raised to the mark of its new slot, a kept blank among them
@@ -98,23 +98,43 @@ further-rounds =
           lists 1 (refused 5) (old 0 ∷ []) ∷
           [];
     } ∷
-    -- a frame and a kept blank of equal weight: the smaller ticket, here the frame's
+    -- frames and a kept blank of equal weight: the frames, whose class is smaller, though one has the larger ticket
     record {
       start = table (plain 0 1 4 8 (waits 1 1 5 ∷ keeps 2 1 5 ∷ waits 3 1 5 ∷ []));
       turns =
-          listing (1 ∷ 2 ∷ []) (ticket 2 ∷ ticket 2 ∷ []) ∷
+          listing (1 ∷ 3 ∷ []) (ticket 3 ∷ ticket 3 ∷ []) ∷
           turn totals (amount 10) (waits 1 1 5 ∷ keeps 2 1 5 ∷ waits 3 1 5 ∷ []) (5 ∷ 5 ∷ []) ∷
           turn sends (step (ordinary (frame 1))) (keeps 2 1 5 ∷ waits 3 1 5 ∷ []) (5 ∷ []) ∷
+          turn sends (step (ordinary (frame 3))) [] [] ∷
+          [];
+    } ∷
+    -- the frame before two kept blanks, of which the smaller ticket stays in the plan
+    record {
+      start = table (plain 0 1 4 8 (keeps 1 1 5 ∷ waits 2 1 5 ∷ keeps 3 1 5 ∷ []));
+      turns =
+          listing (2 ∷ 1 ∷ []) (ticket 1 ∷ ticket 1 ∷ []) ∷
+          turn totals (amount 10) (keeps 1 1 5 ∷ waits 2 1 5 ∷ keeps 3 1 5 ∷ []) (5 ∷ 5 ∷ []) ∷
+          turn sends (step (ordinary (frame 2))) (keeps 1 1 5 ∷ keeps 3 1 5 ∷ []) (5 ∷ []) ∷
+          turn sends (step (ordinary (kept-blank 1))) [] [] ∷
+          [];
+    } ∷
+    -- of equal class too: the smaller ticket, here the frame's
+    record {
+      start = table (plain 0 1 4 8 (waits-of 3 1 1 5 ∷ keeps 2 1 5 ∷ waits-of 3 3 1 5 ∷ []));
+      turns =
+          listing (1 ∷ 2 ∷ []) (ticket 2 ∷ ticket 2 ∷ []) ∷
+          turn totals (amount 10) (waits-of 3 1 1 5 ∷ keeps 2 1 5 ∷ waits-of 3 3 1 5 ∷ []) (5 ∷ 5 ∷ []) ∷
+          turn sends (step (ordinary (frame 1))) (keeps 2 1 5 ∷ waits-of 3 3 1 5 ∷ []) (5 ∷ []) ∷
           turn sends (step (ordinary (kept-blank 2))) [] [] ∷
           [];
     } ∷
     -- and here the kept blank's
     record {
-      start = table (plain 0 1 4 8 (keeps 1 1 5 ∷ waits 2 1 5 ∷ keeps 3 1 5 ∷ []));
+      start = table (plain 0 1 4 8 (keeps 1 1 5 ∷ waits-of 3 2 1 5 ∷ keeps 3 1 5 ∷ []));
       turns =
           listing (1 ∷ 2 ∷ []) (ticket 2 ∷ ticket 2 ∷ []) ∷
-          turn totals (amount 10) (keeps 1 1 5 ∷ waits 2 1 5 ∷ keeps 3 1 5 ∷ []) (5 ∷ 5 ∷ []) ∷
-          turn sends (step (ordinary (kept-blank 1))) (waits 2 1 5 ∷ keeps 3 1 5 ∷ []) (5 ∷ []) ∷
+          turn totals (amount 10) (keeps 1 1 5 ∷ waits-of 3 2 1 5 ∷ keeps 3 1 5 ∷ []) (5 ∷ 5 ∷ []) ∷
+          turn sends (step (ordinary (kept-blank 1))) (waits-of 3 2 1 5 ∷ keeps 3 1 5 ∷ []) (5 ∷ []) ∷
           turn sends (step (ordinary (frame 2))) [] [] ∷
           [];
     } ∷

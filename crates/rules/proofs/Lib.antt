@@ -2,6 +2,7 @@ pub mod Played
 pub mod Rounds
 pub mod FurtherRounds
 pub mod SealedRounds
+pub mod ClassRounds
 pub mod HindsightRounds
 pub mod ListShapes
 pub mod Bytes

@@ -8,10 +8,10 @@ use native.Mathlib.Omega.{arith}
 use lib.Dec.{ltb, leb, eqb, eqb·suc-zero}
 use lib.ListN.{length}
 use borrow.Author.Tests.{leb-true, leb-false, eqb-true, eqb-false, le-leb, lt-leb, eq-eqb, ne-eqb}
-use Rattle.rules.specs.Limits.{slot-digits, wide-digits, most-payload}
+use Rattle.rules.specs.Limits.{short-digits, slot-digits, wide-digits, most-payload}
 use Rattle.rules.specs.Lines.{digits, all-digits, count-digits, numerals, fit-digits, number-at, numbers-at}
-use Rattle.rules.specs.Lines.{forms, found, front-size, payload-fits, has-length, open-line, take-line, send-line, seal-line, line-number, values-of}
-use Rattle.rules.specs.Lines.{front, text, stands, line-end, Reading, command, broken, command-of, read-digits, payload-at, Place, place-of}
+use Rattle.rules.specs.Lines.{forms, found, front-size, payload-fits, has-length, open-line, take-line, send-line, seal-line, class-line, line-number, values-of}
+use Rattle.rules.specs.Lines.{front, text, stands, line-end, Reading, command, broken, command-of, read-digits, payload-at, class-payload-at, Place, place-of}
 
 -- TEXT
 pub open-text : (l : ℕ) (ps : List ℕ) → text (open-line l) ps ≡ digits 2 0 ++ digits slot-digits l ++ ps ++ (line-end ∷ [])
@@ -30,6 +30,12 @@ send-text ps = refl
 pub seal-text : (ps : List ℕ) → text seal-line ps ≡ digits 2 3 ++ ps ++ (line-end ∷ [])
 unfolding digits numerals forms found line-number values-of front text
 seal-text ps = refl
+
+pub class-text : (d w c : ℕ) (ps : List ℕ) →
+    text (class-line d w c) ps
+    ≡ digits 2 4 ++ digits slot-digits d ++ digits wide-digits w ++ digits short-digits c ++ ps ++ (line-end ∷ [])
+unfolding digits numerals forms found line-number values-of front text
+class-text d w c ps = refl
 
 -- WHAT CAN STAND
 true-last : (a : Bool) → a && true ≡ a
@@ -63,7 +69,14 @@ pub seal-stands : (ps : List ℕ) → stands seal-line ps ≡ eqb (length ps) 0
 unfolding fit-digits forms found payload-fits line-number values-of stands
 seal-stands ps = no-payload ps
 
--- THE READER'S TESTS: a line of the form without payload has just so many digits, line 01 that many or up to 48 more, an even number
+pub class-stands : (d w c : ℕ) (ps : List ℕ) →
+    stands (class-line d w c) ps
+    ≡ (ltb d (16 ^ slot-digits) && (ltb w (16 ^ wide-digits) && ltb c (16 ^ short-digits)))
+    && (all-digits ps && (eqb (length ps % 2) 0 && leb (length ps) most-payload))
+unfolding fit-digits forms found payload-fits line-number values-of stands
+class-stands d w c ps = rw (true-last (ltb c (16 ^ short-digits)))
+
+-- THE READER'S TESTS: a line of a form without payload has just so many digits, 01 and 04 that many or up to 48 more, an even number
 either : (t : Bool) → (t ≡ true) ⊎ (t ≡ false)
 either true = inl refl
 either false = inr refl
@@ -89,16 +102,17 @@ seal-long : (n : ℕ) → has-length (found 3 forms) n ≡ eqb n 2
 unfolding forms found count-digits front-size payload-fits has-length
 seal-long n = just 2 n
 
-halves : (n : ℕ) → leb payload-at n ≡ true → eqb ((n - payload-at) % 2) 0 ≡ eqb (n % 2) 0
-halves n l = elim (either (eqb (n % 2) 0)) [
-  | inl e ↦ rw (e, eq-eqb ((n - payload-at) % 2) 0 (omega (arith, leb-true payload-at n l, eqb-true (n % 2) 0 e)))
-  | inr e ↦ rw (e, ne-eqb ((n - payload-at) % 2) 0 (λ z. eqb-false (n % 2) 0 e (omega (arith, leb-true payload-at n l))))
+-- behind an even front of p digits
+halves : (p n : ℕ) → p % 2 ≡ 0 → leb p n ≡ true → eqb ((n - p) % 2) 0 ≡ eqb (n % 2) 0
+halves p n h l = elim (either (eqb (n % 2) 0)) [
+  | inl e ↦ rw (e, eq-eqb ((n - p) % 2) 0 (omega (arith, h, leb-true p n l, eqb-true (n % 2) 0 e)))
+  | inr e ↦ rw (e, ne-eqb ((n - p) % 2) 0 (λ z. eqb-false (n % 2) 0 e (omega (arith, h, leb-true p n l))))
 ]
 
-most : (n : ℕ) → leb payload-at n ≡ true → leb (n - payload-at) most-payload ≡ leb n (payload-at + most-payload)
-most n l = elim (either (leb n (payload-at + most-payload))) [
-  | inl e ↦ rw (e, le-leb (n - payload-at) most-payload (omega (arith, leb-true n (payload-at + most-payload) e)))
-  | inr e ↦ rw (e, lt-leb (n - payload-at) most-payload (omega (arith, leb-false n (payload-at + most-payload) e)))
+most : (p n : ℕ) → leb p n ≡ true → leb (n - p) most-payload ≡ leb n (p + most-payload)
+most p n l = elim (either (leb n (p + most-payload))) [
+  | inl e ↦ rw (e, le-leb (n - p) most-payload (omega (arith, leb-true n (p + most-payload) e)))
+  | inr e ↦ rw (e, lt-leb (n - p) most-payload (omega (arith, leb-false n (p + most-payload) e)))
 ]
 
 swap : (a b : Bool) → a && b ≡ b && a
@@ -108,7 +122,14 @@ swap false b = sym (false-last b)
 take-long : (n : ℕ) → has-length (found 1 forms) n ≡ (leb payload-at n && leb n (payload-at + most-payload)) && eqb (n % 2) 0
 unfolding forms found count-digits front-size payload-fits has-length
 take-long n = elim (either (leb payload-at n)) [
-  | inl l ↦ rw (l, halves n l, most n l) (swap (eqb (n % 2) 0) (leb n (payload-at + most-payload)))
+  | inl l ↦ rw (l, halves payload-at n refl l, most payload-at n l) (swap (eqb (n % 2) 0) (leb n (payload-at + most-payload)))
+  | inr l ↦ rw l
+]
+
+class-long : (n : ℕ) → has-length (found 4 forms) n ≡ (leb class-payload-at n && leb n (class-payload-at + most-payload)) && eqb (n % 2) 0
+unfolding forms found count-digits front-size payload-fits has-length
+class-long n = elim (either (leb class-payload-at n)) [
+  | inl l ↦ rw (l, halves class-payload-at n refl l, most class-payload-at n l) (swap (eqb (n % 2) 0) (leb n (class-payload-at + most-payload)))
   | inr l ↦ rw l
 ]
 
@@ -123,15 +144,23 @@ module _ (ds : List ℕ) (n : ℕ) where
   abbrev take-made : Reading
   take-made = command (take-line (number-at 2 slot-digits ds) (number-at 6 wide-digits ds))
 
+  abbrev class-made : Reading
+  class-made = command (class-line (number-at 2 slot-digits ds) (number-at 6 wide-digits ds) (number-at 14 short-digits ds))
+
   abbrev take-fits : Bool
   take-fits = leb payload-at n && leb n (payload-at + most-payload)
+
+  abbrev class-fits : Bool
+  class-fits = leb class-payload-at n && leb n (class-payload-at + most-payload)
 
   abbrev Reads-as : ℕ → Type 0
   Reads-as k =
       cond (has-length (found k forms) n) (made k) broken
       ≡ cond (eqb n 6 && eqb k 0) open-made
       (cond (take-fits && (eqb (n % 2) 0 && eqb k 1)) take-made
-      (cond (eqb n 2 && eqb k 2) (command send-line) (cond (eqb n 2 && eqb k 3) (command seal-line) broken)))
+      (cond (eqb n 2 && eqb k 2) (command send-line)
+      (cond (eqb n 2 && eqb k 3) (command seal-line)
+      (cond (class-fits && (eqb (n % 2) 0 && eqb k 4)) class-made broken))))
 
   opens : made 0 ≡ open-made
   unfolding forms found command-of numbers-at
@@ -149,28 +178,59 @@ module _ (ds : List ℕ) (n : ℕ) where
   unfolding forms found command-of numbers-at
   seals = refl
 
+  classes : made 4 ≡ class-made
+  unfolding forms found command-of numbers-at
+  classes = refl
+
   open-reads : Reads-as 0
-  open-reads = rw (open-long n, opens, true-last (eqb n 6), false-last (eqb (n % 2) 0), false-last (eqb n 2), false-last take-fits)
+  open-reads =
+      rw (open-long n, opens, true-last (eqb n 6), false-last (eqb (n % 2) 0), false-last (eqb n 2), false-last take-fits, false-last class-fits)
 
   take-reads : Reads-as 1
-  take-reads = rw (take-long n, takes, false-last (eqb n 6), true-last (eqb (n % 2) 0), false-last (eqb n 2))
+  take-reads =
+      rw (take-long n, takes, false-last (eqb n 6), true-last (eqb (n % 2) 0), false-last (eqb n 2), false-last (eqb (n % 2) 0), false-last class-fits)
 
   send-reads : Reads-as 2
-  send-reads = rw (send-long n, sends, false-last (eqb n 6), false-last (eqb (n % 2) 0), true-last (eqb n 2), false-last (eqb n 2), false-last take-fits)
+  send-reads =
+      rw (
+        send-long n,
+        sends,
+        false-last (eqb n 6),
+        false-last (eqb (n % 2) 0),
+        true-last (eqb n 2),
+        false-last (eqb n 2),
+        false-last take-fits,
+        false-last class-fits,
+      )
 
   seal-reads : Reads-as 3
-  seal-reads = rw (seal-long n, seals, false-last (eqb n 6), false-last (eqb (n % 2) 0), false-last (eqb n 2), true-last (eqb n 2), false-last take-fits)
+  seal-reads =
+      rw (
+        seal-long n,
+        seals,
+        false-last (eqb n 6),
+        false-last (eqb (n % 2) 0),
+        false-last (eqb n 2),
+        true-last (eqb n 2),
+        false-last take-fits,
+        false-last class-fits,
+      )
+
+  class-reads : Reads-as 4
+  class-reads =
+      rw (class-long n, classes, false-last (eqb n 6), false-last (eqb (n % 2) 0), false-last (eqb n 2), true-last (eqb (n % 2) 0), false-last take-fits)
 
   -- no other number is a line's
-  other-reads : (k : ℕ) → Reads-as (suc (suc (suc (suc k))))
+  other-reads : (k : ℕ) → Reads-as (suc (suc (suc (suc (suc k)))))
   unfolding command-of
   other-reads k =
-      let a : eqb (suc (suc (suc (suc k)))) 0 ≡ false = ne-eqb (suc (suc (suc (suc k)))) 0 (λ e. omega arith) in
-      let b : eqb (suc (suc (suc (suc k)))) 1 ≡ false = ne-eqb (suc (suc (suc (suc k)))) 1 (λ e. omega arith) in
-      let c : eqb (suc (suc (suc (suc k)))) 2 ≡ false = ne-eqb (suc (suc (suc (suc k)))) 2 (λ e. omega arith) in
-      let d : eqb (suc (suc (suc (suc k)))) 3 ≡ false = ne-eqb (suc (suc (suc (suc k)))) 3 (λ e. omega arith) in
-      rw (a, b, c, d, false-last (eqb n 6), false-last (eqb (n % 2) 0), false-last (eqb n 2), false-last take-fits)
-      (either-way (has-length (found (suc (suc (suc (suc k)))) forms) n) broken)
+      let a : eqb (suc (suc (suc (suc (suc k))))) 0 ≡ false = ne-eqb (suc (suc (suc (suc (suc k))))) 0 (λ e. omega arith) in
+      let b : eqb (suc (suc (suc (suc (suc k))))) 1 ≡ false = ne-eqb (suc (suc (suc (suc (suc k))))) 1 (λ e. omega arith) in
+      let c : eqb (suc (suc (suc (suc (suc k))))) 2 ≡ false = ne-eqb (suc (suc (suc (suc (suc k))))) 2 (λ e. omega arith) in
+      let d : eqb (suc (suc (suc (suc (suc k))))) 3 ≡ false = ne-eqb (suc (suc (suc (suc (suc k))))) 3 (λ e. omega arith) in
+      let f : eqb (suc (suc (suc (suc (suc k))))) 4 ≡ false = ne-eqb (suc (suc (suc (suc (suc k))))) 4 (λ e. omega arith) in
+      rw (a, b, c, d, f, false-last (eqb n 6), false-last (eqb (n % 2) 0), false-last (eqb n 2), false-last take-fits, false-last class-fits)
+      (either-way (has-length (found (suc (suc (suc (suc (suc k))))) forms) n) broken)
     where
       either-way : (t : Bool) (r : Reading) → cond t r r ≡ r
       either-way true r = refl
@@ -181,7 +241,8 @@ module _ (ds : List ℕ) (n : ℕ) where
   reads-as (suc zero) = take-reads
   reads-as (suc (suc zero)) = send-reads
   reads-as (suc (suc (suc zero))) = seal-reads
-  reads-as (suc (suc (suc (suc k)))) = other-reads k
+  reads-as (suc (suc (suc (suc zero)))) = class-reads
+  reads-as (suc (suc (suc (suc (suc k))))) = other-reads k
 
 pub read-shape : (ds : List ℕ) →
     read-digits ds
@@ -189,7 +250,10 @@ pub read-shape : (ds : List ℕ) →
     (cond ((leb payload-at (length ds) && leb (length ds) (payload-at + most-payload)) && (eqb (length ds % 2) 0 && eqb (number-at 0 2 ds) 1))
     (command (take-line (number-at 2 slot-digits ds) (number-at 6 wide-digits ds)))
     (cond (eqb (length ds) 2 && eqb (number-at 0 2 ds) 2) (command send-line)
-    (cond (eqb (length ds) 2 && eqb (number-at 0 2 ds) 3) (command seal-line) broken)))
+    (cond (eqb (length ds) 2 && eqb (number-at 0 2 ds) 3) (command seal-line)
+    (cond ((leb class-payload-at (length ds) && leb (length ds) (class-payload-at + most-payload))
+    && (eqb (length ds % 2) 0 && eqb (number-at 0 2 ds) 4))
+    (command (class-line (number-at 2 slot-digits ds) (number-at 6 wide-digits ds) (number-at 14 short-digits ds))) broken))))
 unfolding read-digits
 read-shape ds = reads-as ds (length ds) (number-at 0 2 ds)
 
@@ -212,6 +276,11 @@ send-place n = refl
 pub seal-place : (n : ℕ) → place-of (command seal-line) n ≡ at 0 0
 unfolding forms found line-number place-of
 seal-place n = refl
+
+pub class-place : (d w c n : ℕ) →
+    place-of (command (class-line d w c)) n ≡ cond (ltb (suc class-payload-at) n) (at class-payload-at (n - 1)) (at 0 0)
+unfolding forms found count-digits front-size line-number place-of
+class-place d w c n = refl
 
 pub broken-place : (n : ℕ) → place-of broken n ≡ at 0 0
 unfolding place-of

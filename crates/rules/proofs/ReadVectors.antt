@@ -77,7 +77,7 @@ reads =
           [];
       held = 48 ∷ 50 ∷ [];
       over = false;
-      rows = row 1 0 4 frame-tail ∷ row 2 1 11 frame-tail ∷ [];
+      rows = row 1 0 4 (frame-tail 0) ∷ row 2 1 11 (frame-tail 0) ∷ [];
     } ∷
     -- one byte at a time
     record {
@@ -131,10 +131,10 @@ reads =
       over = true;
       rows = [];
     } ∷
-    -- 63 bytes without a 0A are held, and the 0A makes a line of them; 64 are refused before it
+    -- 65 bytes without a 0A are held, and the 0A makes a line of them; 66 are refused before it
     record {
       reads =
-          (replicate 63 48) ∷
+          (replicate 65 48) ∷
           (10 ∷ []) ∷
           [];
       writes =
@@ -147,19 +147,19 @@ reads =
     } ∷
     record {
       reads =
-          (replicate 63 48) ∷
+          (replicate 65 48) ∷
           [];
       writes =
           [] ∷
           [];
-      held = replicate 63 48;
+      held = replicate 65 48;
       over = false;
       rows = [];
     } ∷
     record {
       reads =
           (48 ∷ 48 ∷ 48 ∷ 48 ∷ 48 ∷ 49 ∷ 10 ∷ replicate 40 48) ∷
-          (replicate 24 48) ∷
+          (replicate 26 48) ∷
           (10 ∷ []) ∷
           [];
       writes =
@@ -185,6 +185,56 @@ reads =
           (70 ∷ 70 ∷ 48 ∷ 68 ∷ 10 ∷ []) ∷
           (48 ∷ 51 ∷ 10 ∷ 48 ∷ 50 ∷ 48 ∷ 48 ∷ 48 ∷ 48 ∷ 48 ∷ 48 ∷ 48 ∷ 48 ∷ 48 ∷ 48 ∷ 48 ∷ 48 ∷ 10 ∷ []) ∷
           [] ∷
+          [];
+      held = [];
+      over = true;
+      rows = [];
+    } ∷
+    -- takings with classes, cut before the class, between its digits and behind it; the rows have their classes
+    record {
+      reads =
+          (48 ∷ 48 ∷ 48 ∷ 48 ∷ 48 ∷ 49 ∷ 10 ∷ 48 ∷ 52 ∷ 48 ∷ 48 ∷ 48 ∷ 48 ∷ 48 ∷ 48 ∷ 48 ∷ 48 ∷ 48 ∷ 48 ∷ 48 ∷ 53 ∷ []) ∷
+          (48 ∷ 50 ∷ 10 ∷ 48 ∷ 52 ∷ 48 ∷ 48 ∷ 48 ∷ 49 ∷ 48 ∷ 48 ∷ 48 ∷ 48 ∷ 48 ∷ 48 ∷ 48 ∷ 66 ∷ 48 ∷ []) ∷
+          (49 ∷ 65 ∷ 66 ∷ 67 ∷ 68 ∷ 10 ∷ []) ∷
+          (48 ∷ 52 ∷ 48 ∷ 48 ∷ 48 ∷ 48 ∷ 48 ∷ 48 ∷ 48 ∷ 48 ∷ 48 ∷ 48 ∷ 48 ∷ 53 ∷ 48 ∷ 52 ∷ 10 ∷ 48 ∷ 52 ∷ []) ∷
+          [];
+      writes =
+          (48 ∷ 48 ∷ 10 ∷ []) ∷
+          (48 ∷ 49 ∷ 48 ∷ 48 ∷ 48 ∷ 48 ∷ 48 ∷ 48 ∷ 48 ∷ 49 ∷ 10 ∷ []) ∷
+          (48 ∷ 49 ∷ 48 ∷ 48 ∷ 48 ∷ 48 ∷ 48 ∷ 48 ∷ 48 ∷ 50 ∷ 10 ∷ []) ∷
+          (70 ∷ 70 ∷ 48 ∷ 69 ∷ 10 ∷ []) ∷
+          [];
+      held = 48 ∷ 52 ∷ [];
+      over = false;
+      rows = row 1 0 5 (frame-tail 2) ∷ row 2 1 11 (frame-tail 1) ∷ [];
+    } ∷
+    -- line 04 with a whole payload: its 64 digits are held, and the 0A makes a taking of them
+    record {
+      reads =
+          (48 ∷ 48 ∷ 48 ∷ 48 ∷ 48 ∷ 49 ∷ 10 ∷ []) ∷
+          (48 ∷ 52 ∷ 48 ∷ 48 ∷ 48 ∷ 48 ∷ 48 ∷ 48 ∷ 48 ∷ 48 ∷ 48 ∷ 48 ∷ 48 ∷ 53 ∷ 48 ∷ 51 ∷ 48 ∷ 49 ∷ 50 ∷ 51 ∷ 52 ∷ 53 ∷ 54 ∷ 55 ∷ 56 ∷ 57 ∷ 65 ∷ 66 ∷ 67 ∷ 68 ∷ 69 ∷ 70 ∷ 48 ∷ 49 ∷ 50 ∷ 51 ∷ 52 ∷ 53 ∷ 54 ∷ 55 ∷ 56 ∷ 57 ∷ 65 ∷ 66 ∷ 67 ∷ 68 ∷ 69 ∷ 70 ∷ 48 ∷ 49 ∷ 50 ∷ 51 ∷ 52 ∷ 53 ∷ 54 ∷ 55 ∷ 56 ∷ 57 ∷ 65 ∷ 66 ∷ 67 ∷ 68 ∷ 69 ∷ 70 ∷ []) ∷
+          (10 ∷ []) ∷
+          [];
+      writes =
+          (48 ∷ 48 ∷ 10 ∷ []) ∷
+          [] ∷
+          (48 ∷ 49 ∷ 48 ∷ 48 ∷ 48 ∷ 48 ∷ 48 ∷ 48 ∷ 48 ∷ 49 ∷ 10 ∷ []) ∷
+          [];
+      held = [];
+      over = false;
+      rows = row 1 0 5 (frame-tail 3) ∷ [];
+    } ∷
+    -- line 01 with a whole payload and two digits more is broken once its 0A is there
+    record {
+      reads =
+          (48 ∷ 48 ∷ 48 ∷ 48 ∷ 48 ∷ 49 ∷ 10 ∷ []) ∷
+          (48 ∷ 49 ∷ 48 ∷ 48 ∷ 48 ∷ 48 ∷ 48 ∷ 48 ∷ 48 ∷ 48 ∷ 48 ∷ 48 ∷ 48 ∷ 53 ∷ 48 ∷ 49 ∷ 50 ∷ 51 ∷ 52 ∷ 53 ∷ 54 ∷ 55 ∷ 56 ∷ 57 ∷ 65 ∷ 66 ∷ 67 ∷ 68 ∷ 69 ∷ 70 ∷ 48 ∷ 49 ∷ 50 ∷ 51 ∷ 52 ∷ 53 ∷ 54 ∷ 55 ∷ 56 ∷ 57 ∷ 65 ∷ 66 ∷ 67 ∷ 68 ∷ 69 ∷ 70 ∷ 48 ∷ 49 ∷ 50 ∷ 51 ∷ 52 ∷ 53 ∷ 54 ∷ 55 ∷ 56 ∷ 57 ∷ 65 ∷ 66 ∷ 67 ∷ 68 ∷ 69 ∷ 70 ∷ 48 ∷ 51 ∷ []) ∷
+          (10 ∷ []) ∷
+          [];
+      writes =
+          (48 ∷ 48 ∷ 10 ∷ []) ∷
+          [] ∷
+          (70 ∷ 70 ∷ 48 ∷ 49 ∷ 10 ∷ []) ∷
           [];
       held = [];
       over = true;

@@ -12,7 +12,7 @@ use Rattle.rules.specs.Calls.{Call, silence, frame, kept-blank, ordinary
 use Rattle.rules.specs.Looking.{with-ticket, stand-in, substitute-answer, list-refusal, list-answer, list-left, shows}
 use Rattle.rules.specs.Demands.{No-opening}
 use Rattle.rules.specs.Sealed.{Went-out, Sealed-by}
-use Rattle.rules.proofs.Played.{opens, takes, sends, seals, marks, totals, plain, plain-sealed, waits, keeps, old, turn, listing, substituting, lists, refuses, head, Hand, found, played}
+use Rattle.rules.proofs.Played.{opens, takes, sends, seals, marks, totals, plain, plain-sealed, waits, waits-of, keeps, old, turn, listing, substituting, lists, refuses, head, Hand, found, played}
 
 -- THE TABLE
 abbrev pub sealed-rounds : List Hand
@@ -161,7 +161,8 @@ sealed-rounds =
           turn sends (step (ordinary (frame 3))) [] [] ∷
           [];
     } ∷
-    -- a kept blank has its turn like a frame: first by its due slot, or last, where PlanM would leap in both; and by its ticket among equals
+    -- a kept blank has its turn like a frame: first by its due slot, or last, where PlanM would leap in both; behind frames of a smaller class,
+    -- and by its ticket among frames of class 3
     record {
       start = table (plain-sealed 0 1 3 8 (keeps 1 0 4 ∷ waits 2 1 11 ∷ []));
       turns =
@@ -182,8 +183,8 @@ sealed-rounds =
       start = table (plain-sealed 0 1 4 8 (keeps 1 1 5 ∷ waits 2 1 5 ∷ keeps 3 1 5 ∷ []));
       turns =
           turn totals (amount 10) (keeps 1 1 5 ∷ waits 2 1 5 ∷ keeps 3 1 5 ∷ []) (5 ∷ 5 ∷ []) ∷
-          turn sends (step (ordinary (kept-blank 1))) (waits 2 1 5 ∷ keeps 3 1 5 ∷ []) (5 ∷ []) ∷
-          turn sends (step (ordinary (frame 2))) [] [] ∷
+          turn sends (step (ordinary (frame 2))) (keeps 1 1 5 ∷ keeps 3 1 5 ∷ []) (5 ∷ []) ∷
+          turn sends (step (ordinary (kept-blank 1))) [] [] ∷
           [];
     } ∷
     record {
@@ -191,6 +192,22 @@ sealed-rounds =
       turns =
           turn totals (amount 10) (waits 1 1 5 ∷ keeps 2 1 5 ∷ waits 3 1 5 ∷ []) (5 ∷ 5 ∷ []) ∷
           turn sends (step (ordinary (frame 1))) (keeps 2 1 5 ∷ waits 3 1 5 ∷ []) (5 ∷ []) ∷
+          turn sends (step (ordinary (frame 3))) [] [] ∷
+          [];
+    } ∷
+    record {
+      start = table (plain-sealed 0 1 4 8 (keeps 1 1 5 ∷ waits-of 3 2 1 5 ∷ keeps 3 1 5 ∷ []));
+      turns =
+          turn totals (amount 10) (keeps 1 1 5 ∷ waits-of 3 2 1 5 ∷ keeps 3 1 5 ∷ []) (5 ∷ 5 ∷ []) ∷
+          turn sends (step (ordinary (kept-blank 1))) (waits-of 3 2 1 5 ∷ keeps 3 1 5 ∷ []) (5 ∷ []) ∷
+          turn sends (step (ordinary (frame 2))) [] [] ∷
+          [];
+    } ∷
+    record {
+      start = table (plain-sealed 0 1 4 8 (waits-of 3 1 1 5 ∷ keeps 2 1 5 ∷ waits-of 3 3 1 5 ∷ []));
+      turns =
+          turn totals (amount 10) (waits-of 3 1 1 5 ∷ keeps 2 1 5 ∷ waits-of 3 3 1 5 ∷ []) (5 ∷ 5 ∷ []) ∷
+          turn sends (step (ordinary (frame 1))) (keeps 2 1 5 ∷ waits-of 3 3 1 5 ∷ []) (5 ∷ []) ∷
           turn sends (step (ordinary (kept-blank 2))) [] [] ∷
           [];
     } ∷

@@ -8,20 +8,27 @@ use lib.Dec.{ltb, leb, eqb}
 use borrow.Author.Tests.{le-ltb, lt-leb}
 use lib.ListN.{length, drop, replicate}
 use Rattle.rules.specs.Limits.{most-last, most-weight, ticket-limit}
-use Rattle.rules.specs.Rows.{Frame, Setup, Row, Round, row, round}
+use Rattle.rules.specs.Rows.{Frame, Setup, Row, Round, row, blank, round}
 use Rattle.rules.specs.Plan.{plan, total, first-end, mark, best, canonical-first}
 use Rattle.rules.specs.Steps.{opened, taken, sealed, turn-of, goes, sent, is-ordinary}
 use Rattle.rules.specs.Table.{low, field, put, row-bytes, rows-bytes, head-bytes, table, rows-in, rows-of, round-in, every, rows-good, round-good}
 use Rattle.rules.specs.Calls.{taking, sending, sealing, marking, totalling, Call, opening, acting, asking, act, question, deed, done, closed, ticket, step, amount, ordinary, leap, out-of, round-refusal, says, leaves}
 use Rattle.rules.specs.Conditions.{Length-bad, Unsound, Past, Weight-bad, Slot-bad, No-row, Not-planned, next-in, used-in, sealed-in, when, accepted, act-conditions, question-conditions, conditions, refusal-given, substitute-given}
 
--- A ROW's bytes, of a kind that fits its byte
-pub row-bytes-are : (x : Row) → x .tail .kind < 256 →
-    row-bytes x ≡ low 4 (x .ticket) ++ low 2 (x .due) ++ low 4 (x .weight) ++ (x .tail .kind ∷ []) ++ replicate 13 0
+-- A ROW's bytes, of a kind and a class that fit a byte each
+pub row-bytes-are : (x : Row) → x .tail .kind < 256 → x .tail .class < 256 →
+    row-bytes x ≡ low 4 (x .ticket) ++ low 2 (x .due) ++ low 4 (x .weight) ++ (x .tail .kind ∷ x .tail .class ∷ []) ++ replicate 12 0
 unfolding row-bytes put low
-row-bytes-are x h =
+row-bytes-are x h g =
     let e : x .tail .kind % 256 ≡ x .tail .kind = omega arith in
-    ap (λ (b : ℕ). low 4 (x .ticket) ++ low 2 (x .due) ++ low 4 (x .weight) ++ (b ∷ []) ++ replicate 13 0) e
+    let d : x .tail .class % 256 ≡ x .tail .class = omega arith in
+    ap (λ (b : ℕ). low 4 (x .ticket) ++ low 2 (x .due) ++ low 4 (x .weight) ++ (b ∷ x .tail .class % 256 ∷ []) ++ replicate 12 0) e
+    ∙ ap (λ (c : ℕ). low 4 (x .ticket) ++ low 2 (x .due) ++ low 4 (x .weight) ++ (x .tail .kind ∷ c ∷ []) ++ replicate 12 0) d
+
+-- A BLANK without a row: ticket 0, weight 0, class 3
+pub blank-is : (s : ℕ) → blank s ≡ row 0 s 0 (record { kind = 0; class = 3 })
+unfolding blank row
+blank-is s = refl
 
 -- THE TABLE's, of a seal that fits its byte
 pub table-is : (r : Round) → r .tail .sealed < 256 → table r ≡
@@ -34,7 +41,8 @@ table-is r h =
     ++ rows-bytes (r .rows) ++ replicate (24 * (r .room - length (r .rows))) 0) e
 
 pub rows-in-are : (k : ℕ) (bs : List ℕ) →
-    rows-in (suc k) bs ≡ row (field 0 4 bs) (field 4 2 bs) (field 6 4 bs) (record { kind = field 10 1 bs }) ∷ rows-in k (drop 24 bs)
+    rows-in (suc k) bs
+    ≡ row (field 0 4 bs) (field 4 2 bs) (field 6 4 bs) (record { kind = field 10 1 bs; class = field 11 1 bs }) ∷ rows-in k (drop 24 bs)
 unfolding rows-in
 rows-in-are k bs = refl
 
@@ -45,16 +53,19 @@ unfolding round-in
 round-in-is bs = refl
 
 -- BOUNDS
-regrouped : (a b c d e f g z : Bool) →
-    ((a && (b && (c && (d && (e && (f && (g && true))))))) && z) ≡ (((a && b) && (c && d)) && (((e && f) && g) && z))
-regrouped false b c d e f g z = refl
-regrouped true false c d e f g z = refl
-regrouped true true false d e f g z = refl
-regrouped true true true false e f g z = refl
-regrouped true true true true false f g z = refl
-regrouped true true true true true false g z = refl
-regrouped true true true true true true false z = refl
-regrouped true true true true true true true z = refl
+regrouped : (a b c d e f g h i z : Bool) →
+    ((a && (b && (c && (d && (e && (f && (g && (h && (i && true))))))))) && z)
+    ≡ (((a && b) && (c && d)) && (((e && f) && ((g && h) && i)) && z))
+regrouped false b c d e f g h i z = refl
+regrouped true false c d e f g h i z = refl
+regrouped true true false d e f g h i z = refl
+regrouped true true true false e f g h i z = refl
+regrouped true true true true false f g h i z = refl
+regrouped true true true true true false g h i z = refl
+regrouped true true true true true true false h i z = refl
+regrouped true true true true true true true false i z = refl
+regrouped true true true true true true true true false z = refl
+regrouped true true true true true true true true true z = refl
 
 below-two : (k : ℕ) → leb k 1 ≡ ltb k 2
 below-two zero = refl
@@ -63,12 +74,14 @@ below-two (suc (suc k)) = lt-leb (suc (suc k)) 1 (omega arith) ∙ sym (le-ltb (
 
 pub rows-good-are : (r : Round) (b : ℕ) (x : Row) (xs : List Row) → rows-good r b (x ∷ xs)
     ≡ (((leb (suc b) (x .ticket) && ltb (x .ticket) (r .next)) && (leb (r .slot) (x .due) && leb (x .due) (r .last)))
-    && (((leb 1 (x .weight) && leb (x .weight) 16777216) && ltb (x .tail .kind) 2) && rows-good r (x .ticket) xs))
+    && (((leb 1 (x .weight) && leb (x .weight) 16777216)
+    && ((ltb (x .tail .kind) 2 && leb (x .tail .class) 3) && (eqb (x .tail .kind) 0 || eqb (x .tail .class) 3))) && rows-good r (x .ticket) xs))
 unfolding rows-good every
 rows-good-are r b x xs =
     rw (sym (below-two (x .tail .kind)))
     (regrouped (ltb b (x .ticket)) (ltb (x .ticket) (r .next)) (leb (r .slot) (x .due)) (leb (x .due) (r .last)) (leb 1 (x .weight))
-    (leb (x .weight) 16777216) (leb (x .tail .kind) 1) (rows-good r (x .ticket) xs))
+    (leb (x .weight) 16777216) (leb (x .tail .kind) 1) (leb (x .tail .class) 3) (eqb (x .tail .kind) 0 || eqb (x .tail .class) 3)
+    (rows-good r (x .ticket) xs))
 
 regrouped-head : (a b c d e f z : Bool) →
     ((a && (b && (c && (d && (e && (f && true)))))) && z) ≡ (((a && b) && (c && d)) && ((e && f) && z))
@@ -100,7 +113,8 @@ pub taking-is : (f : Frame) (r : Round) →
     (cond (eqb (r .tail .sealed) 1) 13
     (cond (eqb (f .weight) 0 || ltb most-weight (f .weight)) 6
     (cond (ltb (f .due) (r .slot) || ltb (r .last) (f .due)) 7
-    (cond (eqb (r .next) ticket-limit) 8 (cond (leb (r .room) (length (r .rows))) 9 0))))))
+    (cond (ltb 3 (f .class)) 14
+    (cond (eqb (r .next) ticket-limit) 8 (cond (leb (r .room) (length (r .rows))) 9 0)))))))
     × (says (acting (taking f)) r ≡ ticket (r .next))
     × (leaves (acting (taking f)) r ≡ taken r f)
 unfolding round-refusal says leaves deed act
@@ -156,8 +170,8 @@ unfolding refusal-given conditions
 opening-given u t = refl
 
 pub taking-given : (f : Frame) (t : List ℕ) → Same (refusal-given (acting (taking f)) t)
-    (if-sound t (when 13 (sealed-in t ≡ 1) (when 6 (Weight-bad (f .weight)) (when 7 (Slot-bad (f .due) t) (when 8 (next-in t ≡ ticket-limit)
-    (when 9 (used-in t ≡ rows-of t) accepted))))))
+    (if-sound t (when 13 (sealed-in t ≡ 1) (when 6 (Weight-bad (f .weight)) (when 7 (Slot-bad (f .due) t) (when 14 (3 < f .class)
+    (when 8 (next-in t ≡ ticket-limit) (when 9 (used-in t ≡ rows-of t) accepted)))))))
 unfolding refusal-given conditions act-conditions
 taking-given f t = refl
 

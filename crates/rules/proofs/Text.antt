@@ -141,7 +141,7 @@ closing-printed =
     70 ∷ 70 ∷ 48 ∷ 53 ∷ 10 ∷
     []
 
--- a sealed round sends silence first; opened anew it takes and leaps; line 04 is none
+-- a sealed round sends silence first; opened anew it takes and leaps; line 05 is none
 abbrev pub sealed-anew : List ℕ
 sealed-anew =
     48 ∷ 48 ∷ 48 ∷ 48 ∷ 48 ∷ 49 ∷ 10 ∷
@@ -169,11 +169,104 @@ sealed-anew-printed =
 abbrev pub unnumbered : List ℕ
 unnumbered =
     48 ∷ 48 ∷ 48 ∷ 48 ∷ 48 ∷ 49 ∷ 10 ∷
-    48 ∷ 52 ∷ 10 ∷
+    48 ∷ 53 ∷ 10 ∷
     []
 
 abbrev pub unnumbered-printed : List ℕ
 unnumbered-printed =
+    48 ∷ 48 ∷ 10 ∷
+    70 ∷ 70 ∷ 48 ∷ 49 ∷ 10 ∷
+    []
+
+-- L2: 04 prints what 01 does, and its payload is passed over; 01 means class 0, so it goes before class 1 with the smaller ticket, and not before class 00
+abbrev pub by-class : List ℕ
+by-class =
+    48 ∷ 48 ∷ 48 ∷ 48 ∷ 48 ∷ 48 ∷ 10 ∷
+    48 ∷ 52 ∷ 48 ∷ 48 ∷ 48 ∷ 48 ∷ 48 ∷ 48 ∷ 48 ∷ 48 ∷ 48 ∷ 48 ∷ 48 ∷ 53 ∷ 48 ∷ 49 ∷ 65 ∷ 66 ∷ 10 ∷
+    48 ∷ 49 ∷ 48 ∷ 48 ∷ 48 ∷ 48 ∷ 48 ∷ 48 ∷ 48 ∷ 48 ∷ 48 ∷ 48 ∷ 48 ∷ 53 ∷ 10 ∷
+    48 ∷ 50 ∷ 10 ∷
+    48 ∷ 48 ∷ 48 ∷ 48 ∷ 48 ∷ 48 ∷ 10 ∷
+    48 ∷ 49 ∷ 48 ∷ 48 ∷ 48 ∷ 48 ∷ 48 ∷ 48 ∷ 48 ∷ 48 ∷ 48 ∷ 48 ∷ 48 ∷ 53 ∷ 10 ∷
+    48 ∷ 52 ∷ 48 ∷ 48 ∷ 48 ∷ 48 ∷ 48 ∷ 48 ∷ 48 ∷ 48 ∷ 48 ∷ 48 ∷ 48 ∷ 53 ∷ 48 ∷ 48 ∷ 10 ∷
+    48 ∷ 50 ∷ 10 ∷
+    []
+
+abbrev pub by-class-printed : List ℕ
+by-class-printed =
+    48 ∷ 48 ∷ 10 ∷
+    48 ∷ 49 ∷ 48 ∷ 48 ∷ 48 ∷ 48 ∷ 48 ∷ 48 ∷ 48 ∷ 49 ∷ 10 ∷
+    48 ∷ 49 ∷ 48 ∷ 48 ∷ 48 ∷ 48 ∷ 48 ∷ 48 ∷ 48 ∷ 50 ∷ 10 ∷
+    48 ∷ 50 ∷ 48 ∷ 49 ∷ 48 ∷ 48 ∷ 48 ∷ 48 ∷ 48 ∷ 48 ∷ 48 ∷ 48 ∷ 48 ∷ 50 ∷ 10 ∷
+    48 ∷ 48 ∷ 10 ∷
+    48 ∷ 49 ∷ 48 ∷ 48 ∷ 48 ∷ 48 ∷ 48 ∷ 48 ∷ 48 ∷ 49 ∷ 10 ∷
+    48 ∷ 49 ∷ 48 ∷ 48 ∷ 48 ∷ 48 ∷ 48 ∷ 48 ∷ 48 ∷ 50 ∷ 10 ∷
+    48 ∷ 50 ∷ 48 ∷ 49 ∷ 48 ∷ 48 ∷ 48 ∷ 48 ∷ 48 ∷ 48 ∷ 48 ∷ 48 ∷ 48 ∷ 49 ∷ 10 ∷
+    []
+
+-- class 02 goes before class 03 of the smaller ticket; sealed, 04 prints FF0D; both rows in use, FF09
+abbrev pub by-classes : List ℕ
+by-classes =
+    48 ∷ 48 ∷ 48 ∷ 48 ∷ 48 ∷ 49 ∷ 10 ∷
+    48 ∷ 52 ∷ 48 ∷ 48 ∷ 48 ∷ 49 ∷ 48 ∷ 48 ∷ 48 ∷ 48 ∷ 48 ∷ 48 ∷ 48 ∷ 53 ∷ 48 ∷ 51 ∷ 10 ∷
+    48 ∷ 52 ∷ 48 ∷ 48 ∷ 48 ∷ 49 ∷ 48 ∷ 48 ∷ 48 ∷ 48 ∷ 48 ∷ 48 ∷ 48 ∷ 53 ∷ 48 ∷ 50 ∷ 10 ∷
+    48 ∷ 52 ∷ 48 ∷ 48 ∷ 48 ∷ 49 ∷ 48 ∷ 48 ∷ 48 ∷ 48 ∷ 48 ∷ 48 ∷ 48 ∷ 53 ∷ 48 ∷ 49 ∷ 10 ∷
+    48 ∷ 51 ∷ 10 ∷
+    48 ∷ 52 ∷ 48 ∷ 48 ∷ 48 ∷ 49 ∷ 48 ∷ 48 ∷ 48 ∷ 48 ∷ 48 ∷ 48 ∷ 48 ∷ 53 ∷ 48 ∷ 52 ∷ 10 ∷
+    48 ∷ 50 ∷ 10 ∷
+    48 ∷ 50 ∷ 10 ∷
+    []
+
+abbrev pub by-classes-printed : List ℕ
+by-classes-printed =
+    48 ∷ 48 ∷ 10 ∷
+    48 ∷ 49 ∷ 48 ∷ 48 ∷ 48 ∷ 48 ∷ 48 ∷ 48 ∷ 48 ∷ 49 ∷ 10 ∷
+    48 ∷ 49 ∷ 48 ∷ 48 ∷ 48 ∷ 48 ∷ 48 ∷ 48 ∷ 48 ∷ 50 ∷ 10 ∷
+    70 ∷ 70 ∷ 48 ∷ 57 ∷ 10 ∷
+    48 ∷ 51 ∷ 10 ∷
+    70 ∷ 70 ∷ 48 ∷ 68 ∷ 10 ∷
+    48 ∷ 50 ∷ 48 ∷ 49 ∷ 48 ∷ 48 ∷ 48 ∷ 48 ∷ 48 ∷ 48 ∷ 48 ∷ 48 ∷ 48 ∷ 50 ∷ 10 ∷
+    48 ∷ 50 ∷ 48 ∷ 49 ∷ 48 ∷ 48 ∷ 48 ∷ 48 ∷ 48 ∷ 48 ∷ 48 ∷ 48 ∷ 48 ∷ 49 ∷ 10 ∷
+    []
+
+-- classes above 3 print FF0E, behind FF06 and FF07, and FF05 past the last slot; 03 is taken; without its class digits 04 prints FF01
+abbrev pub no-class : List ℕ
+no-class =
+    48 ∷ 52 ∷ 48 ∷ 48 ∷ 48 ∷ 48 ∷ 48 ∷ 48 ∷ 48 ∷ 48 ∷ 48 ∷ 48 ∷ 48 ∷ 53 ∷ 48 ∷ 52 ∷ 10 ∷
+    48 ∷ 48 ∷ 48 ∷ 48 ∷ 48 ∷ 48 ∷ 10 ∷
+    48 ∷ 52 ∷ 48 ∷ 48 ∷ 48 ∷ 48 ∷ 48 ∷ 48 ∷ 48 ∷ 48 ∷ 48 ∷ 48 ∷ 48 ∷ 53 ∷ 48 ∷ 52 ∷ 10 ∷
+    48 ∷ 52 ∷ 48 ∷ 48 ∷ 48 ∷ 48 ∷ 48 ∷ 48 ∷ 48 ∷ 48 ∷ 48 ∷ 48 ∷ 48 ∷ 53 ∷ 70 ∷ 70 ∷ 10 ∷
+    48 ∷ 52 ∷ 48 ∷ 48 ∷ 48 ∷ 48 ∷ 48 ∷ 48 ∷ 48 ∷ 48 ∷ 48 ∷ 48 ∷ 48 ∷ 48 ∷ 48 ∷ 52 ∷ 10 ∷
+    48 ∷ 52 ∷ 48 ∷ 48 ∷ 48 ∷ 49 ∷ 48 ∷ 48 ∷ 48 ∷ 48 ∷ 48 ∷ 48 ∷ 48 ∷ 53 ∷ 48 ∷ 52 ∷ 10 ∷
+    48 ∷ 52 ∷ 48 ∷ 48 ∷ 48 ∷ 48 ∷ 48 ∷ 48 ∷ 48 ∷ 48 ∷ 48 ∷ 48 ∷ 48 ∷ 53 ∷ 48 ∷ 51 ∷ 10 ∷
+    48 ∷ 50 ∷ 10 ∷
+    48 ∷ 52 ∷ 48 ∷ 48 ∷ 48 ∷ 48 ∷ 48 ∷ 48 ∷ 48 ∷ 48 ∷ 48 ∷ 48 ∷ 48 ∷ 53 ∷ 48 ∷ 52 ∷ 10 ∷
+    48 ∷ 52 ∷ 48 ∷ 48 ∷ 48 ∷ 48 ∷ 48 ∷ 48 ∷ 48 ∷ 48 ∷ 48 ∷ 48 ∷ 48 ∷ 53 ∷ 10 ∷
+    []
+
+abbrev pub no-class-printed : List ℕ
+no-class-printed =
+    70 ∷ 70 ∷ 48 ∷ 51 ∷ 10 ∷
+    48 ∷ 48 ∷ 10 ∷
+    70 ∷ 70 ∷ 48 ∷ 69 ∷ 10 ∷
+    70 ∷ 70 ∷ 48 ∷ 69 ∷ 10 ∷
+    70 ∷ 70 ∷ 48 ∷ 54 ∷ 10 ∷
+    70 ∷ 70 ∷ 48 ∷ 55 ∷ 10 ∷
+    48 ∷ 49 ∷ 48 ∷ 48 ∷ 48 ∷ 48 ∷ 48 ∷ 48 ∷ 48 ∷ 49 ∷ 10 ∷
+    48 ∷ 50 ∷ 48 ∷ 49 ∷ 48 ∷ 48 ∷ 48 ∷ 48 ∷ 48 ∷ 48 ∷ 48 ∷ 48 ∷ 48 ∷ 49 ∷ 10 ∷
+    70 ∷ 70 ∷ 48 ∷ 53 ∷ 10 ∷
+    70 ∷ 70 ∷ 48 ∷ 49 ∷ 10 ∷
+    []
+
+-- half a payload byte behind the class prints FF01, and nothing follows
+abbrev pub odd-class : List ℕ
+odd-class =
+    48 ∷ 48 ∷ 48 ∷ 48 ∷ 48 ∷ 48 ∷ 10 ∷
+    48 ∷ 52 ∷ 48 ∷ 48 ∷ 48 ∷ 48 ∷ 48 ∷ 48 ∷ 48 ∷ 48 ∷ 48 ∷ 48 ∷ 48 ∷ 53 ∷ 48 ∷ 51 ∷ 65 ∷ 10 ∷
+    48 ∷ 50 ∷ 10 ∷
+    []
+
+abbrev pub odd-class-printed : List ℕ
+odd-class-printed =
     48 ∷ 48 ∷ 10 ∷
     70 ∷ 70 ∷ 48 ∷ 49 ∷ 10 ∷
     []
@@ -183,12 +276,14 @@ shown input = printed-from (lines-from [] input) zeroed
 
 -- THE FACT: each prints as written
 abbrev pub inputs : List (List ℕ)
-inputs = sample ∷ over ∷ early ∷ first-goes ∷ good-behind ∷ empty-line ∷ return-line ∷ [] ∷ closing ∷ sealed-anew ∷ unnumbered ∷ []
+inputs =
+    sample ∷ over ∷ early ∷ first-goes ∷ good-behind ∷ empty-line ∷ return-line ∷ [] ∷ closing ∷ sealed-anew ∷ unnumbered
+    ∷ by-class ∷ by-classes ∷ no-class ∷ odd-class ∷ []
 
 abbrev pub outputs : List (List ℕ)
 outputs =
     sample-printed ∷ over-printed ∷ early-printed ∷ first-goes-printed ∷ good-behind-printed ∷ one-refused ∷ one-refused ∷ [] ∷ closing-printed
-    ∷ sealed-anew-printed ∷ unnumbered-printed ∷ []
+    ∷ sealed-anew-printed ∷ unnumbered-printed ∷ by-class-printed ∷ by-classes-printed ∷ no-class-printed ∷ odd-class-printed ∷ []
 
 pub lines-by-hand : map shown inputs ≡ outputs
 unfolding row blank round slots-left heavier canonical into sorted due-by fits-from feasible kept blanks-from plan total-weight tight tight-from

@@ -1,14 +1,16 @@
-// The three sorts of count, and a round's head as a value, with the limits and byte places.
+// The four sorts of count, and a round's head as a value, with the limits and byte places.
 ghost use mathlib.Core.Path.{_≡_};
 ghost use Prim.Native.Nat.{_+_, _<_};
 ghost use Rattle.rules.specs.Limits.{ticket-limit};
 
-// Three sorts of count, so that none can stand in another's place.
+// Four sorts of count, so that none can stand in another's place.
 pub struct Slot(pub u32);
 
 pub struct Weight(pub u32);
 
 pub struct Ticket(pub u32);
+
+pub struct Class(pub u32);
 
 // The head, with the rows that the table has room for.
 pub struct Round {
@@ -30,6 +32,8 @@ impl Round {
     pub const WEIGHT: Weight = Weight(16777216);
 
     pub const TICKETS: Ticket = Ticket(16777216);
+
+    pub const CLASS: Class = Class(3);
 
     // What works on a table is lent arrays, small ones for a table of at most FEW rows, which has at most FEW_SIZE bytes.
     pub const FEW: usize = 32;
@@ -67,7 +71,9 @@ impl Round {
 
     pub const KIND_AT: usize = 10;
 
-    pub const ROW_ZEROS_AT: usize = 11;
+    pub const CLASS_AT: usize = 11;
+
+    pub const ROW_ZEROS_AT: usize = 12;
 
     // A round just opened.
     pub fn new(last: Slot, room: usize) -> Round

@@ -6,6 +6,7 @@ use mathlib.Core.List.{List, [], _∷_, _++_}
 use Prim.Native.Nat.{ℕ, zero, suc, _+_, _≤_, _<_}
 use native.Mathlib.Omega.{arith}
 use lib.ListN.{replicate}
+use Rattle.rules.specs.Limits.{most-class}
 use Rattle.rules.specs.Rows.{Row, Round, blank, into, sorted, All, In}
 use Rattle.rules.specs.Plan.{feasible, kept, blanks-from}
 use Rattle.theory.specs.Tests.{either}
@@ -96,6 +97,10 @@ blank-ticket x e = ap (λ (y : Row). y .ticket) e
 pub blank-weight : (x : Row) → Is-blank x → x .weight ≡ 0
 unfolding blank
 blank-weight x e = ap (λ (y : Row). y .weight) e
+
+pub blank-class : (x : Row) → Is-blank x → x .tail .class ≡ most-class
+unfolding blank
+blank-class x e = ap (λ (y : Row). y .tail .class) e
 
 pub blank-is : (s : ℕ) → Is-blank (blank s)
 unfolding blank

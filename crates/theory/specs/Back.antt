@@ -42,7 +42,7 @@ Row-fits x = Fit row-widths (row-values x)
 
 pub row-values-are : (x y : Row) → row-values x ≡ row-values y → x ≡ y
 row-values-are x y e i =
-    record { ticket = value-at 0 i; due = value-at 1 i; weight = value-at 2 i; tail = record { kind = value-at 3 i } }
+    record { ticket = value-at 0 i; due = value-at 1 i; weight = value-at 2 i; tail = record { kind = value-at 3 i; class = value-at 4 i } }
   where
     value-at : (n : ℕ) → getD (row-values x) n 0 ≡ getD (row-values y) n 0
     value-at n = ap (λ (vs : List ℕ). getD vs n 0) e
@@ -113,7 +113,7 @@ fits-bytes r a (x ∷ xs) h i f k s = (
 )
   where
     tail-fits : (m : Tail) → Tail-right m → Fit tail-widths (tail-values m)
-    tail-fits m t = (omega (arith, t .kinds), tt)
+    tail-fits m t = (omega (arith, t .kinds), (omega (arith, t .classes), tt))
 
 pub room-back : (r : Round) → length (r .rows) ≤ r .room → (length (table r) - head-size) / row-size ≡ r .room
 room-back r h = omega (arith, length-table r h)
@@ -325,7 +325,7 @@ sized-taken r f k z =
       room = z .room;
       next = omega (arith, z .next);
       long = omega (arith, k .free, length-append (r .rows) (taken-row (r .next) f ∷ []));
-      tails = all-append Tail-fine (r .rows) (taken-row (r .next) f ∷ []) (z .tails) (frame-right, tt);
+      tails = all-append Tail-fine (r .rows) (taken-row (r .next) f ∷ []) (z .tails) (frame-right (f .class) (k .class), tt);
       tail = z .tail;
     }
 

@@ -1,14 +1,16 @@
 -- A ROW'S AND A HEAD'S BOUNDS as facts by name, decided by the lists of tests: tests-right, right-tests, tests-head, head-tested.
 use mathlib.Core.Path.{_≡_, refl}
-use mathlib.Core.Bool.{Bool, true}
+use mathlib.Core.Logic.{inl, inr}
+use mathlib.Core.Bool.{Bool, true, false, _||_, false≢true}
 use mathlib.Core.List.{List, [], _∷_}
 use Prim.Native.Nat.{ℕ, suc, _≤_, _<_}
 use native.Mathlib.Omega.{arith}
-use borrow.Author.Tests.{ltb-true, leb-true, lt-ltb, le-leb}
-use Rattle.rules.specs.Limits.{most-last, most-weight, ticket-limit}
+use lib.Dec.{eqb}
+use borrow.Author.Tests.{ltb-true, leb-true, lt-ltb, le-leb, eq-eqb}
+use Rattle.rules.specs.Limits.{most-last, most-weight, ticket-limit, most-class}
 use Rattle.rules.specs.Rows.{Tail, Row, Head-tail, Round, blank, frame-tail, blank-tail, unsealed-tail, sealed-tail}
 use Rattle.rules.specs.Table.{every, row-tests, tail-tests, head-tests, head-tail-tests}
-use Rattle.theory.specs.Tests.{and-true}
+use Rattle.theory.specs.Tests.{eqb?, and-true}
 
 -- TESTS that all hold, one by one
 abbrev pub Hold : List Bool → Type 0
@@ -31,6 +33,7 @@ pub record In-bounds (slot last : ℕ) (x : Row) : Type 0 where
   pub due-by : x .due ≤ last
   pub some : 1 ≤ x .weight
   pub most : x .weight ≤ most-weight
+  pub class : x .tail .class ≤ most-class
 
 abbrev pub Row-fine : Round → Row → Type 0
 Row-fine r x = In-bounds (r .slot) (r .last) x
@@ -39,31 +42,45 @@ Row-fine r x = In-bounds (r .slot) (r .last) x
 abbrev pub Row-ok : Round → Row → Type 0
 Row-ok r x = In-bounds 0 (r .last) x
 
-pub row-ok : (r : Round) (x : Row) → x .due ≤ r .last → 1 ≤ x .weight → x .weight ≤ most-weight → Row-ok r x
-row-ok r x a b c = record { due-from = omega arith; due-by = a; some = b; most = c }
+pub row-ok : (r : Round) (x : Row) → x .due ≤ r .last → 1 ≤ x .weight → x .weight ≤ most-weight → x .tail .class ≤ most-class → Row-ok r x
+row-ok r x a b c d = record { due-from = omega arith; due-by = a; some = b; most = c; class = d }
 
 -- THE TAIL within bounds: a frame's and a kept blank's are
 pub record Tail-right (m : Tail) : Type 0 where
   pub kinds : m .kind ≤ 1
+  pub classes : m .class ≤ most-class
+  pub kept : m .kind ≡ 1 → m .class ≡ most-class
 
 abbrev pub Tail-fine : Row → Type 0
 Tail-fine x = Tail-right (x .tail)
 
-pub frame-right : Tail-right frame-tail
-frame-right = record { kinds = omega arith }
+pub frame-right : (c : ℕ) → c ≤ most-class → Tail-right (frame-tail c)
+frame-right c h = record { kinds = omega arith; classes = h; kept = λ e. absurd (omega (arith, e)) }
 
 pub kept-right : Tail-right blank-tail
-kept-right = record { kinds = omega arith }
+kept-right = record { kinds = omega arith; classes = omega arith; kept = λ e. refl }
 
 pub blank-right : (s : ℕ) → Tail-fine (blank s)
 unfolding blank
-blank-right s = frame-right
+blank-right s = frame-right most-class (omega arith)
 
 pub tail-holds : (m : Tail) → Hold (tail-tests m) → Tail-right m
-tail-holds m h = record { kinds = leb-true (m .kind) 1 (h .0) }
+tail-holds m h = record { kinds = leb-true (m .kind) 1 (h .0); classes = leb-true (m .class) most-class (h .1 .0); kept = λ e. last-class e (h .1 .1 .0) }
+  where
+    last-class : m .kind ≡ 1 → (eqb (m .kind) 0 || eqb (m .class) most-class) ≡ true → m .class ≡ most-class
+    last-class e o = elim (eqb? (m .class) most-class) [
+      | inl k ↦ k .1
+      | inr k ↦ let z : false ≡ true = (rw (e, k .0) at o) in absurd (false≢true z)
+    ]
 
 pub holds-tail : (m : Tail) → Tail-right m → Hold (tail-tests m)
-holds-tail m t = (le-leb (m .kind) 1 (t .kinds), tt)
+holds-tail m t = (le-leb (m .kind) 1 (t .kinds), (le-leb (m .class) most-class (t .classes), (kind-or-class, tt)))
+  where
+    kind-or-class : (eqb (m .kind) 0 || eqb (m .class) most-class) ≡ true
+    kind-or-class = elim (eqb? (m .kind) 0) [
+      | inl k ↦ rw (k .0)
+      | inr k ↦ let n = k .1 in rw (k .0) (eq-eqb (m .class) most-class (t .kept (omega (arith, t .kinds))))
+    ]
 
 -- A ROW within bounds, beside the slot, the last, the next ticket and the ticket of the row before
 pub record Row-right (slot last next before : ℕ) (x : Row) : Type 0 where
@@ -84,6 +101,7 @@ tests-right s l n b x e =
         due-by = leb-true (x .due) l (h .1 .1 .1 .0);
         some = leb-true 1 (x .weight) (w .0);
         most = leb-true (x .weight) most-weight (w .1 .0);
+        class = tail-holds (x .tail) (w .1 .1) .classes;
       };
       tail = tail-holds (x .tail) (w .1 .1);
     }

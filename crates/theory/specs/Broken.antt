@@ -35,7 +35,7 @@ ended-last c line h =
 pub unended : (line : List ℕ) → (getD line (length line - 1) 0 ≡ line-end → ⊥) → broken ≡ read line
 unended line f = read-not line (λ c h. f (ended-last c line h))
 
--- TOO LONG: no form has more digits than line 01 with a whole payload
+-- TOO LONG: no form has more digits than line 04 with a whole payload
 pub payload-most : (may : Bool) (n : ℕ) → payload-fits may n ≡ true → n ≤ most-payload
 unfolding payload-fits
 payload-most true n e = leb-true n most-payload (and-true (eqb (n % 2) 0) (leb n most-payload) e .1)

@@ -8,7 +8,7 @@ use native.Mathlib.Omega.{arith}
 use lib.Dec.{ltb, leb, eqb}
 use borrow.Author.Tests.{ltb-false, leb-true, leb-false, eqb-true, eqb-false}
 use lib.ListN.{length}
-use Rattle.rules.specs.Limits.{most-last, most-weight, ticket-limit}
+use Rattle.rules.specs.Limits.{most-last, most-weight, ticket-limit, most-class}
 use Rattle.rules.specs.Rows.{Frame, Setup, Row, Round, slots-left, round, row, In}
 use Rattle.rules.specs.Plan.{plan, first-end, mark}
 use Rattle.rules.specs.Steps.{opened, taken-row, taken, sealed, goes, sent, without, still-due, leapt}
@@ -70,6 +70,7 @@ pub record Takes (r : Round) (f : Frame) : Type 0 where
   pub limit : f .weight ≤ most-weight
   pub from : r .slot ≤ f .due
   pub by : f .due ≤ r .last
+  pub class : f .class ≤ most-class
   pub tickets : r .next ≢ ticket-limit
   pub free : length (r .rows) < r .room
 
@@ -87,8 +88,9 @@ takes r f e =
       limit = ltb-false most-weight (f .weight) (w .1);
       from = d .0;
       by = d .1;
-      tickets = eqb-false (r .next) ticket-limit (h .1 .1 .1 .1 .0);
-      free = leb-false (r .room) (length (r .rows)) (h .1 .1 .1 .1 .1 .0);
+      class = ltb-false most-class (f .class) (h .1 .1 .1 .1 .0);
+      tickets = eqb-false (r .next) ticket-limit (h .1 .1 .1 .1 .1 .0);
+      free = leb-false (r .room) (length (r .rows)) (h .1 .1 .1 .1 .1 .1 .0);
     }
 
 -- an accepted sending; a sealing; an opening; a mark answered
@@ -142,7 +144,7 @@ taken-fine r g f k =
     record {
       time = g .time;
       fine = all-append (Row-fine r) (r .rows) (taken-row (r .next) f ∷ []) (g .fine)
-          (record { due-from = k .from; due-by = k .by; some = k .some; most = k .limit }, tt);
+          (record { due-from = k .from; due-by = k .by; some = k .some; most = k .limit; class = k .class }, tt);
       rising = rising-more 1 (r .next) (taken-row (r .next) f) (r .rows) refl (g .rising);
     }
 
@@ -175,7 +177,7 @@ sent-fine r f o =
     record {
       time = omega arith;
       fine = all-map {Q = Row-fine (sent r)} (λ x (h : (suc (r .slot) ≤ x .due) × Row-ok r x).
-          record { due-from = h .0; due-by = h .1 .due-by; some = h .1 .some; most = h .1 .most })
+          record { due-from = h .0; due-by = h .1 .due-by; some = h .1 .some; most = h .1 .most; class = h .1 .class })
           (still-due (suc (r .slot)) (sent-rows r)) (all-still (Row-ok r) (suc (r .slot)) (sent-rows r) (l .okay));
       rising = rising-still 1 (r .next) (suc (r .slot)) (sent-rows r) (l .rising);
     }

@@ -7,7 +7,7 @@ use Prim.Native.Nat.{ℕ, _<_}
 use native.Mathlib.Omega.{arith}
 use lib.Dec.{ltb, leb, eqb}
 use lib.ListN.{length, drop}
-use Rattle.rules.specs.Limits.{head-size, most-last, most-weight, ticket-limit}
+use Rattle.rules.specs.Limits.{head-size, most-last, most-weight, ticket-limit, most-class}
 use Rattle.rules.specs.Rows.{Setup, round}
 use Rattle.rules.specs.Table.{rows-in, rows-of, round-in, length-good, table-refusal}
 use Rattle.rules.specs.Calls.{Act, taking, sending, sealing, Question, marking, totalling, Call, opening, acting, asking, Test, _⇒_, first-of, over, is-sealed, not-ahead, act, question, deed, first, round-refusal, table-first, refusal}
@@ -80,7 +80,7 @@ table-given t h cs n c =
       )
     ]
 
--- 5 TO 9 AND 13, of the round in a table
+-- 5 TO 9, 13 AND 14, of the round in a table
 pub past? : (t : List ℕ) → Decides (ltb (round-in t .last) (round-in t .slot)) (Past t)
 unfolding round-in round
 past? t = less? (last-in t) (slot-in t)
@@ -126,6 +126,9 @@ bad-slot s t = ground 7 (not-ahead (round-in t .slot) (round-in t .last) s .hold
 abbrev pub bad-weight : (w : ℕ) (t : List ℕ) → Ground-of t
 bad-weight w t = ground 6 (eqb w 0 || ltb most-weight w) (Weight-bad w) (λ e. weight? w)
 
+abbrev pub bad-class : (c : ℕ) (t : List ℕ) → Ground-of t
+bad-class c t = ground 14 (ltb most-class c) (most-class < c) (λ e. less? most-class c)
+
 abbrev pub no-ticket : (t : List ℕ) → Ground-of t
 no-ticket t = ground 8 (eqb (round-in t .next) ticket-limit) (next-in t ≡ ticket-limit) (λ e. last-ticket? t)
 
@@ -146,7 +149,8 @@ opening-given u t =
 
 pub act-given : (a : Act) (t : List ℕ) → table-refusal t ≡ 0 → Given (act-conditions a t) (first-of (act a (round-in t) .tests))
 unfolding act-conditions act
-act-given (taking f) t e = given (past t ∷ sealed-off t ∷ bad-weight (f .weight) t ∷ bad-slot (f .due) t ∷ no-ticket t ∷ no-row-free t ∷ []) e
+act-given (taking f) t e =
+    given (past t ∷ sealed-off t ∷ bad-weight (f .weight) t ∷ bad-slot (f .due) t ∷ bad-class (f .class) t ∷ no-ticket t ∷ no-row-free t ∷ []) e
 act-given sending t e = given (past t ∷ []) e
 act-given sealing t e = given (past t ∷ []) e
 

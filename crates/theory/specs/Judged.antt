@@ -7,7 +7,7 @@ use Prim.Native.Nat.{ℕ, zero, suc, _+_, _≤_, _-_}
 use native.Mathlib.Omega.{arith}
 use lib.ListN.{length, take, drop, length-take, length-drop}
 use lib.Seq.{getD-drop, getD-take}
-use Rattle.rules.specs.Limits.{head-size, row-size, head-zeros-at, ticket-at, due-at, weight-at, kind-at, row-zeros-at, slot-bytes, wide-bytes, kind-bytes}
+use Rattle.rules.specs.Limits.{head-size, row-size, head-zeros-at, ticket-at, due-at, weight-at, kind-at, class-at, row-zeros-at, slot-bytes, wide-bytes, kind-bytes, class-bytes}
 use Rattle.rules.specs.Rows.{row}
 use Rattle.rules.specs.Table.{field, every, front-row, tail-in, head-tail-in, row-tests, head-tests, rows-of, length-good, table-refusal}
 use Rattle.rules.specs.Conditions.{Bytes, row-at, slot-in, last-in, next-in, used-in}
@@ -33,7 +33,7 @@ own-row bs i =
     own a n h = field-take a n row-size bs h
 
     own-tail : tail-in (take row-size bs) ≡ tail-in bs
-    own-tail i = record { kind = field-take kind-at kind-bytes row-size bs (omega arith) i }
+    own-tail i = record { kind = own kind-at kind-bytes (omega arith) i; class = own class-at class-bytes (omega arith) i }
 
 pub own-part : (bs : List ℕ) → Is-part row-zeros-at row-size bs (drop row-zeros-at (take row-size bs))
 own-part bs i h = getD-drop row-zeros-at (take row-size bs) i 0 ∙ getD-take row-size bs (row-zeros-at + i) 0 h

@@ -131,7 +131,7 @@ shift-kept r f a e g h e′ xs b p q =
           changed-first (h .ticket) (row (h .ticket) e (max (h .weight) (mark-in r (plan r) e)) (h .tail)) z
           (n h (p .inside) (omega (arith, q .past, p .after))) refl xs (q .others z k n);
       okay = all-changed (Row-ok r) (h .ticket) (row (h .ticket) e (max (h .weight) (mark-in r (plan r) e)) (h .tail))
-          (row-ok r _ (omega (arith, p .after, p .by)) (omega (arith, p .heavy)) (omega (arith, o .most, mark-limit r (plan r) e))) xs (q .okay);
+          (row-ok r _ (omega (arith, p .after, p .by)) (omega (arith, p .heavy)) (omega (arith, o .most, mark-limit r (plan r) e)) (o .class)) xs (q .okay);
       rising = rising-changed 1 (r .next) (h .ticket) (row (h .ticket) e (max (h .weight) (mark-in r (plan r) e)) (h .tail)) refl xs (q .rising);
       sums = λ w d s v m k. omega (arith, q .sums w d s v m k, shift-sum r f e g h e′ p xs i w d s v m k);
     }
@@ -199,7 +199,7 @@ rows-kept r f a =
       past = omega arith;
       ahead = λ z i j k. rising-first 1 (r .next) z (r .rows) (f .rising) j;
       others = λ z j n. rising-first 1 (r .next) z (r .rows) (f .rising) j;
-      okay = all-map {Q = Row-ok r} (λ x (h : Row-fine r x). row-ok r x (h .due-by) (h .some) (h .most)) (r .rows) (f .fine);
+      okay = all-map {Q = Row-ok r} (λ x (h : Row-fine r x). row-ok r x (h .due-by) (h .some) (h .most) (h .class)) (r .rows) (f .fine);
       rising = f .rising;
       sums = λ w d s v m k. omega arith;
     }
@@ -262,7 +262,7 @@ leap-row r f p s e g i en j n ys q =
     let rs = rising-changed 1 (r .next) (s .ticket) s′ refl ys (q .rising) in
     record {
       okay = all-without (Row-ok r) (p .ticket) ys′ (all-changed (Row-ok r) (s .ticket) s′
-          (row-ok r s′ (o .due-by) (omega (arith, o .some, outside-heavy r f s j n)) (mark-limit r (plan r) (s .due))) ys (q .okay));
+          (row-ok r s′ (o .due-by) (omega (arith, o .some, outside-heavy r f s j n)) (mark-limit r (plan r) (s .due)) (o .class)) ys (q .okay));
       rising = rising-without 1 (r .next) (p .ticket) ys′ rs;
       fills = λ w d t v m k l.
           let c = fills-for-end r f s′ g (en .last) (en .low) refl w d t v m k l in
@@ -300,7 +300,7 @@ unfolding row
 leap-kept r f p b e i n o h j =
     let x = row (p .ticket) b (mark-in r (plan r) b) blank-tail in
     record {
-      okay = all-changed (Row-ok r) (p .ticket) x (row-ok r x (omega (arith, o .from, o .by)) j (mark-limit r (plan r) b)) (r .rows)
+      okay = all-changed (Row-ok r) (p .ticket) x (row-ok r x (omega (arith, o .from, o .by)) j (mark-limit r (plan r) b) (omega arith)) (r .rows)
           (rows-kept r f 0 .okay);
       rising = rising-changed 1 (r .next) (p .ticket) x refl (r .rows) (f .rising);
       fills = λ w d t v m k l. elim (plan-member r p i) [

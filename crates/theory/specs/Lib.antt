@@ -23,6 +23,7 @@ pub mod Listed
 pub mod Marks
 pub mod Tights
 pub mod MarksFall
+pub mod Alike
 pub mod Slack
 -- substitutes and the pick
 pub mod Golden
@@ -70,6 +71,7 @@ pub mod Opened
 pub mod Sealed
 pub mod SealedCalls
 pub mod SealedList
+pub mod Classes
 pub mod PlayedOut
 -- lines
 pub mod Digits

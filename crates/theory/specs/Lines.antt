@@ -14,8 +14,8 @@ use Rattle.rules.specs.Limits.{short-digits}
 use Rattle.rules.specs.Calls.{refused, amount, number-of}
 use Rattle.rules.specs.Lines.{digits, all-digits, count-digits, numerals, fit-digits, number-at, numbers-at}
 use Rattle.rules.specs.Lines.{Form, forms, found, form-numbered, form-of, front-size, payload-fits, has-length}
-use Rattle.rules.specs.Lines.{Command, open-line, take-line, send-line, seal-line, line-number, values-of, line-end, front, text, stands}
-use Rattle.rules.specs.Lines.{Reading, command, broken, body, command-of, read-digits, read, Place, place-of, payload-place, payload, payload-at}
+use Rattle.rules.specs.Lines.{Command, open-line, take-line, send-line, seal-line, class-line, line-number, values-of, line-end, front, text, stands}
+use Rattle.rules.specs.Lines.{Reading, command, broken, body, command-of, read-digits, read, Place, place-of, payload-place, payload, class-payload-at, payload-from}
 use Rattle.rules.specs.Lines.{write-refusal, write-answer, write-left}
 use Rattle.rules.specs.Demands.{Lines-exact, Written-read, Read-written, Write-refusals}
 use Rattle.theory.specs.Tests.{either, ltb?, eqb?, and?, and-true}
@@ -29,13 +29,14 @@ told : (c o : Command) {k : ℕ} {vs : List ℕ} → line-number o ≡ k → val
 told c o n v e = let q : c ≡ o = cc in (ap line-number q ∙ n, ap values-of q ∙ v)
 
 -- FORMS, line by line: a line's number fits its digits; a command comes back from its number and values, and they from it; no front is
--- longer than the one of line 01, and that is where a payload begins
+-- longer than the one of line 04, and behind its front a payload begins
 pub number-fits : (c : Command) → line-number c < 16 ^ short-digits
 unfolding line-number
 number-fits (open-line l) = omega arith
 number-fits (take-line d w) = omega arith
 number-fits send-line = omega arith
 number-fits seal-line = omega arith
+number-fits (class-line d w c) = omega arith
 
 pub command-back : (c : Command) → command-of (line-number c) (values-of c) ≡ command c
 unfolding line-number values-of command-of
@@ -43,10 +44,11 @@ command-back (open-line l) = refl
 command-back (take-line d w) = refl
 command-back send-line = refl
 command-back seal-line = refl
+command-back (class-line d w c) = refl
 
-pub no-line : (k : ℕ) (vs : List ℕ) → (k ≡ 0 → ⊥) → (k ≡ 1 → ⊥) → (k ≡ 2 → ⊥) → (k ≡ 3 → ⊥) → command-of k vs ≡ broken
+pub no-line : (k : ℕ) (vs : List ℕ) → (k ≡ 0 → ⊥) → (k ≡ 1 → ⊥) → (k ≡ 2 → ⊥) → (k ≡ 3 → ⊥) → (k ≡ 4 → ⊥) → command-of k vs ≡ broken
 unfolding command-of
-no-line k vs f g h i = rw (ne-eqb k 0 f, ne-eqb k 1 g, ne-eqb k 2 h, ne-eqb k 3 i)
+no-line k vs f g h i j = rw (ne-eqb k 0 f, ne-eqb k 1 g, ne-eqb k 2 h, ne-eqb k 3 i, ne-eqb k 4 j)
 
 pub command-made : (k : ℕ) (vs : List ℕ) (c : Command) → length vs ≡ length (form-numbered k .widths) → command-of k vs ≡ command c →
     (line-number c ≡ k) × (values-of c ≡ vs)
@@ -55,10 +57,10 @@ command-made zero vs c l e = told c (open-line (getD vs 0 0)) refl (got-all 0 1 
 command-made (suc zero) vs c l e = told c (take-line (getD vs 0 0) (getD vs 1 0)) refl (got-all 0 2 vs (sym l)) e
 command-made (suc (suc zero)) vs c l e = told c send-line refl (got-all 0 0 vs (sym l)) e
 command-made (suc (suc (suc zero))) vs c l e = told c seal-line refl (got-all 0 0 vs (sym l)) e
-command-made (suc (suc (suc (suc k)))) vs c l e =
-    absurd
-    (not-broken c
-    (sym (no-line (suc (suc (suc (suc k)))) vs (λ q. omega arith) (λ q. omega arith) (λ q. omega arith) (λ q. omega arith)) ∙ e))
+command-made (suc (suc (suc (suc zero)))) vs c l e = told c (class-line (getD vs 0 0) (getD vs 1 0) (getD vs 2 0)) refl (got-all 0 3 vs (sym l)) e
+command-made (suc (suc (suc (suc (suc k))))) vs c l e =
+    let n = suc (suc (suc (suc (suc k)))) in
+    absurd (not-broken c (sym (no-line n vs (λ q. omega arith) (λ q. omega arith) (λ q. omega arith) (λ q. omega arith) (λ q. omega arith)) ∙ e))
 
 pub as-many : (c : Command) → length (values-of c) ≡ length (form-of c .widths)
 unfolding forms found line-number values-of
@@ -66,20 +68,23 @@ as-many (open-line l) = refl
 as-many (take-line d w) = refl
 as-many send-line = refl
 as-many seal-line = refl
+as-many (class-line d w c) = refl
 
-pub front-small : (c : Command) → front-size (form-of c) ≤ payload-at
+pub front-small : (c : Command) → front-size (form-of c) ≤ class-payload-at
 unfolding count-digits forms found front-size line-number
 front-small (open-line l) = omega arith
 front-small (take-line d w) = omega arith
 front-small send-line = omega arith
 front-small seal-line = omega arith
+front-small (class-line d w c) = omega arith
 
-pub payload-start : (c : Command) → form-of c .payload ≡ true → front-size (form-of c) ≡ payload-at
+pub payload-start : (c : Command) → form-of c .payload ≡ true → front-size (form-of c) ≡ payload-from c
 unfolding count-digits forms found front-size line-number
 payload-start (open-line l) e = absurd (false≢true e)
 payload-start (take-line d w) e = refl
 payload-start send-line e = absurd (false≢true e)
 payload-start seal-line e = absurd (false≢true e)
+payload-start (class-line d w c) e = refl
 
 -- A FRONT: how many digits it has, and that they are digits
 pub length-front : (c : Command) → fit-digits (form-of c .widths) (values-of c) ≡ true → length (front c) ≡ front-size (form-of c)

@@ -12,7 +12,7 @@ use Rattle.rules.specs.Plan.{plan, tight-after, segment-start, first-end, mark-
 use Rattle.rules.specs.Steps.{heaviest-between}
 use Rattle.rules.specs.PlanM.{Outside}
 use Rattle.theory.specs.Tests.{ltb?, eqb?}
-use Rattle.theory.specs.All.{all-in, Is-blank, blank-weight, blank-is, due-of-blank}
+use Rattle.theory.specs.All.{all-in, Is-blank, blank-weight, blank-class, blank-is, due-of-blank}
 use Rattle.theory.specs.Order.{Not-over, not-over-trans, over-absurd, not-before-canonical}
 use Rattle.theory.specs.Feas.{num, below-late}
 use Rattle.theory.specs.Full.{Fine, plan-feas, plan-full, plan-due}
@@ -35,7 +35,7 @@ pub later-blank-lighter : (b : ℕ) (x : Row) → Is-blank x → b ≤ x .due �
 unfolding blank
 later-blank-lighter b x e h = elim (ltb? b (x .due)) [
   | inl a ↦ inr (blank-weight x e, inl (a .1))
-  | inr a ↦ inr (blank-weight x e, inr (omega (arith, a .1), omega arith))
+  | inr a ↦ inr (blank-weight x e, inr (omega (arith, a .1), inr (blank-class x e, omega arith)))
 ]
 
 pub earlier-over-blank : (b : ℕ) (x : Row) → x .due < b → Heavier x (blank b)

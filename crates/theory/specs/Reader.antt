@@ -7,7 +7,7 @@ use Prim.Native.Nat.{ℕ, suc, _+_, _-_, _≤_, _<_}
 use native.Mathlib.Omega.{arith}
 use lib.ListN.{length}
 use Rattle.rules.specs.Lines.{form-of, front-size, Command, text, stands, Reading, command, broken, reading-refusal, body, read, read-refusal}
-use Rattle.rules.specs.Lines.{payload-at, place-of, payload-place, payload}
+use Rattle.rules.specs.Lines.{payload-from, place-of, payload-place, payload}
 use Rattle.rules.specs.Conditions.{No-command, read-given}
 use Rattle.rules.specs.Demands.{Place-is, Read-refusals, Payload-places}
 use Rattle.theory.specs.Tests.{ltb?}
@@ -42,7 +42,7 @@ pub place-none : (c : Command) (n : ℕ) → n ≡ front-size (form-of c) + 1 �
 place-none c n e = rw (place-bare c n (omega arith)) (refl, refl)
 
 pub place-some : (c : Command) (ps : List ℕ) (n : ℕ) → Stands c ps → 1 ≤ length ps → n ≡ front-size (form-of c) + length ps + 1 →
-    Place-is (place-of (command c) n) payload-at (payload-at + length ps)
+    Place-is (place-of (command c) n) (payload-from c) (payload-from c + length ps)
 place-some c ps n s h e =
     let p = has-payload (form-of c .payload) (length ps) (s .long) h in
     let q = payload-start c p in

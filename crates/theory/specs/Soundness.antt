@@ -7,10 +7,10 @@ use Prim.Native.Nat.{ℕ, zero, suc, _+_, _≤_, _<_}
 use native.Mathlib.Omega.{arith}
 use lib.ListN.{length, drop}
 use lib.Seq.{getD-drop, drop-drop}
-use Rattle.rules.specs.Limits.{row-size, ticket-at, due-at, weight-at, kind-at, row-zeros-at, slot-bytes, wide-bytes, kind-bytes}
+use Rattle.rules.specs.Limits.{row-size, ticket-at, due-at, weight-at, kind-at, class-at, row-zeros-at, slot-bytes, wide-bytes, kind-bytes, class-bytes}
 use Rattle.rules.specs.Rows.{Tail, Row, row, until}
 use Rattle.rules.specs.Table.{field, tail-in, front-row, rows-of, length-good, table-refusal}
-use Rattle.rules.specs.Conditions.{Bytes, Sound, Length-bad, slot-in, last-in, next-in, used-in, row-at, ticket-in, due-in, weight-in, kind-in}
+use Rattle.rules.specs.Conditions.{Bytes, Sound, Length-bad, slot-in, last-in, next-in, used-in, row-at, ticket-in, due-in, weight-in, kind-in, class-in}
 use Rattle.rules.specs.Demands.{Soundness}
 use Rattle.theory.specs.Tests.{either, eqb?}
 use Rattle.theory.specs.Third.{length-fits}
@@ -27,7 +27,7 @@ length-bad t e k a b h = true≢false (sym (length-fits t k (until 0) h a b (ome
 
 -- ROW i of a table: its numbers by their places, the ticket before it, and its clauses
 abbrev pub tail-of : List ℕ → (row : ℕ) → Tail
-tail-of t i = record { kind = kind-in t i }
+tail-of t i = record { kind = kind-in t i; class = class-in t i }
 
 abbrev pub row-in : List ℕ → (row : ℕ) → Row
 row-in t i = row (ticket-in t i) (due-in t i) (weight-in t i) (tail-of t i)
@@ -52,7 +52,7 @@ row-there t i j =
     there a n = field-drop (row-at i) a n t
 
     tail-there : tail-in (drop (row-at i) t) ≡ tail-of t i
-    tail-there j = record { kind = field-drop (row-at i) kind-at kind-bytes t j }
+    tail-there j = record { kind = field-drop (row-at i) kind-at kind-bytes t j; class = field-drop (row-at i) class-at class-bytes t j }
 
 pub row-next : (t : List ℕ) (i : ℕ) → drop row-size (drop (row-at i) t) ≡ drop (row-at (suc i)) t
 row-next t i = let e : row-at i + row-size ≡ row-at (suc i) = omega arith in drop-drop row-size (row-at i) t ∙ ap (λ (j : ℕ). drop j t) e
@@ -88,6 +88,8 @@ module _ (t : List ℕ) (c : Clauses t) where
         head-zeros = c .head-zeros;
         row-zeros = λ i j h a b. sym (getD-drop (row-at i) t j 0) ∙ each i h .1 j a b;
         kinds = λ i h. each i h .0 .tail .kinds;
+        classes = λ i h. each i h .0 .tail .classes;
+        kept-class = λ i h. each i h .0 .tail .kept;
         rows-fit = c .fit;
         last-most = c .last-most;
         slot-most = c .slot-most;
@@ -115,8 +117,14 @@ module _ (t : List ℕ) (s : Sound t) where
     record {
       from = after-before i h;
       below = s .tickets-below i h;
-      bounds = record { due-from = s .dues-from i h; due-by = s .dues-by i h; some = s .weights-least i h; most = s .weights-most i h };
-      tail = record { kinds = s .kinds i h };
+      bounds = record {
+        due-from = s .dues-from i h;
+        due-by = s .dues-by i h;
+        some = s .weights-least i h;
+        most = s .weights-most i h;
+        class = s .classes i h;
+      };
+      tail = record { kinds = s .kinds i h; classes = s .classes i h; kept = s .kept-class i h };
     },
     λ j a b. getD-drop (row-at i) t j 0 ∙ s .row-zeros i j h a b,
   )

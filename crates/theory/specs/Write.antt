@@ -5,7 +5,7 @@ use Prim.Native.Nat.{ℕ, suc, _+_, _*_, _-_, _≤_, _<_}
 use native.Mathlib.Omega.{arith}
 use lib.ListN.{length, getD, set, take, drop, replicate, length-append, length-set, replicate-append-replicate}
 use lib.Seq.{drop-cons, sets, set-append-left, set-split}
-use Rattle.rules.specs.Limits.{head-size, row-size, slot-at, used-at, due-at, weight-at, slot-bytes, wide-bytes}
+use Rattle.rules.specs.Limits.{head-size, row-size, slot-at, used-at, due-at, weight-at, slot-bytes, wide-bytes, most-class}
 use Rattle.rules.specs.Rows.{Row, Head-tail, row}
 use Rattle.rules.specs.Steps.{set-to, kept-at, changed}
 use Rattle.rules.specs.Table.{low, put, row-bytes, rows-bytes, head-bytes}
@@ -64,8 +64,8 @@ pub write-weight : (x : Row) (w : ℕ) → sets (row-bytes x) weight-at (low wid
 unfolding row-bytes put low row
 write-weight x w = refl
 
--- due slot, weight and kind
-pub write-kept : (x : Row) (d w : ℕ) → sets (row-bytes x) due-at ((low slot-bytes d ++ low wide-bytes w) ++ (1 ∷ [])) ≡ row-bytes (kept-at d w x)
+-- due slot, weight, kind and class
+pub write-kept : (x : Row) (d w : ℕ) → sets (row-bytes x) due-at ((low slot-bytes d ++ low wide-bytes w) ++ (1 ∷ most-class ∷ [])) ≡ row-bytes (kept-at d w x)
 unfolding row-bytes put low row
 write-kept x d w = refl
 
@@ -92,13 +92,13 @@ weight-bytes a b hd zs xs i z w s h e =
 
 pub kept-bytes : (a b : ℕ) (hd zs : List ℕ) (xs : List Row) (i : ℕ) (z : Row) (d w : ℕ) → Rising a b xs → i < length xs → length hd ≡ head-size →
     hd ++ (rows-bytes (changed (getD xs i z .ticket) (kept-at d w (getD xs i z)) xs) ++ zs)
-    ≡ sets (hd ++ (rows-bytes xs ++ zs)) (row-at i + due-at) ((low slot-bytes d ++ low wide-bytes w) ++ (1 ∷ []))
+    ≡ sets (hd ++ (rows-bytes xs ++ zs)) (row-at i + due-at) ((low slot-bytes d ++ low wide-bytes w) ++ (1 ∷ most-class ∷ []))
 unfolding low
 kept-bytes a b hd zs xs i z d w s h e =
     let n : length hd + (row-size * i + due-at) ≡ row-at i + due-at = omega (arith, e) in
     ap (λ (ys : List Row). hd ++ (rows-bytes ys ++ zs)) (changed-at a b xs i z (kept-at d w (getD xs i z)) s h)
-    ∙ row-part hd zs ((low slot-bytes d ++ low wide-bytes w) ++ (1 ∷ [])) xs i due-at z (kept-at d w (getD xs i z)) h (omega arith) (write-kept (getD xs i z) d w)
-    ∙ ap (λ (m : ℕ). sets (hd ++ (rows-bytes xs ++ zs)) m ((low slot-bytes d ++ low wide-bytes w) ++ (1 ∷ []))) n
+    ∙ row-part hd zs ((low slot-bytes d ++ low wide-bytes w) ++ (1 ∷ most-class ∷ [])) xs i due-at z (kept-at d w (getD xs i z)) h (omega arith) (write-kept (getD xs i z) d w)
+    ∙ ap (λ (m : ℕ). sets (hd ++ (rows-bytes xs ++ zs)) m ((low slot-bytes d ++ low wide-bytes w) ++ (1 ∷ most-class ∷ []))) n
 
 -- THE HEAD: current slot and rows in use
 pub head-sets : (t l n c u k : ℕ) (m : Head-tail) (bs : List ℕ) →

@@ -5,8 +5,10 @@ use Prim.Native.Nat.{ℕ, _+_, _≤_, _<_, min}
 use native.Mathlib.Omega.{arith}
 use Rattle.rules.specs.Rows.{Round}
 use Rattle.theory.specs.Tests.{leb?, eqb?}
-use Rattle.round.specs.Rows.{at, Due-at, Weight-at}
-use Rattle.whole.specs.Best.{Sees, Behind, best-of, Is-row, Heaviest, Weighs, Least}
+use Rattle.round.specs.Rows.{at, Due-at, Weight-at, Class-at}
+use Rattle.keys.specs.Key.{rank}
+use Rattle.keys.specs.KeyLaws.{rank-due}
+use Rattle.whole.specs.Best.{Rank-at, Over, Under, Sees, Behind, best-of, Is-row, Heaviest, Weighs, Least}
 use Rattle.whole.specs.Look.{Notes, Looks}
 use Rattle.whole.specs.declared.best.Best.{Best}
 use Rattle.whole.specs.declared.look.Found.{Found}
@@ -18,12 +20,21 @@ split P n a b j h = elim (eqb? j n) [
   | inr e ↦ let k = e .1 in a j (omega arith)
 ]
 
+-- A RANK as it is read
+pub rank-read : (r : Round) (i d c x : ℕ) → Due-at r i d → Class-at r i c → x ≡ rank d c → Rank-at r i x
+rank-read r i d c x a b e =
+    record {
+      is = omega (arith, e, a .is, b .is);
+      due = omega (arith, e, a .is, rank-due d c (b .most));
+      class = omega (arith, b .is, b .most);
+    }
+
 -- THE HEAVIEST
 pub best-start : (r : Round) (e : ℕ) → Heaviest r 0 e (best-of 0 0 0)
 best-start r e = record { small = omega arith; most = λ j h. absurd (omega (arith, h)); some = λ h. absurd (omega (arith, h)) }
 
 row-more : (r : Round) (n e : ℕ) (b : Best) → Is-row r n e b → Is-row r (n + 1) e b
-row-more r n e b s = record { below = omega (arith, s .below); weight = s .weight; due = s .due; by = s .by }
+row-more r n e b s = record { below = omega (arith, s .below); weight = s .weight; rank = s .rank; due = s .due; by = s .by }
 
 module _ (r : Round) (n e : ℕ) (b : Best) (g : Heaviest r n e b) where
   -- the row n doesn't count, or isn't heavier
@@ -42,36 +53,36 @@ module _ (r : Round) (n e : ℕ) (b : Best) (g : Heaviest r n e b) where
   best-lighter w a h = best-stays (λ _. inl (omega (arith, h, a .is)))
 
   -- it is compared
-  module _ (w d : ℕ) (a : Weight-at r n w) (k : Due-at r n d) (l : d ≤ e) where
-    best-new : ((b .weight < w) ⊎ ((w ≡ b .weight) × (d < b .due))) → Heaviest r (n + 1) e (best-of w d n)
+  module _ (w y : ℕ) (a : Weight-at r n w) (k : Rank-at r n y) (l : at r n .due ≤ e) where
+    best-new : Over w y b → Heaviest r (n + 1) e (best-of w y n)
     best-new o =
         record {
           small = a .most;
-          most = split (λ j. at r j .due ≤ e → Behind r j (best-of w d n)) n (λ j h u. after o j (g .most j h u))
+          most = split (λ j. at r j .due ≤ e → Behind r j (best-of w y n)) n (λ j h u. after o j (g .most j h u))
               (λ u. inr (sym (a .is), inr (sym (k .is), omega arith)));
-          some = λ _. record { below = omega arith; weight = a .is; due = k .is; by = l };
+          some = λ _. record { below = omega arith; weight = a .is; rank = k .is; due = k .due; by = l };
         }
       where
-        after : ((b .weight < w) ⊎ ((w ≡ b .weight) × (d < b .due))) → (j : ℕ) → Behind r j b → Behind r j (best-of w d n)
-        after (inl y) j (inl z) = inl (omega arith)
-        after (inl y) j (inr z) = inl (omega (arith, z .0))
-        after (inr y) j (inl z) = inl (omega (arith, y .0))
-        after (inr y) j (inr (z, inl v)) = inr (omega (arith, y .0), inl (omega (arith, y .1)))
-        after (inr y) j (inr (z, inr v)) = inr (omega (arith, y .0), inl (omega (arith, y .1, v .0)))
+        after : Over w y b → (j : ℕ) → Behind r j b → Behind r j (best-of w y n)
+        after (inl q) j (inl z) = inl (omega arith)
+        after (inl q) j (inr z) = inl (omega (arith, z .0))
+        after (inr q) j (inl z) = inl (omega (arith, q .0))
+        after (inr q) j (inr (z, inl v)) = inr (omega (arith, q .0), inl (omega (arith, q .1)))
+        after (inr q) j (inr (z, inr v)) = inr (omega (arith, q .0), inl (omega (arith, q .1, v .0)))
 
-    pub best-sees : (x : Best) → Sees b w d n x → Heaviest r (n + 1) e x
-    best-sees x (inl q) = subst (λ (y : Best). Heaviest r (n + 1) e y) (sym (q .1)) (best-stays (λ _. kept (q .0)))
+    pub best-sees : (x : Best) → Sees b w y n x → Heaviest r (n + 1) e x
+    best-sees x (inl q) = subst (λ (v : Best). Heaviest r (n + 1) e v) (sym (q .1)) (best-stays (λ _. kept (q .0)))
       where
-        kept : ((w < b .weight) ⊎ ((w ≡ b .weight) × (b .due ≤ d))) → Behind r n b
-        kept (inl y) = inl (omega (arith, a .is))
-        kept (inr y) = elim (leb? d (b .due)) [
-          | inl z ↦ inr (omega (arith, y .0, a .is), inr (omega (arith, y .1, z .1, k .is), row-by))
-          | inr z ↦ inr (omega (arith, y .0, a .is), inl (omega (arith, z .1, k .is)))
+        kept : Under w y b → Behind r n b
+        kept (inl q) = inl (omega (arith, a .is))
+        kept (inr q) = elim (leb? y (b .rank)) [
+          | inl z ↦ inr (omega (arith, q .0, a .is), inr (omega (arith, q .1, z .1, k .is), row-by))
+          | inr z ↦ inr (omega (arith, q .0, a .is), inl (omega (arith, z .1, k .is)))
         ]
           where
             row-by : b .row ≤ n
-            row-by = omega (arith, g .some (omega (arith, y .0, a .some)) .below)
-    best-sees x (inr q) = subst (λ (y : Best). Heaviest r (n + 1) e y) (sym (q .1)) (best-new (q .0))
+            row-by = omega (arith, g .some (omega (arith, q .0, a .some)) .below)
+    best-sees x (inr q) = subst (λ (v : Best). Heaviest r (n + 1) e v) (sym (q .1)) (best-new (q .0))
 
 pub best-end : (r : Round) (i n e : ℕ) (b : Best) → i ≤ n → n ≤ i → Heaviest r i e b → Heaviest r n e b
 best-end r i n e b h k g = let q : i ≡ n = omega (arith, h, k) in subst (λ (m : ℕ). Heaviest r m e b) q g
@@ -117,14 +128,14 @@ module _ (r : Round) (n e o : ℕ) (f : Found) (g : Looks r n e o f) (d : ℕ) (
         mark = least-passes r n o (f .mark) (g .mark) d k h;
       }
 
-  pub look-notes : (w : ℕ) → Weight-at r n w → d ≤ o → (x : Found) → Notes f w d n e x → Looks r (n + 1) e o x
-  look-notes w a h x (inl q) =
+  pub look-notes : (w y : ℕ) → Weight-at r n w → Rank-at r n y → d ≤ o → (x : Found) → Notes f w d y n e x → Looks r (n + 1) e o x
+  look-notes w y a b h x (inl q) =
       record {
-        first = best-sees r n e (f .first) (g .first) w d a k (q .by) (x .first) (q .first);
+        first = best-sees r n e (f .first) (g .first) w y a b (omega (arith, k .is, q .by)) (x .first) (q .first);
         lightest = least-sees r n e (f .lightest) (g .lightest) w d a k (q .by) (x .lightest) (q .lightest);
         mark = least-sees r n o (f .mark) (g .mark) w d a k h (x .mark) (q .mark);
       }
-  look-notes w a h x (inr q) =
+  look-notes w y a b h x (inr q) =
       record {
         first = subst (λ (y : Best). Heaviest r (n + 1) e y) (sym (q .first)) (best-passes r n e (f .first) (g .first) d k (q .past));
         lightest = subst (λ (y : ℕ). Least r (n + 1) e y) (sym (q .lightest)) (least-passes r n e (f .lightest) (g .lightest) d k (q .past));

@@ -1,5 +1,5 @@
 -- Which row leads, with every row in the plan: past the first segment each row's substitute is a blank.
-use mathlib.Core.Path.{_≡_, refl, ap, _∙_}
+use mathlib.Core.Path.{_≡_, refl, sym, ap, _∙_}
 use mathlib.Core.Logic.{inl, inr}
 use mathlib.Core.Bool.{false}
 use Prim.Native.Nat.{ℕ, _+_, _*_, _≤_, _<_}
@@ -22,6 +22,7 @@ use Rattle.theory.specs.Near.{Near}
 use Rattle.theory.specs.Segments.{Segment, first-segment, segment-beats, segment-score-first, segment-mark}
 use Rattle.theory.specs.Lead.{Leads}
 use Rattle.round.specs.Rows.{at}
+use Rattle.keys.specs.KeyLaws.{rank-less, rank-same}
 use Rattle.whole.specs.Best.{Behind, Is-row, Heaviest, Least}
 use Rattle.whole.specs.Whole.{Lightest-by}
 use Rattle.whole.specs.declared.best.Best.{Best}
@@ -50,10 +51,23 @@ none-heavier r f n e b m g s =
       | inr e ↦ let d = e .1 in omega (arith, tickets-less 1 (r .next) (r .rows) (blank 0) (b .row) j (f .rising) (omega arith) l)
     ]
 
+    class-by : (j : ℕ) → j < length (r .rows) → at r j .tail .class ≤ 3
+    class-by j l = fine-at r f j l .class
+
+    best-class : at r (b .row) .tail .class ≤ 3
+    best-class = class-by (b .row) (omega (arith, s .below, m))
+
     over : (j : ℕ) → j < length (r .rows) → Behind r j b → Not-over (at r j) (at r (b .row))
     over j l (inl y) = inl (omega (arith, s .weight))
-    over j l (inr (y, inl v)) = inr (omega (arith, s .weight), inl (omega (arith, s .due)))
-    over j l (inr (y, inr v)) = inr (omega (arith, s .weight), inr (omega (arith, v .0, s .due), ticket-by j l (v .1)))
+    over j l (inr (y, inl v)) =
+        elim (rank-less (at r (b .row) .due) (at r (b .row) .tail .class) (at r j .due) (at r j .tail .class) best-class (omega (arith, v, s .rank))) [
+          | inl z ↦ inr (omega (arith, y, s .weight), inl z)
+          | inr z ↦ inr (omega (arith, y, s .weight), inr (sym (z .0), inl (z .1)))
+        ]
+    over j l (inr (y, inr v)) =
+        let z = rank-same (at r j .due) (at r j .tail .class) (at r (b .row) .due) (at r (b .row) .tail .class) (class-by j l) best-class
+        (omega (arith, v .0, s .rank)) in
+        inr (omega (arith, y, s .weight), inr (z .0, inr (z .1, ticket-by j l (v .1))))
 
 pub some-least : (r : Round) → Fine r → (n e m : ℕ) → n ≡ length (r .rows) → Least r n e m → (j : ℕ) → j < n → at r j .due ≤ e → Lightest-by r e m
 some-least r f n e m q g j h d = elim (ltb? m 16777216) [

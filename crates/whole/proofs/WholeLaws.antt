@@ -3,7 +3,7 @@ use mathlib.Core.Path.{_≡_, refl, sym, ap, _∙_, subst}
 use mathlib.Core.Logic.{inl, inr}
 use mathlib.Core.Bool.{Bool, true, false}
 use mathlib.Core.List.{List}
-use Prim.Native.Nat.{ℕ, _+_, _-_, _≤_, _<_}
+use Prim.Native.Nat.{ℕ, _+_, _-_, _/_, _≤_, _<_}
 use native.Mathlib.Omega.{arith}
 use lib.ListN.{length}
 use Rattle.rules.specs.PlanM.{score}
@@ -100,7 +100,7 @@ module _ {t cs : List ℕ} {h : Head} {x : Reach} (g : Given t cs h x) where
         })
 
     -- it is due in the first segment
-    pub first-all : {y : Stretch} → Stretches cs (x .free) 0 y → b .due ≤ h .slot .0 + y .last → {i : ℕ} → i ≡ b .row →
+    pub first-all : {y : Stretch} → Stretches cs (x .free) 0 y → b .rank / 4 ≤ h .slot .0 + y .last → {i : ℕ} → i ≡ b .row →
         Picks-first (round-in t) (round-in t .slot + x .free) i
     first-all {y} s d {i} q =
         let e = h .slot .0 + y .last in
@@ -121,10 +121,10 @@ module _ {t cs : List ℕ} {h : Head} {x : Reach} (g : Given t cs h x) where
 
 -- THE HEAVIEST IS PAST the first segment
 module _ {t cs : List ℕ} {h : Head} {x : Reach} {b : Best} {e : ℕ} (p : Past t cs h x b e) where
-  pub past-from : h .slot .0 ≤ b .due
+  pub past-from : h .slot .0 ≤ b .rank / 4
   past-from = omega (arith, p .past, p .segment .by, facts (p .given) .slot)
 
-  pub past-by : {y : Stretch} {a : ℕ} → a ≡ b .due - h .slot .0 → Stretches cs (x .free) a y → e ≤ h .slot .0 + y .last
+  pub past-by : {y : Stretch} {a : ℕ} → a ≡ b .rank / 4 - h .slot .0 → Stretches cs (x .free) a y → e ≤ h .slot .0 + y .last
   past-by d s = omega (arith, p .past, d, s .by, past-from)
 
 -- and the second pass is done
@@ -157,7 +157,7 @@ module _ {t cs : List ℕ} {h : Head} {x : Reach} {b : Best} {e own : ℕ} {f : 
   past-first u {i} q =
       let n = facts (p .given) in
       let a = best-row (p .given) (p .best) in
-      let d : at (round-in t) (f .first .row) .due ≤ e = omega (arith, found-row .due, found-row .by) in
+      let d : at (round-in t) (f .first .row) .due ≤ e = found-row .by in
       subst (λ (v : ℕ). Picks-first (round-in t) (round-in t .slot + x .free) v) (sym q) (record {
         leading = record {
           below = found-below;
@@ -179,7 +179,7 @@ module _ {t cs : List ℕ} {h : Head} {x : Reach} {b : Best} {e own : ℕ} {f : 
     past-leading {i} q =
         let n = facts (p .given) in
         let a = best-row (p .given) (p .best) in
-        let d : at (round-in t) (f .first .row) .due ≤ e = omega (arith, found-row .due, found-row .by) in
+        let d : at (round-in t) (f .first .row) .due ≤ e = found-row .by in
         subst (λ (v : ℕ). Leading (round-in t) v) (sym q) (record {
           below = omega (arith, a .below, n .used);
           leads = past-leads (round-in t) (n .fine) (n .time) (rows (p .given)) (round-in t .slot + x .free) (p .given .reaches .near) e (p .near) (p .segment)
@@ -189,13 +189,13 @@ module _ {t cs : List ℕ} {h : Head} {x : Reach} {b : Best} {e own : ℕ} {f : 
               (omega (arith, u, a .weight, found-row .weight));
         })
 
-    due-is : {i : ℕ} → i ≡ b .row → at (round-in t) i .due ≡ b .due
+    due-is : {i : ℕ} → i ≡ b .row → at (round-in t) i .due ≡ b .rank / 4
     due-is q = ap (λ (v : ℕ). at (round-in t) v .due) q ∙ sym (best-row (p .given) (p .best) .due)
 
-    pub past-far : h .slot .0 + x .free ≤ b .due → {i : ℕ} → i ≡ b .row → Picks-far (round-in t) (round-in t .slot + x .free) i
+    pub past-far : h .slot .0 + x .free ≤ b .rank / 4 → {i : ℕ} → i ≡ b .row → Picks-far (round-in t) (round-in t .slot + x .free) i
     past-far d q = record { leading = past-leading q; far = omega (arith, d, due-is q, facts (p .given) .slot) }
 
-    pub past-kept : {y : Stretch} {a : ℕ} → h .slot .0 + a ≡ b .due → Stretches cs (x .free) a y → own ≡ h .slot .0 + y .last → {i c m : ℕ} → i ≡ b .row →
+    pub past-kept : {y : Stretch} {a : ℕ} → h .slot .0 + a ≡ b .rank / 4 → Stretches cs (x .free) a y → own ≡ h .slot .0 + y .last → {i c m : ℕ} → i ≡ b .row →
         c ≡ h .slot .0 + y .first → m ≡ f .mark → Picks-kept (round-in t) (round-in t .slot + x .free) i c m
     past-kept {y} {a} d s o {i} {c} {m} q v w =
         let n = facts (p .given) in

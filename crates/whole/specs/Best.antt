@@ -1,36 +1,44 @@
 -- The heaviest of some rows, and the least weight.
 use mathlib.Core.Path.{_≡_}
 use mathlib.Core.Logic.{_⊎_}
-use Prim.Native.Nat.{ℕ, _≤_, _<_}
+use Prim.Native.Nat.{ℕ, _/_, _≤_, _<_}
 use Rattle.rules.specs.Limits.{most-weight}
 use Rattle.rules.specs.Rows.{Round}
 use Rattle.round.specs.Rows.{at}
+use Rattle.keys.specs.Key.{rank-at}
 use Rattle.whole.specs.declared.best.Best.{Best}
 
+-- a row's rank, as it is read: due slot, then class
+pub record Rank-at (r : Round) (i x : ℕ) : Type 0 where
+  pub is : x ≡ rank-at r i
+  pub due : x / 4 ≡ at r i .due
+  pub class : at r i .tail .class ≤ 3
+
 -- a row behind the best one in the table is heavier, or it isn't
-abbrev pub Over : (weight due : ℕ) → Best → Type 0
-Over w d b = (b .weight < w) ⊎ ((w ≡ b .weight) × (d < b .due))
+abbrev pub Over : (weight rank : ℕ) → Best → Type 0
+Over w y b = (b .weight < w) ⊎ ((w ≡ b .weight) × (y < b .rank))
 
-abbrev pub Under : (weight due : ℕ) → Best → Type 0
-Under w d b = (w < b .weight) ⊎ ((w ≡ b .weight) × (b .due ≤ d))
+abbrev pub Under : (weight rank : ℕ) → Best → Type 0
+Under w y b = (w < b .weight) ⊎ ((w ≡ b .weight) × (b .rank ≤ y))
 
-abbrev pub best-of : (weight due row : ℕ) → Best
-best-of w d i = record { weight = w; due = d; row = i }
+abbrev pub best-of : (weight rank row : ℕ) → Best
+best-of w y i = record { weight = w; rank = y; row = i }
 
-abbrev pub Sees : Best → (weight due row : ℕ) → Best → Type 0
-Sees b w d i x = (Under w d b × (x ≡ b)) ⊎ (Over w d b × (x ≡ best-of w d i))
+abbrev pub Sees : Best → (weight rank row : ℕ) → Best → Type 0
+Sees b w y i x = (Under w y b × (x ≡ b)) ⊎ (Over w y b × (x ≡ best-of w y i))
 
 -- row j doesn't go before the best one
 abbrev pub Behind : Round → (row : ℕ) → Best → Type 0
 Behind r j b =
-    (at r j .weight < b .weight) ⊎ ((at r j .weight ≡ b .weight) × ((b .due < at r j .due) ⊎ ((at r j .due ≡ b .due) × (b .row ≤ j))))
+    (at r j .weight < b .weight) ⊎ ((at r j .weight ≡ b .weight) × ((b .rank < rank-at r j) ⊎ ((rank-at r j ≡ b .rank) × (b .row ≤ j))))
 
 -- one of the first n rows, due by slot e
 pub record Is-row (r : Round) (n e : ℕ) (b : Best) : Type 0 where
   pub below : b .row < n
   pub weight : b .weight ≡ at r (b .row) .weight
-  pub due : b .due ≡ at r (b .row) .due
-  pub by : b .due ≤ e
+  pub rank : b .rank ≡ rank-at r (b .row)
+  pub due : b .rank / 4 ≡ at r (b .row) .due
+  pub by : at r (b .row) .due ≤ e
 
 -- THE HEAVIEST of the first n rows that are due by slot e
 pub record Heaviest (r : Round) (n e : ℕ) (b : Best) : Type 0 where

@@ -10,9 +10,9 @@ use Rattle.whole.specs.declared.best.Best.{Best}
 use Rattle.whole.specs.declared.look.Found.{Found}
 
 -- a row noted, due by the first segment's end or not
-pub record Noted-first (f : Found) (w d i e : ℕ) (x : Found) : Type 0 where
+pub record Noted-first (f : Found) (w d y i e : ℕ) (x : Found) : Type 0 where
   pub by : d ≤ e
-  pub first : Sees (f .first) w d i (x .first)
+  pub first : Sees (f .first) w y i (x .first)
   pub lightest : x .lightest ≡ min (f .lightest) w
   pub mark : x .mark ≡ min (f .mark) w
 
@@ -22,8 +22,8 @@ pub record Noted-past (f : Found) (w d e : ℕ) (x : Found) : Type 0 where
   pub lightest : x .lightest ≡ f .lightest
   pub mark : x .mark ≡ min (f .mark) w
 
-abbrev pub Notes : Found → (weight due row end : ℕ) → Found → Type 0
-Notes f w d i e x = Noted-first f w d i e x ⊎ Noted-past f w d e x
+abbrev pub Notes : Found → (weight due rank row end : ℕ) → Found → Type 0
+Notes f w d y i e x = Noted-first f w d y i e x ⊎ Noted-past f w d e x
 
 -- OF THE FIRST n ROWS
 pub record Looks (r : Round) (n end own : ℕ) (f : Found) : Type 0 where

@@ -1,7 +1,7 @@
 -- Which row goes where no row is left out.
 use mathlib.Core.Path.{_≡_}
 use mathlib.Core.List.{List}
-use Prim.Native.Nat.{ℕ, _+_, _≤_, _<_}
+use Prim.Native.Nat.{ℕ, _+_, _/_, _≤_, _<_}
 use lib.ListN.{length}
 use Rattle.rules.specs.Rows.{Round}
 use Rattle.rules.specs.Table.{round-in}
@@ -31,7 +31,7 @@ pub record Past (t cs : List ℕ) (h : Head) (x : Reach) (b : Best) (e : ℕ) : 
   pub best : Heaviest (round-in t) (h .used) (h .last .0) b
   pub near : e < round-in t .slot + x .free
   pub segment : Segment (round-in t) (round-in t .rows) (round-in t .slot) e
-  pub past : e < b .due
+  pub past : e < b .rank / 4
 
 -- row i leads all rows
 pub record Leading (r : Round) (i : ℕ) : Type 0 where

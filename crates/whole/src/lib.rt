@@ -12,6 +12,7 @@ use crate::look::heaviest;
 use crate::look::look;
 use buckets::Reach;
 use buckets::stretch::stretch_of;
+use keys::rank_due;
 use lead::score_of;
 use sorts::Round;
 use sorts::Slot;
@@ -59,7 +60,7 @@ fn choose_past(
     ensures { λ r. ⌜ Picked (round-in (now (table .entry))) (reach .free) r ⌝ }
 {
     let slot = round.slot.0;
-    let ahead = (best.due - slot) as usize;
+    let ahead = (rank_due(best.rank) - slot) as usize;
     if reach.free <= ahead {
         let found = look(table, round, end, end);
         if first_goes(best, found) {
@@ -93,7 +94,7 @@ pub fn choose_whole(table: &[u8], counts: &[u32], round: Round, reach: Reach) ->
         return Whole::Far { row: best.row };
     }
     let end = round.slot.0 + stretch_of(counts, reach.free, 0).last as u32;
-    if best.due <= end {
+    if rank_due(best.rank) <= end {
         return Whole::First { row: best.row };
     }
     choose_past(table, counts, round, reach, best, end)

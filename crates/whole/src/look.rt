@@ -2,16 +2,29 @@
 ghost use Prim.Native.Nat.{_≤_};
 ghost use Rattle.rules.specs.Table.{round-in};
 ghost use Rattle.round.specs.Rows.{Ready};
-ghost use Rattle.whole.specs.Best.{Heaviest};
+ghost use Rattle.whole.specs.Best.{Rank-at, Heaviest};
 ghost use Rattle.whole.specs.Look.{Notes, Looks};
 use crate::best::Best;
 use crate::best::least;
 use crate::best::see;
+use keys::rank_of;
+use round::read::class_at;
 use round::read::due_at;
 use round::read::weight_at;
+use sorts::Class;
 use sorts::Round;
+use sorts::Slot;
 
-// The heaviest of all rows. A due slot is read only where it can count.
+// A row's due slot and class as one number.
+fn rank_at(table: &[u8], round: Round, row: usize) -> u32
+    requires { ⌜ Ready (now table) round × (row < round .used) ⌝ }
+    ensures { λ r. ⌜ Rank-at (round-in (now (table .entry))) row r ⌝ }
+{
+    let due = due_at(table, round, row);
+    rank_of(Slot(due), Class(class_at(table, round, row)))
+}
+
+// The heaviest of all rows. A rank is read only where it can count.
 pub fn heaviest(table: &[u8], round: Round) -> Best
     requires { ⌜ Ready (now table) round ⌝ }
     ensures { λ r. ⌜ Heaviest (round-in (now (table .entry))) (round .used) (round .last .0) r ⌝ }
@@ -19,7 +32,7 @@ pub fn heaviest(table: &[u8], round: Round) -> Best
     let used = round.used;
     let mut best = Best {
         weight: 0,
-        due: 0,
+        rank: 0,
         row: 0,
     };
     let mut i: usize = 0;
@@ -28,7 +41,7 @@ pub fn heaviest(table: &[u8], round: Round) -> Best
         let weight = weight_at(table, round, row);
         i += 1;
         if best.weight <= weight {
-            best = see(best, weight, due_at(table, round, row), row);
+            best = see(best, weight, rank_at(table, round, row), row);
         }
     }
     best
@@ -42,8 +55,8 @@ pub struct Found {
 }
 
 // A row due by the other segment's end.
-fn note(found: Found, weight: u32, due: u32, row: usize, end: u32) -> Found
-    ensures { λ r. ⌜ Notes found weight due row end r ⌝ }
+fn note(found: Found, weight: u32, due: u32, rank: u32, row: usize, end: u32) -> Found
+    ensures { λ r. ⌜ Notes found weight due rank row end r ⌝ }
 {
     let first = found.first;
     let mark = least(found.mark, weight);
@@ -55,7 +68,7 @@ fn note(found: Found, weight: u32, due: u32, row: usize, end: u32) -> Found
         };
     }
     Found {
-        first: see(first, weight, due, row),
+        first: see(first, weight, rank, row),
         lightest: least(found.lightest, weight),
         mark,
     }
@@ -69,7 +82,7 @@ pub fn look(table: &[u8], round: Round, end: u32, own: u32) -> Found
     let mut found = Found {
         first: Best {
             weight: 0,
-            due: 0,
+            rank: 0,
             row: 0,
         },
         lightest: Round::WEIGHT.0,
@@ -81,7 +94,8 @@ pub fn look(table: &[u8], round: Round, end: u32, own: u32) -> Found
         let due = due_at(table, round, row);
         i += 1;
         if due <= own {
-            found = note(found, weight_at(table, round, row), due, row, end);
+            let rank = rank_at(table, round, row);
+            found = note(found, weight_at(table, round, row), due, rank, row, end);
         }
     }
     found

@@ -6,8 +6,8 @@ use mathlib.Core.List.{List, [], _∷_, _++_, append-assoc, append-nil}
 use Prim.Native.Nat.{ℕ, suc, _+_, _*_, _-_, _≤_, _<_}
 use native.Mathlib.Omega.{arith}
 use native.Mathlib.Numerals.{add-one}
-use lib.Dec.{leb, eqb}
-use borrow.Author.Tests.{le-leb, lt-leb}
+use lib.Dec.{ltb, leb, eqb}
+use borrow.Author.Tests.{lt-ltb, le-ltb}
 use lib.ListN.{length, set, take, drop, replicate, take-append-drop, drop-of-length-le, replicate-append-replicate}
 use lib.Seq.{take-add, drop-drop, take-suc-set}
 use Rattle.rules.specs.Table.{value, field}
@@ -137,18 +137,18 @@ cleared-more t z f i h k inv =
     ∙ ap (λ (bs : List ℕ). take f t ++ bs) (replicate-append-replicate (i - f) 1 0)
     ∙ ap (λ (m : ℕ). take f t ++ replicate m 0) (sym e)
 
--- A WORD IS AT MOST 1 when its first byte is and the others are zero
-pub word-at-most-one : (b : ℕ) (bs : List ℕ) → leb (value (b ∷ bs)) 1 ≡ leb b 1 && zeros bs
+-- A WORD IS BELOW 1,024 when its second byte is at most 3 and those behind it are zero
+pub word-in-two : (b c : ℕ) (bs : List ℕ) → b < 256 → ltb (value (b ∷ c ∷ bs)) 1024 ≡ leb c 3 && zeros bs
 unfolding value
-word-at-most-one b bs = small b (value bs) ∙ ap (λ (t : Bool). leb b 1 && t) (sym (zeros-value bs))
+word-in-two b c bs h = small b c (value bs) h ∙ ap (λ (t : Bool). leb c 3 && t) (sym (zeros-value bs))
   where
-    small : (b v : ℕ) → leb (b + 256 * v) 1 ≡ leb b 1 && eqb v 0
-    small b v =
-        elim (leb? b 1) [
-          | inl h ↦ rw (h .0)
+    small : (b c v : ℕ) → b < 256 → ltb (b + 256 * (c + 256 * v)) 1024 ≡ leb c 3 && eqb v 0
+    small b c v h =
+        elim (leb? c 3) [
+          | inl k ↦ rw (k .0)
               (elim (eqb? v 0) [
-                | inl g ↦ le-leb (b + 256 * v) 1 (omega (arith, h .1, g .1)) ∙ sym (g .0)
-                | inr g ↦ lt-leb (b + 256 * v) 1 (omega (arith, g .1)) ∙ sym (g .0)
+                | inl g ↦ lt-ltb (b + 256 * (c + 256 * v)) 1024 (omega (arith, h, k .1, g .1)) ∙ sym (g .0)
+                | inr g ↦ le-ltb (b + 256 * (c + 256 * v)) 1024 (omega (arith, g .1)) ∙ sym (g .0)
               ])
-          | inr h ↦ rw (h .0) (lt-leb (b + 256 * v) 1 (omega (arith, h .1)))
+          | inr k ↦ rw (k .0) (le-ltb (b + 256 * (c + 256 * v)) 1024 (omega (arith, k .1)))
         ]

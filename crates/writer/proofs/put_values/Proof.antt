@@ -5,6 +5,7 @@ use native.Mathlib.Omega.{arith}
 use lib.ListN.{length, getD, take}
 use lib.Seq.{length-take-le, getD-take}
 use borrow.Author.Needs.{needs}
+use Rattle.lines.specs.Forms.{most-numbers}
 use Rattle.writer.proofs.Writing.{Values-put, values-none, next-room, values-more, values-all}
 use Rattle.writer.proofs.put_values.Statement.{statement}
 use Rattle.writer.proofs.put_values.Tie as tie
@@ -28,7 +29,7 @@ same : (s : tie.Start Inv-loop μ-loop) →
 same s = many s .1 ∙ sym (many s .0)
 
 -- in the loop: the i-th of both, and room for its digits
-index : (c : tie.In-loop Inv-loop μ-loop) → c .before .loop .i < 2
+index : (c : tie.In-loop Inv-loop μ-loop) → c .before .loop .i < most-numbers
 index c = omega (arith, c .before .before .before .before .pre .0 .few, c .loop-test .taken)
 
 within : (c : tie.In-loop Inv-loop μ-loop) → let f = c .before .before .before .before .args .form in c .before .loop .i < length (take (f .count) (f .widths))

@@ -7,6 +7,7 @@ use lib.Seq.{length-take-le, getD-take}
 use borrow.Author.Needs.{needs}
 use borrow.Author.Tests.{not-true, not-false}
 use Rattle.rules.specs.Lines.{fit-digits}
+use Rattle.lines.specs.Forms.{most-numbers}
 use Rattle.writer.proofs.Writing.{fit-go, fit-stop, fit-all}
 use Rattle.writer.proofs.values_fit.Statement.{statement}
 use Rattle.writer.proofs.values_fit.Tie as tie
@@ -22,7 +23,7 @@ loop-holds : tie.Need-loop-holds Inv-loop μ-loop
 loop-holds c = refl
 
 -- in the loop: the i-th width and value are the form's
-room : (c : tie.In-loop Inv-loop μ-loop) → c .before .loop .i < 2
+room : (c : tie.In-loop Inv-loop μ-loop) → c .before .loop .i < most-numbers
 room c = omega (arith, c .before .before .before .pre .0 .few, c .loop-test .taken)
 
 long : (s : tie.Start Inv-loop μ-loop) → (length (take (s .args .form .count) (s .args .form .widths)) ≡ s .args .form .count)

@@ -1,6 +1,6 @@
 -- `lines::form_of` meets its contract: by the line's number.
 use borrow.Author.Needs.{needs}
-use Rattle.lines.proofs.FormLaws.{open-form, take-form, send-form, seal-form, no-form}
+use Rattle.lines.proofs.FormLaws.{open-form, take-form, send-form, seal-form, class-form, no-form}
 use Rattle.lines.proofs.forms.form_of.Statement.{statement}
 use Rattle.lines.proofs.forms.form_of.Tie as tie
 
@@ -25,8 +25,20 @@ formed-requires-3 c κs = search needs
 formed-requires-4 : tie.Need-formed-requires-4
 formed-requires-4 c κs = search needs
 
+add-formed-4 : tie.Need-add-formed-4
+add-formed-4 c = search needs
+
+add-formed-5 : tie.Need-add-formed-5
+add-formed-5 c = search needs
+
+add-formed-6 : tie.Need-add-formed-6
+add-formed-6 c = search needs
+
 formed-requires-5 : tie.Need-formed-requires-5
 formed-requires-5 c κs = search needs
+
+formed-requires-6 : tie.Need-formed-requires-6
+formed-requires-6 c κs = search needs
 
 returns : tie.Need-returns
 returns c = rw (c .before .match .keys1) (open-form (cc (c .formed .ensures)))
@@ -41,9 +53,12 @@ returns-4 : tie.Need-returns-4
 returns-4 c = rw (c .before .match .keys4) (seal-form (cc (c .formed4 .ensures)))
 
 returns-5 : tie.Need-returns-5
-returns-5 c =
+returns-5 c = rw (c .before .match .keys5) (class-form (cc (c .formed5 .ensures)))
+
+returns-6 : tie.Need-returns-6
+returns-6 c =
     let not = c .before .match .rest in
-    no-form (c .before .before .args .number) (not .0 .0 .0 .1) (not .0 .0 .1) (not .0 .1) (not .1) (cc (c .formed5 .ensures))
+    no-form (c .before .before .args .number) (not .0 .0 .0 .0 .1) (not .0 .0 .0 .1) (not .0 .0 .1) (not .0 .1) (not .1) (cc (c .formed6 .ensures))
 
 pub form-of-spec : {M : Type 1} → statement M
 form-of-spec =
@@ -56,9 +71,14 @@ form-of-spec =
     formed-requires-2
     formed-requires-3
     formed-requires-4
+    add-formed-4
+    add-formed-5
+    add-formed-6
     formed-requires-5
+    formed-requires-6
     returns
     returns-2
     returns-3
     returns-4
-    returns-5)
+    returns-5
+    returns-6)

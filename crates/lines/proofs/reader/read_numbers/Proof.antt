@@ -5,7 +5,7 @@ use Prim.Native.Nat.{_+_, _-_, _≤_, _<_}
 use native.Mathlib.Omega.{arith}
 use lib.ListN.{length, getD, take, drop}
 use borrow.Author.Needs.{needs}
-use Rattle.lines.specs.Forms.{widths-in}
+use Rattle.lines.specs.Forms.{most-numbers, widths-in}
 use Rattle.lines.proofs.ReadLines.{spelt-number, spelt-nothing}
 use Rattle.lines.proofs.Collecting.{length-widths, width-in, part-long, part-short, next-within}
 use Rattle.lines.proofs.Collecting.{Collected, collected-none, collected-foul, collected-more, collected-all}
@@ -22,7 +22,7 @@ abbrev μ-loop : tie.MeasureT-loop
 within : (c : tie.In-loop Inv-loop μ-loop) → c .before .loop .i < length (widths-in (c .before .before .before .before .args .form))
 within c = omega (arith, length-widths (c .before .before .before .before .pre .0), c .loop-test .taken)
 
-room : (c : tie.In-loop Inv-loop μ-loop) → c .before .loop .i < 2
+room : (c : tie.In-loop Inv-loop μ-loop) → c .before .loop .i < most-numbers
 room c = omega (arith, c .before .before .before .before .pre .0 .few, c .loop-test .taken)
 
 width : (c : tie.In-loop Inv-loop μ-loop) → let f = c .before .before .before .before .args .form in

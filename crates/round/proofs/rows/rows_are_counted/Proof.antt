@@ -7,7 +7,7 @@ use borrow.Author.Needs.{needs}
 use borrow.Author.Tests.{not-true, not-false}
 use Rattle.rules.specs.Table.{round-in}
 use Rattle.round.proofs.CountLaws.{counting-start}
-use Rattle.round.proofs.ScanLaws.{Bucket-at, judging-start, judging-on, judging-off, bucket-there, lent-long, fewer-left, Scanned, scanned-on, scanned-room, say-none, say-off, say-all}
+use Rattle.round.proofs.ScanLaws.{Bucket-at, judging-start, judging-on, judging-off, frames-end, bucket-there, lent-long, fewer-left, Scanned, scanned-on, scanned-room, say-none, say-off, say-all}
 use Rattle.round.proofs.rows.rows_are_counted.Statement.{statement}
 use Rattle.round.proofs.rows.rows_are_counted.Tie as tie
 
@@ -104,14 +104,14 @@ loop-again c =
       simp length-set (c .before .before .before .before .before .before .before .before .before .before .loop .inv .1),
     )
 
-rows-pass-requires : tie.Need-rows-pass-requires Inv-loop μ-loop
-rows-pass-requires c κs = search needs
+all-pass-requires : tie.Need-all-pass-requires Inv-loop μ-loop
+all-pass-requires c κs = (c .before .before .before .before .before .before .before .before .pre .0, frames-end _ _ _ _ (c .before .loop .inv .0 .judging) (search needs))
 
 same-length-2 : tie.Need-same-length-2 Inv-loop μ-loop
 same-length-2 c = c .before .before .loop .inv .1
 
 returns-3 : tie.Need-returns-3 Inv-loop μ-loop
-returns-3 c = say-all _ _ _ _ _ _ (c .before .before .before .before .before .before .before .before .before .pre .0) (search needs) (c .rows-pass .ensures) (c .before .before .loop .inv .0)
+returns-3 c = say-all _ _ _ _ _ _ (c .before .before .before .before .before .before .before .before .before .pre .0) (search needs) (c .all-pass .ensures) (c .before .before .loop .inv .0)
 
 pub rows-are-counted-spec : {M : Type 1} → statement M
 rows-are-counted-spec =
@@ -141,6 +141,6 @@ rows-are-counted-spec =
     add-i
     loop-less
     loop-again
-    rows-pass-requires
+    all-pass-requires
     same-length-2
     returns-3)

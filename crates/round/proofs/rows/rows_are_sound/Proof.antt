@@ -4,7 +4,7 @@ use Prim.Native.Nat.{_-_}
 use native.Mathlib.Omega.{arith}
 use borrow.Author.Needs.{needs}
 use borrow.Author.Tests.{not-true, not-false}
-use Rattle.round.proofs.ScanLaws.{none-left, lent-long, Judging, judging-start, judging-on, judging-off, judging-end}
+use Rattle.round.proofs.ScanLaws.{none-left, lent-long, Judging, judging-start, judging-on, judging-off, frames-end, judging-end}
 use Rattle.round.proofs.rows.rows_are_sound.Statement.{statement}
 use Rattle.round.proofs.rows.rows_are_sound.Tie as tie
 
@@ -55,11 +55,11 @@ loop-again : tie.Need-loop-again Inv-loop μ-loop
 loop-again c = judging-on _ _ (c .before .before .before .before .before .before .before .before .before .before .before .before .pre) (search needs) _ _ _ (c .before .before .before .before .before .row-at .ensures) refl (search needs) _ _
     (c .before .before .see-row .ensures) _ (c .before .row-follows .ensures) (not-false _ (c .if2 .left)) (c .before .before .before .before .before .before .before .loop .inv)
 
-rows-pass-requires : tie.Need-rows-pass-requires Inv-loop μ-loop
-rows-pass-requires c κs = search needs
+all-pass-requires : tie.Need-all-pass-requires Inv-loop μ-loop
+all-pass-requires c κs = (c .before .before .before .before .before .before .pre, frames-end _ _ _ _ (c .before .loop .inv) (search needs))
 
 returns-3 : tie.Need-returns-3 Inv-loop μ-loop
-returns-3 c = judging-end _ _ _ _ _ (c .before .before .loop .inv) (search needs) (c .rows-pass .ensures)
+returns-3 c = judging-end _ _ _ _ _ (c .before .before .loop .inv) (search needs) (c .all-pass .ensures)
 
 pub rows-are-sound-spec : {M : Type 1} → statement M
 rows-are-sound-spec =
@@ -80,5 +80,5 @@ rows-are-sound-spec =
     add-i
     loop-less
     loop-again
-    rows-pass-requires
+    all-pass-requires
     returns-3)

@@ -1,6 +1,4 @@
--- `row::write::write_row` meets its contract: four stores are the row's numbers.
-use native.Mathlib.Omega.{arith}
-use lib.ListN.{length-set}
+-- `row::write::write_row` meets its contract: five stores are the row's numbers.
 use borrow.Author.Needs.{needs}
 use Rattle.row.proofs.StoreLaws.{row-stored}
 use Rattle.row.proofs.write.write_row.Statement.{statement}
@@ -24,21 +22,29 @@ add-write4-2 c = search needs
 write4-requires-2 : tie.Need-write4-requires-2
 write4-requires-2 c κs = search needs
 
-add-table : tie.Need-add-table
-add-table c = search needs
+add-write1 : tie.Need-add-write1
+add-write1 c = search needs
 
-slice-write-table : tie.Need-slice-write-table
-slice-write-table c = search needs
+write1-requires : tie.Need-write1-requires
+write1-requires c κs = search needs
+
+add-write1-2 : tie.Need-add-write1-2
+add-write1-2 c = search needs
+
+write1-requires-2 : tie.Need-write1-requires-2
+write1-requires-2 c κs = search needs
 
 same-length : tie.Need-same-length
-same-length c = simp length-set (omega arith)
+same-length c = search needs
 
 returns : tie.Need-returns
 returns c =
-    row-stored _ _ _ _ _ _ _ _
-    (c .before .before .before .before .before .before .before .before .before .before .write4 .ensures)
-    (c .before .before .before .before .before .before .write2 .ensures)
-    (c .before .before .write42 .ensures)
+    row-stored _ _ _ _ _ _ _ _ _ _ _
+    (c .before .before .before .before .before .before .before .before .before .before .before .before .before .before .before .before .before .before .write4 .ensures)
+    (c .before .before .before .before .before .before .before .before .before .before .before .before .before .before .write2 .ensures)
+    (c .before .before .before .before .before .before .before .before .before .before .write42 .ensures)
+    (c .before .before .before .before .before .before .write1 .ensures)
+    (c .before .before .write12 .ensures)
 
 pub write-row-spec : {M : Type 1} → statement M
 write-row-spec =
@@ -50,7 +56,9 @@ write-row-spec =
     write2-requires
     add-write4-2
     write4-requires-2
-    add-table
-    slice-write-table
+    add-write1
+    write1-requires
+    add-write1-2
+    write1-requires-2
     same-length
     returns)

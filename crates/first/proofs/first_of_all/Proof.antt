@@ -10,10 +10,10 @@ use Rattle.first.proofs.first_of_all.Statement.{statement}
 use Rattle.first.proofs.first_of_all.Tie as tie
 
 abbrev Inv-loop : tie.InvT-loop
-Inv-loop table round used first₀ i₀ first i = (i ≤ used) × Leads (round-in table) i first
+Inv-loop table round used start first₀ i₀ first i = (i ≤ used) × Leads (round-in table) i first
 
 abbrev μ-loop : tie.MeasureT-loop
-μ-loop table round used first₀ i₀ first i = used - i
+μ-loop table round used start first₀ i₀ first i = used - i
 
 due-at-requires : tie.Need-due-at-requires Inv-loop μ-loop
 due-at-requires c κs = search needs

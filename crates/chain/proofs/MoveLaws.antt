@@ -8,7 +8,7 @@ use lib.Dec.{eqb}
 use borrow.Author.Tests.{ne-eqb}
 use lib.ListN.{length, getD, replicate}
 use lib.Seq.{sets}
-use Rattle.rules.specs.Limits.{head-size, row-size, due-at, weight-at, slot-bytes, wide-bytes}
+use Rattle.rules.specs.Limits.{head-size, row-size, due-at, weight-at, slot-bytes, wide-bytes, most-class}
 use Rattle.rules.specs.Rows.{Row, Round, round, blank, All}
 use Rattle.rules.specs.Plan.{plan, tight-after}
 use Rattle.rules.specs.Steps.{set-to, kept-at, changed}
@@ -63,7 +63,7 @@ pub length-having : (r : Round) (xs : List Row) → length xs ≡ length (r .row
 unfolding round
 length-having r xs e h = length-table (having r xs) (omega arith)
 
--- ROWS CHANGED IN THE TABLE: a due slot and a weight; a weight; a due slot, a weight and the kind of a kept blank
+-- ROWS CHANGED IN THE TABLE: a due slot and a weight; a weight; a due slot, a weight, and a kept blank's kind and class
 module _ (r : Round) (xs : List Row) (a i : ℕ) (s : Rising a (r .next) xs) (h : i < length xs) where
   abbrev x : Row
   x = getD xs i (blank 0)
@@ -104,8 +104,8 @@ module _ (r : Round) (xs : List Row) (a i : ℕ) (s : Rising a (r .next) xs) (h 
       ∙ ap (λ (bs : List ℕ). sets bs (row-at i + weight-at) (low wide-bytes w)) same-table
 
   pub table-kept : (d w : ℕ) → table (having r (changed (x .ticket) (kept-at d w x) xs))
-      ≡ sets (table (having r xs)) (row-at i + due-at) ((low slot-bytes d ++ low wide-bytes w) ++ (1 ∷ []))
+      ≡ sets (table (having r xs)) (row-at i + due-at) ((low slot-bytes d ++ low wide-bytes w) ++ (1 ∷ most-class ∷ []))
   table-kept d w =
       with-same (kept-at d w x)
       ∙ kept-bytes a (r .next) hd zs xs i (blank 0) d w s h hd-long
-      ∙ ap (λ (bs : List ℕ). sets bs (row-at i + due-at) ((low slot-bytes d ++ low wide-bytes w) ++ (1 ∷ []))) same-table
+      ∙ ap (λ (bs : List ℕ). sets bs (row-at i + due-at) ((low slot-bytes d ++ low wide-bytes w) ++ (1 ∷ most-class ∷ []))) same-table

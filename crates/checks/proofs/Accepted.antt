@@ -19,4 +19,4 @@ mark-accepted t l s e =
 -- a ticket and a row are left
 pub take-accepted : (t l n u k : ℕ) (m : Head-tail) (f : Frame) → first-of (take-tests t l n u k m f) ≡ 0 → (n ≡ ticket-limit → ⊥) × (u < k)
 take-accepted t l n u k m f e =
-    let h = none-holds (take-tests t l n u k m f) refl e in (eqb-false n ticket-limit (h .1 .1 .1 .1 .0), leb-false k u (h .1 .1 .1 .1 .1 .0))
+    let h = none-holds (take-tests t l n u k m f) refl e in (eqb-false n ticket-limit (h .1 .1 .1 .1 .1 .0), leb-false k u (h .1 .1 .1 .1 .1 .1 .0))

@@ -5,6 +5,7 @@ ghost use lib.Dec.{ltb, leb};
 ghost use Rattle.rules.specs.Rows.{framed, until};
 ghost use Rattle.rules.specs.Calls.{first-of, open-tests, take-tests, send-tests, mark-tests};
 ghost use Rattle.sorts.specs.Tail.{tail-of};
+use sorts::Class;
 use sorts::Round;
 use sorts::Slot;
 use sorts::Weight;
@@ -18,12 +19,13 @@ pub fn opening_refusal(last: Slot) -> u32
     0
 }
 
-pub fn taking_refusal(round: Round, due: Slot, weight: Weight) -> u32
+pub fn taking_refusal(round: Round, due: Slot, weight: Weight, class: Class) -> u32
     ensures { λ r. ⌜ r ≡ first-of (take-tests (round .slot .0) (round .last .0) (round .next .0) (round .used) (round .room)
-        (tail-of round) (framed (due .0) (weight .0))) ⌝ }
+        (tail-of round) (framed (due .0) (weight .0) (class .0))) ⌝ }
 {
     let sealed = round.sealed == 1;
     let bad_weight = (weight.0 == 0) | (Round::WEIGHT.0 < weight.0);
+    let bad_class = Round::CLASS.0 < class.0;
     if is_over(round) {
         return 5;
     }
@@ -35,6 +37,9 @@ pub fn taking_refusal(round: Round, due: Slot, weight: Weight) -> u32
     }
     if not_ahead(round, due) {
         return 7;
+    }
+    if bad_class {
+        return 14;
     }
     if round.next.0 == Round::TICKETS.0 {
         return 8;

@@ -87,7 +87,12 @@ fn lightest_by(table: &[u8], round: Round, by: u32) -> u64
     while i < used {
         let due = due_at(table, round, i);
         let class = class_at(table, round, i);
-        let key = key_of(Weight(weight_at(table, round, i)), Slot(due), Class(class), i);
+        let key = key_of(
+            Weight(weight_at(table, round, i)),
+            Slot(due),
+            Class(class),
+            i,
+        );
         low = lighter(low, due, by, key);
         i += 1;
     }

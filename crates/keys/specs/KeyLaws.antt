@@ -18,7 +18,7 @@ use Rattle.round.specs.Rows.{Due-at, Weight-at, Class-at, at}
 use Rattle.keys.specs.Key.{key, rank, ranked, weight-of, lack-of, due-of, row-of, blank-key, key-at, May-lack, Lacks}
 
 -- RANKS are compared by due slot, then by class; and a key is made of one
-pub rank-less : (d c e f : ℕ) → c ≤ 3 → rank d c < rank e f → (d < e) ⊎ ((d ≡ e) × (c < f))
+pub rank-less : (d c e f : ℕ) → f ≤ 3 → rank d c < rank e f → (d < e) ⊎ ((d ≡ e) × (c < f))
 rank-less d c e f h l = elim (ltb? d e) [ inl a ↦ inl (a .1) | inr a ↦ inr (omega (arith, a .1, h, l), omega (arith, a .1, h, l)) ]
 
 pub rank-same : (d c e f : ℕ) → c ≤ 3 → f ≤ 3 → rank d c ≡ rank e f → (d ≡ e) × (c ≡ f)

@@ -12,7 +12,7 @@ use Rattle.picture.specs.Drawing.{heaviest-within, segment-at, picture-f
 
 -- a frame that waits
 abbrev pub frame : (ticket due weight : ℕ) → Row
-frame k d w = row k d w frame-tail
+frame k d w = row k d w (frame-tail 0)
 
 -- P1: a row of weight 4 due now, one of weight 10 due next: two segments, no row left out
 abbrev pub first-round : Round
@@ -65,8 +65,8 @@ second-fine =
     record {
       time = omega arith;
       fine = (
-        record { due-from = omega arith; due-by = omega arith; some = omega arith; most = omega arith },
-        (record { due-from = omega arith; due-by = omega arith; some = omega arith; most = omega arith }, (record { due-from = omega arith; due-by = omega arith; some = omega arith; most = omega arith }, tt)),
+        record { due-from = omega arith; due-by = omega arith; some = omega arith; most = omega arith; class = omega arith },
+        (record { due-from = omega arith; due-by = omega arith; some = omega arith; most = omega arith; class = omega arith }, (record { due-from = omega arith; due-by = omega arith; some = omega arith; most = omega arith; class = omega arith }, tt)),
       );
       rising = (omega arith, (omega arith, (omega arith, omega arith)));
     }

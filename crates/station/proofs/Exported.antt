@@ -11,10 +11,10 @@ use Rattle.station.specs.Exports.{Exports, Exports-look}
 pub opening-exported : (l m n : ℕ) (a : Reply) (t z : List ℕ) → m ≡ l → n ≡ pack a → Says (opening (until m)) a t z → Exports (opening (until l)) n t z
 opening-exported l m n a t z e f s = let x : Exports (opening (until m)) n t z = (f ∙ ap pack (s .0), s .1) in rw e at x
 
-pub taking-exported : (d w d′ w′ n : ℕ) (a : Reply) (t z : List ℕ) → d′ ≡ d → w′ ≡ w → n ≡ pack a →
-    Says (acting (taking (framed d′ w′))) a t z → Exports (acting (taking (framed d w))) n t z
-taking-exported d w d′ w′ n a t z e g f s =
-    let x : Exports (acting (taking (framed d′ w′))) n t z = (f ∙ ap pack (s .0), s .1) in rw (e, g) at x
+pub taking-exported : (d w c d′ w′ c′ n : ℕ) (a : Reply) (t z : List ℕ) → d′ ≡ d → w′ ≡ w → c′ ≡ c → n ≡ pack a →
+    Says (acting (taking (framed d′ w′ c′))) a t z → Exports (acting (taking (framed d w c))) n t z
+taking-exported d w c d′ w′ c′ n a t z e g h f s =
+    let x : Exports (acting (taking (framed d′ w′ c′))) n t z = (f ∙ ap pack (s .0), s .1) in rw (e, g, h) at x
 
 -- sending, sealing, and a total
 pub exported : (c : Call) (n : ℕ) (a : Reply) (t z : List ℕ) → n ≡ pack a → Says c a t z → Exports c n t z

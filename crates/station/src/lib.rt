@@ -14,6 +14,7 @@ use packing::pack_taken;
 use packing::pack_totalled;
 use sealing::seal_round;
 use sending::send_slot;
+use sorts::Class;
 use sorts::Slot;
 use sorts::Ticket;
 use sorts::Weight;
@@ -28,11 +29,19 @@ pub extern "C" fn lirvedd_open(last: u32, table: &mut [u8]) -> u64
     pack_opened(open_round(Slot(last), table))
 }
 
+// A frame of class 0.
 #[no_mangle]
 pub extern "C" fn lirvedd_take(due: u32, weight: u32, table: &mut [u8]) -> u64
-    ensures { λ r. ⌜ Exports (acting (taking (framed due weight))) r (now (table .entry)) (now (table .exit)) ⌝ }
+    ensures { λ r. ⌜ Exports (acting (taking (framed due weight 0))) r (now (table .entry)) (now (table .exit)) ⌝ }
 {
-    pack_taken(take_frame(Slot(due), Weight(weight), table))
+    pack_taken(take_frame(Slot(due), Weight(weight), Class(0), table))
+}
+
+#[no_mangle]
+pub extern "C" fn lirvedd_take_class(due: u32, weight: u32, class: u32, table: &mut [u8]) -> u64
+    ensures { λ r. ⌜ Exports (acting (taking (framed due weight class))) r (now (table .entry)) (now (table .exit)) ⌝ }
+{
+    pack_taken(take_frame(Slot(due), Weight(weight), Class(class), table))
 }
 
 #[no_mangle]

@@ -34,13 +34,13 @@ module _ (t : List ℕ) (h : Round) (sound : table-refusal t ≡ 0) (head : Head
         (omega (arith, s .long, n .1), omega (arith, s .few, n .1), omega (arith, s .most), n .1)
 
     -- ALL WRITTEN: the numbers that the writers were given are those of the head, once a frame is taken, and of the frame
-    pub taken-says : (s l n u c : ℕ) (v z : List ℕ) (a j k e m : ℕ) →
+    pub taken-says : (s l n u c : ℕ) (v z : List ℕ) (a j k e m p : ℕ) →
         (s ≡ h .slot .0) × (l ≡ h .last .0) × (n ≡ h .next .0 + 1) × (u ≡ h .used + 1) × (c ≡ h .sealed) → a ≡ row-at (h .used) →
-        (j ≡ h .next .0) × (k ≡ h .next .0) × (e ≡ f .due) × (m ≡ f .weight) → v ≡ sets t a (row-numbers k (framed e m)) →
+        (j ≡ h .next .0) × (k ≡ h .next .0) × (e ≡ f .due) × (m ≡ f .weight) × (p ≡ f .class) → v ≡ sets t a (row-numbers k (framed e m p)) →
         z ≡ head-numbers s l n u (record { sealed = c }) ++ drop head-zeros-at v → Says (acting (taking f)) (ticket j) t z
     unfolding says leaves deed act round-in round
-    taken-says s l n u c v z a j k e m o i x y q =
+    taken-says s l n u c v z a j k e m p o i x y q =
         let room = take-accepted (h .slot .0) (h .last .0) (h .next .0) (h .used) (h .room) (tail-of h) f free in
-        let b = taken-table t h f v z sound head (room .1) (y ∙ rw (i, x .1, x .2, x .3)) (q ∙ rw (o .0, o .1, o .2, o .3, o .4)) in
+        let b = taken-table t h f v z sound head (room .1) (y ∙ rw (i, x .1, x .2, x .3, x .4)) (q ∙ rw (o .0, o .1, o .2, o .3, o .4)) in
         let g = says-accepted (acting (taking f)) t z (taking-by t h sound head f ∙ free) b in
         (ap ticket (x .0 ∙ head .next) ∙ g .0, g .1)

@@ -102,7 +102,7 @@ module _ {t : List ℕ} {h : Head} {j b m : ℕ} (a : Keeps-blank t h j b m) whe
         let z = sound t (a .ready .sound) .sane in
         stood t h ys u (a .ready)
         (fit-changed r (r .rows) (at r j .ticket) (kept-at b m (at r j)) (fit-self r z) refl
-        (record { due-from = omega (arith, a .later); due-by = a .by; some = a .some; most = a .most })
+        (record { due-from = omega (arith, a .later); due-by = a .by; some = a .some; most = a .most; class = omega arith })
         kept-right)
         (d
         ∙ ap (λ (bs : List ℕ). with-kept bs j b m) (self-table t (a .ready .sound))

@@ -141,5 +141,6 @@ fit-moves r z rs c e g (h ∷ hs) xs k a b f =
       due-by = b;
       some = omega (arith, w .some);
       most = omega (arith, w .most, mark-limit r (plan r) e);
+      class = w .class;
     })
     (all-in Tail-fine h (r .rows) (z .size .tails) (of-rows-in r (z .fine) rs c h i)))

@@ -27,9 +27,9 @@ pub record Silent (t u : List ℕ) (w : Went) : Type 0 where
   pub ticket : w .ticket .0 ≡ 0
   pub kind : w .kind ≡ 0
 
--- what went out
+-- what went out, by ticket and kind; no answer tells more of a row
 unfoldable pub went-out : Went → Out
-went-out w = out-of (row (w .ticket .0) 0 0 (record { kind = w .kind }))
+went-out w = out-of (row (w .ticket .0) 0 0 (record { kind = w .kind; class = 0 }))
 
 unfoldable pub went-step : Went → Step
 went-step w = cond (w .leap) (leap (went-out w)) (ordinary (went-out w))

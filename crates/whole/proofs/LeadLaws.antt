@@ -60,7 +60,7 @@ none-heavier r f n e b m g s =
     over : (j : ℕ) → j < length (r .rows) → Behind r j b → Not-over (at r j) (at r (b .row))
     over j l (inl y) = inl (omega (arith, s .weight))
     over j l (inr (y, inl v)) =
-        elim (rank-less (at r (b .row) .due) (at r (b .row) .tail .class) (at r j .due) (at r j .tail .class) best-class (omega (arith, v, s .rank))) [
+        elim (rank-less (at r (b .row) .due) (at r (b .row) .tail .class) (at r j .due) (at r j .tail .class) (class-by j l) (omega (arith, v, s .rank))) [
           | inl z ↦ inr (omega (arith, y, s .weight), inl z)
           | inr z ↦ inr (omega (arith, y, s .weight), inr (sym (z .0), inl (z .1)))
         ]

@@ -5,7 +5,7 @@ use lib.Dec.{eqb, ltb}
 use native.Mathlib.Omega.{arith}
 use borrow.Author.Needs.{needs}
 use borrow.Author.Tests.{eq-eqb, ne-eqb}
-use Rattle.rules.specs.Limits.{most-weight, ticket-limit}
+use Rattle.rules.specs.Limits.{most-weight, most-class, ticket-limit}
 use Rattle.checks.proofs.taking_refusal.Statement.{statement}
 use Rattle.checks.proofs.taking_refusal.Tie as tie
 
@@ -19,29 +19,28 @@ is-full-requires : tie.Need-is-full-requires
 is-full-requires c κs = search needs
 
 -- what a test says that did not hold
-going-on : (c : tie.Else1) → let r = c .before .before .before .before .before .before .args .round in ltb (r .last .0) (r .slot .0) ≡ false
+going-on : (c : tie.Else1) → let r = c .before .before .before .before .before .before .before .before .args .round in ltb (r .last .0) (r .slot .0) ≡ false
 going-on c = sym (c .before .is-over .ensures) ∙ c .if1 .left
 
-unsealed : (c : tie.Else2) → eqb (c .before .before .before .before .before .before .before .args .round .sealed) 1 ≡ false
+unsealed : (c : tie.Else2) → eqb (c .before .before .before .before .before .before .before .before .before .args .round .sealed) 1 ≡ false
 unsealed c = cc (c .if2 .left)
 
-weighed : (c : tie.Else3) → let w = c .before .before .before .before .before .before .before .before .args .weight .0 in
-    (eqb w 0 || ltb most-weight w) ≡ false
+weighed : (c : tie.Else3) → let w = c .before .before .before .before .before .before .before .before .before .before .args .weight .0 in (eqb w 0 || ltb most-weight w) ≡ false
 weighed c = c .if3 .left
 
-ahead : (c : tie.Else4) → let s = c .before .before .before .before .before .before .before .before .before .before .args in
-    (ltb (s .due .0) (s .round .slot .0) || ltb (s .round .last .0) (s .due .0)) ≡ false
+ahead : (c : tie.Else4) → let s = c .before .before .before .before .before .before .before .before .before .before .before .before .args in (ltb (s .due .0) (s .round .slot .0) || ltb (s .round .last .0) (s .due .0)) ≡ false
 ahead c = sym (c .before .not-ahead .ensures) ∙ c .if4 .left
 
-unspent : (c : tie.Else5) →
-    eqb (c .before .before .before .before .before .before .before .before .before .before .before .before .before .args .round .next .0) ticket-limit ≡ false
-unspent c =
-    ne-eqb (c .before .before .before .before .before .before .before .before .before .before .before .before .before .args .round .next .0) ticket-limit (λ z. omega (arith, z))
+classed : (c : tie.Else5) → ltb most-class (c .before .before .before .before .before .before .before .before .before .before .before .before .before .args .class .0) ≡ false
+classed c = c .if5 .left
+
+unspent : (c : tie.Else6) → eqb (c .before .before .before .before .before .before .before .before .before .before .before .before .before .before .before .before .args .round .next .0) ticket-limit ≡ false
+unspent c = ne-eqb (c .before .before .before .before .before .before .before .before .before .before .before .before .before .before .before .before .args .round .next .0) ticket-limit (λ z. omega (arith, z))
 
 returns : tie.Need-returns
 returns c = rw (sym (c .before .is-over .ensures) ∙ c .if1 .taken)
 
-sealed : (c : tie.Then2) → eqb (c .before .before .before .before .before .before .before .args .round .sealed) 1 ≡ true
+sealed : (c : tie.Then2) → eqb (c .before .before .before .before .before .before .before .before .before .args .round .sealed) 1 ≡ true
 sealed c = cc (c .if2 .taken)
 
 returns-2 : tie.Need-returns-2
@@ -51,43 +50,55 @@ returns-3 : tie.Need-returns-3
 returns-3 c = rw (going-on (c .before .before), unsealed (c .before), c .if3 .taken)
 
 returns-4 : tie.Need-returns-4
-returns-4 c = rw (
-  going-on (c .before .before .before .before),
-  unsealed (c .before .before .before),
-  weighed (c .before .before),
-  sym (c .before .not-ahead .ensures) ∙ c .if4 .taken,
-)
+returns-4 c = rw (going-on (c .before .before .before .before), unsealed (c .before .before .before), weighed (c .before .before), sym (c .before .not-ahead .ensures) ∙ c .if4 .taken)
 
 returns-5 : tie.Need-returns-5
-returns-5 c = rw (
-  going-on (c .before .before .before .before .before .before .before),
-  unsealed (c .before .before .before .before .before .before),
-  weighed (c .before .before .before .before .before),
-  ahead (c .before .before .before),
-  eq-eqb (c .before .before .before .before .before .before .before .before .before .before .before .before .before .args .round .next .0) ticket-limit (omega arith),
-)
+returns-5 c = rw (going-on (c .before .before .before .before .before), unsealed (c .before .before .before .before), weighed (c .before .before .before), ahead (c .before), c .if5 .taken)
 
 returns-6 : tie.Need-returns-6
 returns-6 c = rw (
-  going-on (c .before .before .before .before .before .before .before .before .before),
-  unsealed (c .before .before .before .before .before .before .before .before),
-  weighed (c .before .before .before .before .before .before .before),
-  ahead (c .before .before .before .before .before),
-  unspent (c .before .before),
-  sym (c .before .is-full .ensures) ∙ c .if6 .taken,
+  going-on (c .before .before .before .before .before .before .before .before),
+  unsealed (c .before .before .before .before .before .before .before),
+  weighed (c .before .before .before .before .before .before),
+  ahead (c .before .before .before .before),
+  classed (c .before .before .before),
+  eq-eqb (c .before .before .before .before .before .before .before .before .before .before .before .before .before .before .before .before .args .round .next .0) ticket-limit (omega arith),
 )
 
 returns-7 : tie.Need-returns-7
 returns-7 c = rw (
-  going-on (c .before .before .before .before .before .before .before .before .before),
-  unsealed (c .before .before .before .before .before .before .before .before),
-  weighed (c .before .before .before .before .before .before .before),
-  ahead (c .before .before .before .before .before),
+  going-on (c .before .before .before .before .before .before .before .before .before .before),
+  unsealed (c .before .before .before .before .before .before .before .before .before),
+  weighed (c .before .before .before .before .before .before .before .before),
+  ahead (c .before .before .before .before .before .before),
+  classed (c .before .before .before .before .before),
   unspent (c .before .before),
-  sym (c .before .is-full .ensures) ∙ c .if6 .left,
+  sym (c .before .is-full .ensures) ∙ c .if7 .taken,
+)
+
+returns-8 : tie.Need-returns-8
+returns-8 c = rw (
+  going-on (c .before .before .before .before .before .before .before .before .before .before),
+  unsealed (c .before .before .before .before .before .before .before .before .before),
+  weighed (c .before .before .before .before .before .before .before .before),
+  ahead (c .before .before .before .before .before .before),
+  classed (c .before .before .before .before .before),
+  unspent (c .before .before),
+  sym (c .before .is-full .ensures) ∙ c .if7 .left,
 )
 
 pub taking-refusal-spec : {M : Type 1} → statement M
 taking-refusal-spec =
     tie.close
-    (tie.spec is-over-requires returns returns-2 returns-3 not-ahead-requires returns-4 returns-5 is-full-requires returns-6 returns-7)
+    (tie.spec
+    is-over-requires
+    returns
+    returns-2
+    returns-3
+    not-ahead-requires
+    returns-4
+    returns-5
+    returns-6
+    is-full-requires
+    returns-7
+    returns-8)

@@ -1,43 +1,18 @@
--- `keys::key_of` meets its contract: the key, by its definition.
+-- `keys::key_of` meets its contract: the key by the rank.
 use borrow.Author.Needs.{needs}
-use Rattle.keys.specs.Key.{key}
+use Rattle.keys.specs.Key.{key, ranked}
 use Rattle.keys.proofs.key_of.Statement.{statement}
 use Rattle.keys.proofs.key_of.Tie as tie
 
-cast-result : tie.Need-cast-result
-cast-result c = search needs
+rank-of-requires : tie.Need-rank-of-requires
+rank-of-requires c κs = search needs
 
-mul-result : tie.Need-mul-result
-mul-result c = search needs
-
-sub-result : tie.Need-sub-result
-sub-result c = search needs
-
-cast-result-2 : tie.Need-cast-result-2
-cast-result-2 c = search needs
-
-mul-result-2 : tie.Need-mul-result-2
-mul-result-2 c = search needs
-
-add-result : tie.Need-add-result
-add-result c = search needs
-
-add-result-2 : tie.Need-add-result-2
-add-result-2 c = search needs
+key-by-requires : tie.Need-key-by-requires
+key-by-requires c κs = search needs
 
 returns : tie.Need-returns
-unfolding key
+unfolding key ranked
 returns c = search needs
 
 pub key-of-spec : {M : Type 1} → statement M
-key-of-spec =
-    tie.close
-    (tie.spec
-    cast-result
-    mul-result
-    sub-result
-    cast-result-2
-    mul-result-2
-    add-result
-    add-result-2
-    returns)
+key-of-spec = tie.close (tie.spec rank-of-requires key-by-requires returns)

@@ -16,7 +16,7 @@ same-length c = search needs
 
 returns : tie.Need-returns
 returns c =
-    taking-exported _ _ _ _ _ _ _ _ (omega arith) (omega arith) (c .pack-taken .ensures) (c .before .before .before .take-frame .ensures)
+    taking-exported _ _ _ _ _ _ _ _ _ _ (omega arith) (omega arith) (omega arith) (c .pack-taken .ensures) (c .before .before .before .take-frame .ensures)
 
 pub lirvedd-take-spec : {M : Type 1} → statement M
 lirvedd-take-spec =

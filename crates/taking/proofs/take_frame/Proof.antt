@@ -28,9 +28,9 @@ returns : tie.Need-returns
 returns c =
     let s = c .before .before .before .before .before .before in
     let h = subst (Judge-says (s .args .table .now)) (c .before .n .given .1) (c .before .before .before .judge .ensures) in
-    says-refused (acting (taking (framed (s .args .due .0) (s .args .weight .0)))) (s .args .table .now) _
-    (by-table (acting (taking (framed (s .args .due .0) (s .args .weight .0)))) (s .args .table .now) _
-    (act-judges (taking (framed (s .args .due .0) (s .args .weight .0)))) (h .0) (h .1)) (h .1)
+    says-refused (acting (taking (framed (s .args .due .0) (s .args .weight .0) (s .args .class .0)))) (s .args .table .now) _
+    (by-table (acting (taking (framed (s .args .due .0) (s .args .weight .0) (s .args .class .0)))) (s .args .table .now) _
+    (act-judges (taking (framed (s .args .due .0) (s .args .weight .0) (s .args .class .0)))) (h .0) (h .1)) (h .1)
 
 same-length-2 : tie.Need-same-length-2
 same-length-2 c = search needs

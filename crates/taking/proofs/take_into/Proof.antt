@@ -13,7 +13,7 @@ use Rattle.taking.proofs.take_into.Statement.{statement}
 use Rattle.taking.proofs.take_into.Tie as tie
 
 -- no refusal where the number is not above 0
-free : (c : tie.Else1) → let s = c .before .before .before in taking-number (s .args .round) (framed (s .args .due .0) (s .args .weight .0)) ≡ 0
+free : (c : tie.Else1) → let s = c .before .before .before in taking-number (s .args .round) (framed (s .args .due .0) (s .args .weight .0) (s .args .class .0)) ≡ 0
 free c = omega (arith, c .before .taking-refusal .ensures)
 
 taking-refusal-requires : tie.Need-taking-refusal-requires
@@ -22,10 +22,10 @@ taking-refusal-requires c κs = search needs
 returns : tie.Need-returns
 returns c =
     let s = c .before .before .before in
-    says-refused (acting (taking (framed (s .args .due .0) (s .args .weight .0)))) (s .args .table .now) _
+    says-refused (acting (taking (framed (s .args .due .0) (s .args .weight .0) (s .args .class .0)))) (s .args .table .now) _
     (omega (
       arith,
-      taking-by (s .args .table .now) (s .args .round) (s .pre .0) (s .pre .1) (framed (s .args .due .0) (s .args .weight .0)),
+      taking-by (s .args .table .now) (s .args .round) (s .pre .0) (s .pre .1) (framed (s .args .due .0) (s .args .weight .0) (s .args .class .0)),
       c .before .taking-refusal .ensures,
     ))
     (λ z. omega (arith, z))
@@ -33,26 +33,26 @@ returns c =
 row-at-requires : tie.Need-row-at-requires
 row-at-requires c κs =
     let s = c .before .before .before .before in
-    omega (arith, used-room (s .args .table .now) (s .args .round) (s .pre .0) (s .pre .1) (framed (s .args .due .0) (s .args .weight .0)))
+    omega (arith, used-room (s .args .table .now) (s .args .round) (s .pre .0) (s .pre .1) (framed (s .args .due .0) (s .args .weight .0) (s .args .class .0)))
 
 write-row-requires : tie.Need-write-row-requires
 write-row-requires c κs =
     let s = c .before .before .before .before .before .before in
-    let f = row-free (s .args .table .now) (s .args .round) (s .pre .0) (s .pre .1) (framed (s .args .due .0) (s .args .weight .0))
+    let f = row-free (s .args .table .now) (s .args .round) (s .pre .0) (s .pre .1) (framed (s .args .due .0) (s .args .weight .0) (s .args .class .0))
     (free (c .before .before .before)) in
     omega (arith, f .0, c .before .row-at .ensures)
 
 one-more-requires : tie.Need-one-more-requires
 one-more-requires c κs =
     let s = c .before .before .before .before .before .before .before .before .before in
-    let f = row-free (s .args .table .now) (s .args .round) (s .pre .0) (s .pre .1) (framed (s .args .due .0) (s .args .weight .0))
+    let f = row-free (s .args .table .now) (s .args .round) (s .pre .0) (s .pre .1) (framed (s .args .due .0) (s .args .weight .0) (s .args .class .0))
     (free (c .before .before .before .before .before .before)) in
     (f .2, f .3)
 
 write-head-requires : tie.Need-write-head-requires
 write-head-requires c κs =
     let s = c .before .before .before .before .before .before .before .before .before .before .before in
-    let f = row-free (s .args .table .now) (s .args .round) (s .pre .0) (s .pre .1) (framed (s .args .due .0) (s .args .weight .0))
+    let f = row-free (s .args .table .now) (s .args .round) (s .pre .0) (s .pre .1) (framed (s .args .due .0) (s .args .weight .0) (s .args .class .0))
     (free (c .before .before .before .before .before .before .before .before)) in
     let l : length (c .before .before .before .before .write-row .last .0) ≡ length (s .args .table .now) = ap length
     (c .before .before .before .before .write-row .ensures) ∙ simp length-sets in
@@ -65,13 +65,13 @@ returns-2 : tie.Need-returns-2
 returns-2 c =
     let s = c .before .before .before .before .before .before .before .before .before .before .before .before .before .before in
     let o = c .before .before .before .before .one-more .ensures in
-    taken-says (s .args .table .now) (s .args .round) (s .pre .0) (s .pre .1) (framed (s .args .due .0) (s .args .weight .0))
+    taken-says (s .args .table .now) (s .args .round) (s .pre .0) (s .pre .1) (framed (s .args .due .0) (s .args .weight .0) (s .args .class .0))
     (free (c .before .before .before .before .before .before .before .before .before .before .before))
     _ _ _ _ _ (c .before .before .before .before .before .before .before .write-row .last .0) (c .before .before .write-head .last .0)
-    (c .before .before .before .before .before .before .before .before .before .row-at .result) _ _ _ _
+    (c .before .before .before .before .before .before .before .before .before .row-at .result) _ _ _ _ _
     (o .0, o .1, o .2, o .3, o .5)
     (c .before .before .before .before .before .before .before .before .before .row-at .ensures)
-    (omega arith, omega arith, omega arith, omega arith)
+    (omega arith, omega arith, omega arith, omega arith, omega arith)
     (c .before .before .before .before .before .before .before .write-row .ensures) (c .before .before .write-head .ensures)
 
 pub take-into-spec : {M : Type 1} → statement M

@@ -33,10 +33,11 @@ extern "C" {
 #define LIRVEDD_MOST_ROWS 1024u
 #define LIRVEDD_TABLE_SIZE(rows) (LIRVEDD_HEAD_SIZE + LIRVEDD_ROW_SIZE * (size_t)(rows))
 
-/* The last slot of a round is at most LIRVEDD_MOST_LAST, a weight is 1 to LIRVEDD_MOST_WEIGHT, and every ticket is
- * below LIRVEDD_TICKET_LIMIT. */
+/* The last slot of a round is at most LIRVEDD_MOST_LAST, a weight is 1 to LIRVEDD_MOST_WEIGHT, a class is 0 to LIRVEDD_MOST_CLASS, and
+ * every ticket is below LIRVEDD_TICKET_LIMIT. */
 #define LIRVEDD_MOST_LAST 4095u
 #define LIRVEDD_MOST_WEIGHT 16777216u
+#define LIRVEDD_MOST_CLASS 3u
 #define LIRVEDD_TICKET_LIMIT 16777216u
 #define LIRVEDD_MOST_TOTAL ((uint64_t)LIRVEDD_MOST_ROWS * LIRVEDD_MOST_WEIGHT)
 
@@ -53,7 +54,8 @@ enum lirvedd_refusal_number {
     LIRVEDD_TABLE_FULL = 9,     /* every row is in use */
     LIRVEDD_NO_SUCH_TICKET = 10, /* the ticket is in no row */
     LIRVEDD_NOT_IN_PLAN = 11,    /* the ticket's row is not in the plan */
-    LIRVEDD_SEALED = 13          /* the round is sealed: no frame is taken */
+    LIRVEDD_SEALED = 13,         /* the round is sealed: no frame is taken */
+    LIRVEDD_BAD_CLASS = 14       /* the class is above 3 */
 };
 
 /* What went out in a slot. */
@@ -64,7 +66,7 @@ enum lirvedd_what {
 };
 
 /* Every call below: what it does, its arguments, its reply, and the refusals in the order in which they are checked. A number that
- * fits no slot, weight or ticket is refused, never cut down. A refused call leaves every byte of the table as it was. */
+ * fits no slot, weight, class or ticket is refused, never cut down. A refused call leaves every byte of the table as it was. */
 
 /* Opens a round of the slots 0 to `last`, whatever the table held before: current slot 0, next ticket 1, no row in use, every
  * other byte 0, so that the round is not sealed. What the table held is not read.
@@ -75,7 +77,7 @@ enum lirvedd_what {
  */
 uint64_t lirvedd_open(uint32_t last, uint8_t *table, size_t length);
 
-/* Takes a frame. It fills the first unused row; the next ticket and the rows in use rise by 1, and nothing else changes. The
+/* Takes a frame of class 0. It fills the first unused row; the next ticket and the rows in use rise by 1, and nothing else changes. The
  * frame's payload stays with the caller, who finds it again by the ticket.
  *
  *   due      the last slot in which the frame may go out, from the current slot to the last
@@ -85,12 +87,24 @@ uint64_t lirvedd_open(uint32_t last, uint8_t *table, size_t length);
  */
 uint64_t lirvedd_take(uint32_t due, uint32_t weight, uint8_t *table, size_t length);
 
+/* Takes a frame of a class, otherwise as lirvedd_take. Of two frames of the same weight and the same due slot the one of the smaller class
+ * counts as heavier, and of the same class the one of the smaller ticket; a kept blank has class 3. The plan's total and the marks do not
+ * depend on classes.
+ *
+ *   due      as for lirvedd_take
+ *   weight   as for lirvedd_take
+ *   of_class 0 (a price) to LIRVEDD_MOST_CLASS (a picture)
+ *   reply    the frame's ticket, as of lirvedd_take
+ *   refused  2, 3, 5, 13, 6, 7, 14, 8, 9
+ */
+uint64_t lirvedd_take_class(uint32_t due, uint32_t weight, uint32_t of_class, uint8_t *table, size_t length);
+
 /* Sends the current slot, once a slot: what goes out leaves the table, rows due in this slot leave unsent, and the current slot rises
  * by 1. A leap may also lower due slots and raise weights of other rows, and may keep a blank in the row of what went out: its
  * ticket may then come again, as LIRVEDD_KEPT_BLANK.
  *
- * In a sealed round no step is a leap: the plan goes out as it stands, the earliest due first, among these the heaviest, and no other
- * row changes. A slot that no row of the plan needs is silent, though rows may wait.
+ * In a sealed round no step is a leap: the plan goes out as it stands, the earliest due first, among these the heaviest, among equals the
+ * smaller class, and no other row changes. A slot that no row of the plan needs is silent, though rows may wait.
  *
  *   reply    what went out (lirvedd_out), its ticket (lirvedd_ticket; 0 for silence), and whether by a leap (lirvedd_is_leap)
  *   refused  2, 3, 5
@@ -137,8 +151,8 @@ static inline uint32_t lirvedd_refusal(uint64_t reply)
     return (uint32_t)(reply & 0xFFu);
 }
 
-/* Of an accepted reply of lirvedd_take, lirvedd_send or lirvedd_substitute: the ticket, 1 to LIRVEDD_TICKET_LIMIT - 1; 0 for
- * silence and for a blank. This and all below give 0 of a refusal. */
+/* Of an accepted reply of lirvedd_take, lirvedd_take_class, lirvedd_send or lirvedd_substitute: the ticket, 1 to
+ * LIRVEDD_TICKET_LIMIT - 1; 0 for silence and for a blank. This and all below give 0 of a refusal. */
 static inline uint32_t lirvedd_ticket(uint64_t reply)
 {
     return (uint32_t)((reply >> 8) & 0xFFFFFFu);
@@ -171,7 +185,7 @@ static inline uint32_t lirvedd_blank_due(uint64_t reply)
 LIRVEDD_STATIC_ASSERT(sizeof(size_t) == 8, "the archive is for x86-64: a length has 64 bits");
 LIRVEDD_STATIC_ASSERT(LIRVEDD_TABLE_SIZE(1) == 40, "the least table has 40 bytes");
 LIRVEDD_STATIC_ASSERT(LIRVEDD_TABLE_SIZE(LIRVEDD_MOST_ROWS) == 24592, "the largest table has 24,592 bytes");
-LIRVEDD_STATIC_ASSERT(LIRVEDD_SEALED <= 0xFFu, "a refusal has 8 bits in a reply");
+LIRVEDD_STATIC_ASSERT(LIRVEDD_BAD_CLASS <= 0xFFu, "a refusal has 8 bits in a reply");
 LIRVEDD_STATIC_ASSERT(LIRVEDD_TICKET_LIMIT - 1 <= 0xFFFFFFu, "a ticket has 24 bits in a reply");
 LIRVEDD_STATIC_ASSERT(LIRVEDD_MOST_LAST <= 0xFFFFu, "a blank's due slot has 16 bits in a reply");
 LIRVEDD_STATIC_ASSERT(LIRVEDD_KEPT_BLANK <= 3, "what went out has 2 bits in a reply");

@@ -15,6 +15,10 @@ def take(due, weight):
     return f"01{due:04X}{weight:08X}"
 
 
+def take_of_class(due, weight, of_class):
+    return f"04{due:04X}{weight:08X}{of_class:02X}"
+
+
 def ticket(number):
     return f"01{number:08X}"
 
@@ -28,10 +32,11 @@ def text(lines):
 
 
 def full_table():
-    """One frame more than rows, all due in slot 0; then refusals 6 and 7, which come before 9; then a sending."""
-    lines = ["000FFF"] + [take(0, 1)] * (ROWS + 1) + [take(0, 0), take(SLOTS, 1), "02", take(1, 1), "02"]
+    """One frame more than rows, all due in slot 0; then refusals 6, 7 and 14, which come before 9; then a sending."""
+    lines = ["000FFF"] + [take(0, 1)] * (ROWS + 1)
+    lines += [take_of_class(0, 1, 3), take(0, 0), take(SLOTS, 1), take_of_class(0, 1, 4), "02", take(1, 1), "02"]
     tickets = [ticket(number) for number in range(1, ROWS + 1)]
-    replies = ["00"] + tickets + ["FF09", "FF06", "FF07", frame(1), ticket(ROWS + 1), frame(ROWS + 1)]
+    replies = ["00"] + tickets + ["FF09", "FF09", "FF06", "FF07", "FF0E", frame(1), ticket(ROWS + 1), frame(ROWS + 1)]
     return text(lines), text(replies)
 
 

@@ -1,6 +1,6 @@
 #!/usr/bin/env bash
-# Shows that a slot, a weight and a ticket cannot stand in one another's place. The table below has each public function and constructor
-# of the library that takes one. For each place of each, and each of the two wrong sorts, a number of that sort and the limit of that
+# Shows that a slot, a weight, a class and a ticket cannot stand in one another's place. The table below has each public function and constructor
+# of the library that takes one. For each place of each, and each of the three wrong sorts, a number of that sort and the limit of that
 # sort are passed there, and the compiler has to say 'mismatched-types' with the sort expected and the sort found; the same calls with
 # nothing mixed must compile. What the sources have and the table has not fails too. The crates stand outside the tree, over the
 # libraries of the last `rt ci`. Last line: 'N passed, M failed'.
@@ -18,7 +18,7 @@ signatures() {
 sorts::Round { slot: <Slot>, last: <Slot>, next: <Ticket>, used: 0, room: 1, sealed: 0 }
 sorts::Round::new(<Slot>, 1)
 checks::opening_refusal(<Slot>)
-checks::taking_refusal(round, <Slot>, <Weight>)
+checks::taking_refusal(round, <Slot>, <Weight>, <Class>)
 checks::marking_refusal(round, <Slot>)
 replies::Taken::As(<Ticket>)
 replies::Out::Frame(<Ticket>)
@@ -30,13 +30,15 @@ row::seen::Seen { ticket: <Ticket>, ahead: 0, weights: 0, plain: 0 }
 row::seen::see_row(bytes, <Slot>, row::seen::Seen { ticket: Ticket(0), ahead: 0, weights: 0, plain: 0 })
 row::seen::row_follows(<Ticket>, row::seen::Seen { ticket: Ticket(0), ahead: 0, weights: 0, plain: 0 }, 0)
 row::seen::rows_pass(row::seen::Seen { ticket: Ticket(0), ahead: 0, weights: 0, plain: 0 }, <Ticket>)
-row::write::write_row(table, 16, <Ticket>, <Slot>, <Weight>)
+row::write::write_row(table, 16, <Ticket>, <Slot>, <Weight>, <Class>)
 row::entry::Numbers { ticket: <Ticket>, due: <Slot>, weight: <Weight> }
 row::write::write_shift(table, 0, <Slot>, <Weight>)
 row::write::write_weight(table, 0, <Weight>)
 row::write::write_kept(table, 0, <Slot>, <Weight>)
-keys::key_of(<Weight>, <Slot>, 0)
-keys::canonical::order_key_of(<Slot>, <Weight>, 0)
+keys::rank_of(<Slot>, <Class>)
+keys::key_by(<Weight>, 0, 0)
+keys::key_of(<Weight>, <Slot>, <Class>, 0)
+keys::canonical::order_key_of(<Slot>, <Weight>, <Class>, 0)
 leaving::leave_out(keys, table, tops, <Slot>, buckets::Reach { free: 0, over: 0 })
 lead::score_of(<Weight>, <Weight>)
 lead::close_segment(ends, tops, lows, lead::Lead { count: 0, score: 0, key: 0, segment: 0, other: 0 }, <Slot>, 0, 0, 0)
@@ -52,12 +54,13 @@ every::mark_every(bytes, counts, round, buckets::Reach { free: 0, over: 0 }, <Sl
 marks::mark::mark_near(keys, bytes, 0, <Slot>, <Slot>)
 marks::substitute::substitute_near(keys, bytes, 0, <Slot>, <Slot>)
 opening::open_round(<Slot>, table)
-taking::take_frame(<Slot>, <Weight>, table)
+taking::take_frame(<Slot>, <Weight>, <Class>, table)
 marking::mark_of(<Slot>, bytes)
 substituting::substitute_of(<Ticket>, bytes)
 listing::Entry { ticket: <Ticket>, due: <Slot>, weight: <Weight> }
 lines::Command::Open(<Slot>)
 lines::Command::Take(<Slot>, <Weight>)
+lines::Command::Classed(<Slot>, <Weight>, <Class>)
 replying::write_ticket_in_room(<Ticket>, table)
 replying::write_step_in_room(0, 0, <Ticket>, table)
 EOF
@@ -74,14 +77,15 @@ borrow_crates() {
         cp "$top/crates.txt" "$room/crates.txt"
 }
 
-# The crates, a call to a line: mixing_nothing with all calls right, and for line K of the table mixing_K with its wrong ones, few enough
-# for the compiler to report each. Of each wrong one a case: crate, line, the call's name, the place, the sort wanted there, the one given.
+# The crates, a call to a line: mixing_nothing with all calls right, and for line K of the table mixing_K_0 with its wrong numbers and
+# mixing_K_1 with its wrong limits, few enough for the compiler to report each. Of each wrong one a case: crate, line, the call's name, the
+# place, the sort wanted there, the one given.
 write_crates() {
     signatures | awk -v crates="$room/crates" -v listed="$room/crates.txt" -v all="$(signatures | grep -oE '(^|[ (])[a-z]+::' | tr -d ' (:' | sort -u | tr '\n' ' ')" '
         function begin(crate, uses) {
             system("mkdir -p " crates "/" crate "/src")
             print crate ": " uses >>listed
-            write_in(crate, "use sorts::{Round, Slot, Ticket, Weight};")
+            write_in(crate, "use sorts::{Class, Round, Slot, Ticket, Weight};")
         }
         function write_in(crate, text) {
             lines[crate]++
@@ -106,20 +110,20 @@ write_crates() {
             return text
         }
         BEGIN {
-            split("Slot Weight Ticket", sorts, " ")
-            limit["Slot"] = "Round::LAST"; limit["Weight"] = "Round::WEIGHT"; limit["Ticket"] = "Round::TICKETS"
+            split("Slot Weight Ticket Class", sorts, " ")
+            limit["Slot"] = "Round::LAST"; limit["Weight"] = "Round::WEIGHT"; limit["Ticket"] = "Round::TICKETS"; limit["Class"] = "Round::CLASS"
             begin("mixing_nothing", all)
         }
         {
-            crate = "mixing_" NR
-            begin(crate, crates_of($0))
             n = split($0, part, /[<>]/)
             name = part[1]
             sub(/[ (].*/, "", name)
             for (as_limit = 0; as_limit <= 1; as_limit++) {
+                crate = "mixing_" NR "_" as_limit
+                begin(crate, crates_of($0))
                 function_of("mixing_nothing", filled(0, "", as_limit))
                 for (place = 2; place < n; place += 2)
-                    for (s = 1; s <= 3; s++)
+                    for (s = 1; s <= 4; s++)
                         if (sorts[s] != part[place]) {
                             function_of(crate, filled(place, sorts[s], as_limit))
                             print crate, lines[crate], name, place / 2, part[place], sorts[s], value(sorts[s], as_limit)
@@ -140,7 +144,7 @@ takers() {
             is_private "crates/$crate/src/lib.rt" "$(basename "$file" .rt)" && continue
             awk -v crate="$crate" '
                 function tell(name, text,    found) {
-                    while (match(text, /[^A-Za-z0-9_](Slot|Weight|Ticket)[^A-Za-z0-9_]/)) {
+                    while (match(text, /[^A-Za-z0-9_](Slot|Weight|Ticket|Class)[^A-Za-z0-9_]/)) {
                         found = found " " substr(text, RSTART + 1, RLENGTH - 2)
                         text = substr(text, RSTART + RLENGTH - 1)
                     }
@@ -192,9 +196,9 @@ fi
 borrow_crates || { echo 'mixing: no libraries under target/: run rt check first'; echo "$passed passed, $((failed + 1)) failed"; exit 1; }
 write_crates
 if (cd "$room" && rt mir mixing_nothing) >"$room/mir" 2>"$room/said" && [ -s "$room/mir" ]; then
-    ok 'each of the three in its own place is taken'
+    ok 'each of the four in its own place is taken'
 else
-    no 'each of the three in its own place is taken'
+    no 'each of the four in its own place is taken'
     tail -n 20 "$room/said"
 fi
 # shellcheck disable=SC2046

@@ -13,9 +13,9 @@ SOURCE = "docs/REPLIES.md"
 # The columns that are not lirvedd_COLUMN for C, and the function of each in Rattle.
 IN_RATTLE = {"list": "list", "read": "read_command", "write": "write_line"}
 # Where the rules have a call's conditions: the case of a call, or the definition; and where they have its tests, less 2 and 3.
-CONDITIONS = {"open": "opening", "take": "taking", "send": "sending", "seal": "sealing", "total": "totalling", "mark": "marking",
+CONDITIONS = {"open": "opening", "take_class": "taking", "send": "sending", "seal": "sealing", "total": "totalling", "mark": "marking",
               "substitute": "substitute-given", "list": "list-given", "read": "read-given"}
-TESTS = {call: f"{call}-tests" for call in ("open", "take", "send", "seal", "total", "mark")}
+TESTS = {"take_class": "take-tests"} | {call: f"{call}-tests" for call in ("open", "send", "seal", "total", "mark")}
 
 
 def rows(page, column):
@@ -148,21 +148,25 @@ def report():
 
 # In a copy of the tree's texts each of these makes one thing wrong: a place, a text in it, and the text instead.
 FAULTS = [
-    (SOURCE, "| 6 | `LIRVEDD_BAD_WEIGHT`", "| 14 | `LIRVEDD_BAD_WEIGHT`"),
+    (SOURCE, "| 6 | `LIRVEDD_BAD_WEIGHT`", "| 21 | `LIRVEDD_BAD_WEIGHT`"),
     (SOURCE, "4,095 | 2nd |", "4,095 | 3rd |"),
     ("include/lirvedd.h", "LIRVEDD_BAD_WEIGHT = 6", "LIRVEDD_BAD_WEIGHT = 7"),
     ("include/lirvedd.h", "LIRVEDD_TABLE_FULL = 9", "LIRVEDD_FULL = 9"),
     ("include/lirvedd.h", "refused  2, 3, 5, 13, 6, 7, 8, 9", "refused  2, 3, 5, 6, 13, 7, 8, 9"),
     ("include/lirvedd.h", "LIRVEDD_SEALED = 13", "LIRVEDD_SEALED = 12"),
+    ("include/lirvedd.h", "LIRVEDD_BAD_CLASS = 14", "LIRVEDD_BAD_CLASS = 15"),
+    ("include/lirvedd.h", "refused  2, 3, 5, 13, 6, 7, 14, 8, 9", "refused  2, 3, 5, 13, 6, 7, 8, 14, 9"),
     ("include/lirvedd.h", "refused  2, 3, 5, 10, 11", "refused  2, 3, 5, 10"),
     ("include/lirvedd.h", "1 and 12 are for callers", "1 and 11 are for callers"),
     ("docs/FIRMWARE.md", "| 8 | `LIRVEDD_NO_TICKET_LEFT`", "| 9 | `LIRVEDD_NO_TICKET_LEFT`"),
     ("docs/FIRMWARE.md", "`LIRVEDD_BAD_SLOT`", "`LIRVEDD_BAD_WEIGHT`"),
     ("docs/FIRMWARE.md", "| 13 | `LIRVEDD_SEALED`", "| 12 | `LIRVEDD_SEALED`"),
+    ("docs/FIRMWARE.md", "| 14 | `LIRVEDD_BAD_CLASS`", "| 14 | `LIRVEDD_CLASS`"),
     ("docs/LINES.md", "| 2, 3, 5, 12 |", "| 2, 3, 12, 5 |"),
     ("docs/LINES.md", "| 1, 12 |", "| 1 |"),
-    ("tests/rust/src/refusal.rs", "Over = 5", "Over = 14"),
+    ("tests/rust/src/refusal.rs", "Over = 5", "Over = 21"),
     ("tests/rust/src/refusal.rs", "    /// Every row is in use.\n    Full = 9,\n", ""),
+    ("tests/rust/src/refusal.rs", "    /// The class is above 3.\n    Class = 14,\n", ""),
     ("tests/rust/src/refusal.rs", "The ticket is in no row.", "The ticket's row is not in the plan."),
     ("crates/rules/specs/Conditions.antt", "gives 4", "gives 5"),
     ("crates/rules/specs/Conditions.antt", "(Unsound t gives 3) ∷ cs", "cs"),

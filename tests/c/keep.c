@@ -80,7 +80,7 @@ int main(void)
 
         memcpy(before, table, LENGTH);
         if (write % 2 != 0)
-            lirvedd_take(9, write * 100, table, LENGTH);
+            lirvedd_take_class(9, write * 100, write % 4, table, LENGTH);
         else
             lirvedd_send(table, LENGTH);
         note(memcmp(before, table, LENGTH) != 0, "the call was accepted");

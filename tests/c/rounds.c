@@ -1,4 +1,4 @@
-/* Rounds by hand through the archive: document 01's P1 to P10, further ones and sealed ones, call by call. After each call the reply, the rows left,
+/* Rounds by hand through the archive: document 01's P1 to P10, further ones, sealed ones and ones with classes, call by call. After each call the reply, the rows left,
  * the marks of the slots ahead and the substitutes of all tickets are compared with what is written here; nothing here is computed by the library.
  */
 #include "lirvedd.h"
@@ -7,7 +7,7 @@
 #include <stdio.h>
 #include <string.h>
 
-enum { TAKE, SEND, TOTAL, SEAL, OPEN, MOST_TURNS = 16, MOST_HAND_ROWS = 8, MOST_MARKS = 5 };
+enum { TAKE, SEND, TOTAL, SEAL, OPEN, TAKE_CLASS = 16, MOST_TURNS = 16, MOST_HAND_ROWS = 8, MOST_MARKS = 5 };
 
 /* Replies, packed by docs/REPLIES.md. */
 #define TICKET(k) ((uint64_t)(k) << 8)
@@ -19,6 +19,10 @@ enum { TAKE, SEND, TOTAL, SEAL, OPEN, MOST_TURNS = 16, MOST_HAND_ROWS = 8, MOST_
 #define KEPT_BLANK 2ull
 #define SENT(step, what, ticket) (TICKET(ticket) | (what) << 32 | (step) << 34)
 #define BLANK(due) ((uint64_t)(due) << 32)
+
+/* The call that takes a frame of a class; and a row's kind that says so, where 0 is a frame of class 0 and 1 a kept blank. */
+#define TAKE_OF(c) (TAKE_CLASS + (c))
+#define OF_CLASS(c) ((uint32_t)(c) << 8)
 
 struct row {
     uint32_t ticket, due, weight, kind;
@@ -272,6 +276,57 @@ static const struct hand hands[] = {
         {SEAL, 0, 0, 0, 3, {{1, 0, 4, 0}, {2, 1, 5, 0}, {3, 1, 6, 0}}, 2, {5, 5}, 3, {{1, 11}, {2, TICKET(2)}, {3, TICKET(2)}}},
         {SEND, 0, 0, SENT(ORDINARY, FRAME, 3), 1, {{2, 1, 5, 0}}, 1, {5}, 1, {{2, TICKET(2)}}},
         {SEND, 0, 0, SENT(ORDINARY, FRAME, 2), 0, {{0}}, 0, {0}, 0, {{0}}}}},
+    /* of equals the smaller class is planned; without a class it is 0 */
+    {0, 5, {
+        {TAKE_OF(2), 0, 5, TICKET(1), 1, {{1, 0, 5, OF_CLASS(2)}}, 1, {5}, 1, {{1, TICKET(1)}}},
+        {TAKE_OF(1), 0, 5, TICKET(2), 2, {{1, 0, 5, OF_CLASS(2)}, {2, 0, 5, OF_CLASS(1)}}, 1, {5}, 2, {{1, 11}, {2, TICKET(2)}}},
+        {TAKE, 0, 5, TICKET(3), 3, {{1, 0, 5, OF_CLASS(2)}, {2, 0, 5, OF_CLASS(1)}, {3, 0, 5, 0}}, 1, {5}, 3, {{1, 11}, {2, 11}, {3, TICKET(3)}}},
+        {TAKE_OF(3), 0, 5, TICKET(4), 4, {{1, 0, 5, OF_CLASS(2)}, {2, 0, 5, OF_CLASS(1)}, {3, 0, 5, 0}, {4, 0, 5, OF_CLASS(3)}}, 1, {5}, 4, {{1, 11}, {2, 11}, {3, TICKET(3)}, {4, 11}}},
+        {SEND, 0, 0, SENT(ORDINARY, FRAME, 3), 0, {{0}}, 0, {0}, 0, {{0}}}}},
+    /* the lightest of equals is the one of the larger class, whatever its ticket */
+    {3, 5, {
+        {TAKE, 3, 9, TICKET(1), 1, {{1, 3, 9, 0}}, 4, {0, 0, 0, 0}, 1, {{1, BLANK(3)}}},
+        {TAKE_OF(3), 3, 9, TICKET(2), 2, {{1, 3, 9, 0}, {2, 3, 9, OF_CLASS(3)}}, 4, {0, 0, 0, 0}, 2, {{1, BLANK(2)}, {2, BLANK(2)}}},
+        {TAKE_OF(1), 3, 9, TICKET(3), 3, {{1, 3, 9, 0}, {2, 3, 9, OF_CLASS(3)}, {3, 3, 9, OF_CLASS(1)}}, 4, {0, 0, 0, 0}, 3, {{1, BLANK(1)}, {2, BLANK(1)}, {3, BLANK(1)}}},
+        {TAKE_OF(3), 2, 9, TICKET(4), 4, {{1, 3, 9, 0}, {2, 3, 9, OF_CLASS(3)}, {3, 3, 9, OF_CLASS(1)}, {4, 2, 9, OF_CLASS(3)}}, 4, {9, 9, 9, 9}, 4, {{1, TICKET(2)}, {2, TICKET(2)}, {3, TICKET(2)}, {4, TICKET(2)}}},
+        {SEND, 0, 0, SENT(ORDINARY, FRAME, 4), 3, {{1, 3, 9, 0}, {2, 3, 9, OF_CLASS(3)}, {3, 3, 9, OF_CLASS(1)}}, 3, {9, 9, 9}, 3, {{1, TICKET(2)}, {2, TICKET(2)}, {3, TICKET(2)}}}}},
+    /* of two equals the smaller class is shifted, the larger one of three is the substitute; they keep their classes */
+    {3, 6, {
+        {TAKE, 0, 6, TICKET(1), 1, {{1, 0, 6, 0}}, 4, {6, 0, 0, 0}, 1, {{1, TICKET(1)}}},
+        {TAKE, 1, 10, TICKET(2), 2, {{1, 0, 6, 0}, {2, 1, 10, 0}}, 4, {6, 6, 0, 0}, 2, {{1, TICKET(1)}, {2, BLANK(1)}}},
+        {TAKE_OF(2), 3, 5, TICKET(3), 3, {{1, 0, 6, 0}, {2, 1, 10, 0}, {3, 3, 5, OF_CLASS(2)}}, 4, {6, 6, 0, 0}, 3, {{1, TICKET(1)}, {2, BLANK(1)}, {3, BLANK(3)}}},
+        {TAKE_OF(1), 3, 5, TICKET(4), 4, {{1, 0, 6, 0}, {2, 1, 10, 0}, {3, 3, 5, OF_CLASS(2)}, {4, 3, 5, OF_CLASS(1)}}, 4, {6, 6, 5, 5}, 4, {{1, TICKET(1)}, {2, BLANK(1)}, {3, BLANK(2)}, {4, BLANK(2)}}},
+        {TAKE_OF(3), 3, 5, TICKET(5), 5, {{1, 0, 6, 0}, {2, 1, 10, 0}, {3, 3, 5, OF_CLASS(2)}, {4, 3, 5, OF_CLASS(1)}, {5, 3, 5, OF_CLASS(3)}}, 4, {6, 6, 5, 5}, 5, {{1, TICKET(1)}, {2, TICKET(5)}, {3, TICKET(5)}, {4, TICKET(5)}, {5, 11}}},
+        {SEND, 0, 0, SENT(LEAP, FRAME, 2), 3, {{3, 3, 5, OF_CLASS(2)}, {4, 1, 6, OF_CLASS(1)}, {5, 3, 5, OF_CLASS(3)}}, 3, {6, 5, 5}, 3, {{3, BLANK(2)}, {4, TICKET(4)}, {5, BLANK(2)}}}}},
+    /* a kept blank has class 3, whatever went out had: a frame of class 3 comes after it, one of class 2 before */
+    {1, 6, {
+        {TAKE, 0, 4, TICKET(1), 1, {{1, 0, 4, 0}}, 2, {4, 0}, 1, {{1, TICKET(1)}}},
+        {TAKE_OF(1), 1, 11, TICKET(2), 2, {{1, 0, 4, 0}, {2, 1, 11, OF_CLASS(1)}}, 2, {4, 4}, 2, {{1, TICKET(1)}, {2, BLANK(1)}}},
+        {SEND, 0, 0, SENT(LEAP, FRAME, 2), 1, {{2, 1, 4, 1}}, 1, {4}, 1, {{2, TICKET(2)}}},
+        {TAKE_OF(3), 1, 4, TICKET(3), 2, {{2, 1, 4, 1}, {3, 1, 4, OF_CLASS(3)}}, 1, {4}, 2, {{2, TICKET(2)}, {3, 11}}},
+        {TAKE_OF(2), 1, 4, TICKET(4), 3, {{2, 1, 4, 1}, {3, 1, 4, OF_CLASS(3)}, {4, 1, 4, OF_CLASS(2)}}, 1, {4}, 3, {{2, 11}, {3, 11}, {4, TICKET(4)}}},
+        {SEND, 0, 0, SENT(ORDINARY, FRAME, 4), 0, {{0}}, 0, {0}, 0, {{0}}}}},
+    /* sealed: equals go by class, then ticket */
+    {2, 8, {
+        {TAKE_OF(3), 2, 5, TICKET(1), 1, {{1, 2, 5, OF_CLASS(3)}}, 3, {0, 0, 0}, 1, {{1, BLANK(2)}}},
+        {TAKE, 2, 5, TICKET(2), 2, {{1, 2, 5, OF_CLASS(3)}, {2, 2, 5, 0}}, 3, {0, 0, 0}, 2, {{1, BLANK(1)}, {2, BLANK(1)}}},
+        {TAKE_OF(2), 2, 5, TICKET(3), 3, {{1, 2, 5, OF_CLASS(3)}, {2, 2, 5, 0}, {3, 2, 5, OF_CLASS(2)}}, 3, {5, 5, 5}, 3, {{1, TICKET(1)}, {2, TICKET(1)}, {3, TICKET(1)}}},
+        {TAKE_OF(3), 2, 5, TICKET(4), 4, {{1, 2, 5, OF_CLASS(3)}, {2, 2, 5, 0}, {3, 2, 5, OF_CLASS(2)}, {4, 2, 5, OF_CLASS(3)}}, 3, {5, 5, 5}, 4, {{1, TICKET(1)}, {2, TICKET(1)}, {3, TICKET(1)}, {4, 11}}},
+        {SEAL, 0, 0, 0, 4, {{1, 2, 5, OF_CLASS(3)}, {2, 2, 5, 0}, {3, 2, 5, OF_CLASS(2)}, {4, 2, 5, OF_CLASS(3)}}, 3, {5, 5, 5}, 4, {{1, TICKET(1)}, {2, TICKET(1)}, {3, TICKET(1)}, {4, 11}}},
+        {SEND, 0, 0, SENT(ORDINARY, FRAME, 2), 3, {{1, 2, 5, OF_CLASS(3)}, {3, 2, 5, OF_CLASS(2)}, {4, 2, 5, OF_CLASS(3)}}, 2, {5, 5}, 3, {{1, TICKET(1)}, {3, TICKET(1)}, {4, 11}}},
+        {SEND, 0, 0, SENT(ORDINARY, FRAME, 3), 2, {{1, 2, 5, OF_CLASS(3)}, {4, 2, 5, OF_CLASS(3)}}, 1, {5}, 2, {{1, TICKET(1)}, {4, 11}}},
+        {SEND, 0, 0, SENT(ORDINARY, FRAME, 1), 0, {{0}}, 0, {0}, 0, {{0}}}}},
+    /* a class above 3: 14 after 6, 7 and 13 */
+    {1, 9, {
+        {TAKE_OF(4), 1, 5, 14, 0, {{0}}, 2, {0, 0}, 0, {{0}}},
+        {TAKE_OF(255), 1, 5, 14, 0, {{0}}, 2, {0, 0}, 0, {{0}}},
+        {TAKE_OF(4), 1, 0, 6, 0, {{0}}, 2, {0, 0}, 0, {{0}}},
+        {TAKE_OF(4), 2, 5, 7, 0, {{0}}, 2, {0, 0}, 0, {{0}}},
+        {TAKE_OF(3), 1, 5, TICKET(1), 1, {{1, 1, 5, OF_CLASS(3)}}, 2, {0, 0}, 1, {{1, BLANK(1)}}},
+        {TAKE_OF(2), 1, 6, TICKET(2), 2, {{1, 1, 5, OF_CLASS(3)}, {2, 1, 6, OF_CLASS(2)}}, 2, {5, 5}, 2, {{1, TICKET(1)}, {2, TICKET(1)}}},
+        {TAKE_OF(0), 1, 6, TICKET(3), 3, {{1, 1, 5, OF_CLASS(3)}, {2, 1, 6, OF_CLASS(2)}, {3, 1, 6, 0}}, 2, {6, 6}, 3, {{1, 11}, {2, TICKET(2)}, {3, TICKET(2)}}},
+        {SEAL, 0, 0, 0, 3, {{1, 1, 5, OF_CLASS(3)}, {2, 1, 6, OF_CLASS(2)}, {3, 1, 6, 0}}, 2, {6, 6}, 3, {{1, 11}, {2, TICKET(2)}, {3, TICKET(2)}}},
+        {TAKE_OF(4), 1, 5, 13, 3, {{1, 1, 5, OF_CLASS(3)}, {2, 1, 6, OF_CLASS(2)}, {3, 1, 6, 0}}, 2, {6, 6}, 3, {{1, 11}, {2, TICKET(2)}, {3, TICKET(2)}}}}},
 };
 
 static unsigned passed, failed;
@@ -288,13 +343,19 @@ static void note(int holds, const char *what)
     }
 }
 
+/* A kept blank has class 3. */
+static int same_kind(const uint8_t *row, uint32_t kind)
+{
+    return get(row, row_kind) == (kind & 1u) && get(row, row_class) == (kind == 1 ? 3 : kind >> 8);
+}
+
 static int same_rows(const struct turn *t)
 {
     int same = get(table, head_used) == (uint32_t)t->rows;
     for (int i = 0; i < t->rows; i++) {
         const uint8_t *row = table + TABLE_SIZE(i);
         same = same && get(row, row_ticket) == t->row[i].ticket && get(row, row_due) == t->row[i].due;
-        same = same && get(row, row_weight) == t->row[i].weight && get(row, row_kind) == t->row[i].kind;
+        same = same && get(row, row_weight) == t->row[i].weight && same_kind(row, t->row[i].kind);
     }
     return same;
 }
@@ -320,6 +381,8 @@ static uint64_t call(const struct turn *t)
 {
     if (t->call == TAKE)
         return lirvedd_take(t->due, t->weight, table, sizeof table);
+    if (t->call >= TAKE_CLASS)
+        return lirvedd_take_class(t->due, t->weight, (uint32_t)(t->call - TAKE_CLASS), table, sizeof table);
     if (t->call == SEND)
         return lirvedd_send(table, sizeof table);
     if (t->call == SEAL)

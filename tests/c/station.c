@@ -34,6 +34,7 @@ static void head(uint32_t slot, uint32_t last, uint32_t next, uint32_t used)
     put(table, head_used, used);
 }
 
+/* A frame of class 0, or a kept blank, which has class 3. */
 static void row(size_t index, uint32_t ticket, uint32_t due, uint32_t weight, uint32_t kind)
 {
     uint8_t *at = table + TABLE_SIZE(index);
@@ -41,6 +42,7 @@ static void row(size_t index, uint32_t ticket, uint32_t due, uint32_t weight, ui
     put(at, row_due, due);
     put(at, row_weight, weight);
     put(at, row_kind, kind);
+    put(at, row_class, 3 * kind);
 }
 
 static int unchanged(void)
@@ -59,6 +61,12 @@ static int take_refused(uint64_t number, uint32_t due, uint32_t weight, size_t l
 {
     memcpy(before, table, sizeof table);
     return lirvedd_take(due, weight, table, length) == number && unchanged();
+}
+
+static int class_refused(uint64_t number, uint32_t due, uint32_t weight, uint32_t class, size_t length)
+{
+    memcpy(before, table, sizeof table);
+    return lirvedd_take_class(due, weight, class, table, length) == number && unchanged();
 }
 
 /* The table is now `before` with these bytes at this place. */
@@ -139,6 +147,27 @@ static void taking(void)
     CHECK(take_refused(9, 0, 1, length));
 }
 
+/* Each class in its byte of the row, and no other byte; the call without a class leaves what class 0 does. */
+static void taking_classes(void)
+{
+    static const uint8_t bytes[4][ROW_SIZE] = {
+        {1, 0, 0, 0, 0x34, 0x02, 0xEF, 0xCD, 0xAB, 0x00, 0, 0}, {1, 0, 0, 0, 0x34, 0x02, 0xEF, 0xCD, 0xAB, 0x00, 0, 1},
+        {1, 0, 0, 0, 0x34, 0x02, 0xEF, 0xCD, 0xAB, 0x00, 0, 2}, {1, 0, 0, 0, 0x34, 0x02, 0xEF, 0xCD, 0xAB, 0x00, 0, 3},
+    };
+    const size_t length = TABLE_SIZE(3);
+
+    for (uint32_t class = 0; class < 4; class++) {
+        CHECK(lirvedd_open(4095, table, length) == 0);
+        memcpy(before, table, sizeof table);
+        CHECK(lirvedd_take_class(0x0234, 0x00ABCDEF, class, table, length) == 1 << 8);
+        counted_up(2, 1);
+        CHECK(changed_to(TABLE_SIZE(0), bytes[class], ROW_SIZE));
+    }
+    CHECK(lirvedd_open(4095, table, length) == 0);
+    CHECK(lirvedd_take(0x0234, 0x00ABCDEF, table, length) == 1 << 8);
+    CHECK(changed_to(TABLE_SIZE(0), bytes[0], ROW_SIZE));
+}
+
 /* A table of 300 used rows with every number of the head above 255. */
 static size_t many_rows(void)
 {
@@ -166,17 +195,17 @@ static void worked_example(void)
 {
     static const uint8_t given[TABLE_SIZE(2)] = {
         0x02, 0x01, 0xBC, 0x0A, 0x56, 0x34, 0x12, 0x00, 0x01, 0x00, 0x00, 0x00, 0x00, 0x00, 0x00, 0x00,
-        0x45, 0x23, 0x01, 0x00, 0x05, 0x04, 0xDE, 0xBC, 0x0A, 0x00, 0x01,
+        0x45, 0x23, 0x01, 0x00, 0x05, 0x04, 0xDE, 0xBC, 0x0A, 0x00, 0x01, 0x03,
     };
     static const uint8_t left[TABLE_SIZE(2)] = {
         0x02, 0x01, 0xBC, 0x0A, 0x57, 0x34, 0x12, 0x00, 0x02, 0x00, 0x00, 0x00, 0x00, 0x00, 0x00, 0x00,
-        0x45, 0x23, 0x01, 0x00, 0x05, 0x04, 0xDE, 0xBC, 0x0A, 0x00, 0x01, 0x00, 0x00, 0x00, 0x00, 0x00,
+        0x45, 0x23, 0x01, 0x00, 0x05, 0x04, 0xDE, 0xBC, 0x0A, 0x00, 0x01, 0x03, 0x00, 0x00, 0x00, 0x00,
         0x00, 0x00, 0x00, 0x00, 0x00, 0x00, 0x00, 0x00, 0x56, 0x34, 0x12, 0x00, 0xBC, 0x0A, 0x00, 0x00,
-        0x00, 0x01,
+        0x00, 0x01, 0x00, 0x02,
     };
 
     memcpy(table, given, sizeof given);
-    CHECK(lirvedd_take(2748, 16777216, table, sizeof given) == (uint64_t)1193046 << 8);
+    CHECK(lirvedd_take_class(2748, 16777216, 2, table, sizeof given) == (uint64_t)1193046 << 8);
     CHECK(memcmp(table, left, sizeof left) == 0);
     CHECK(lirvedd_take(2748, 1, table, sizeof given) == 9);
 }
@@ -212,12 +241,14 @@ static void taking_refused_2(void)
     for (size_t i = 0; i < sizeof bad / sizeof bad[0]; i++)
         CHECK(take_refused(2, 4, 1, bad[i]));
     CHECK(lirvedd_take(0, 0, NULL, 0) == 2);
+    CHECK(lirvedd_take_class(0, 0, 4, NULL, 0) == 2);
+    CHECK(class_refused(2, 4, 1, 0, small - 1) && class_refused(2, 4, 1, 4, small + 1));
 }
 
 /* The table is refused as not sound, and then as it was. */
 static int unsound(const char *what, size_t at)
 {
-    int refused_as_not_sound = take_refused(3, 4, 1, small);
+    int refused_as_not_sound = take_refused(3, 4, 1, small) && class_refused(3, 4, 1, 3, small);
 
     if (!refused_as_not_sound)
         printf("damage: %s, at byte %zu\n", what, at);
@@ -255,6 +286,9 @@ static void taking_refused_3(void)
         uint32_t value;
     } damage[] = {
         {TABLE_SIZE(0), &row_kind, 2},     {TABLE_SIZE(1), &row_kind, 255},
+        {TABLE_SIZE(0), &row_class, 4},    {TABLE_SIZE(0), &row_class, 255},  {TABLE_SIZE(1), &row_class, 4},
+        {TABLE_SIZE(1), &row_class, 0},    {TABLE_SIZE(1), &row_class, 1},    {TABLE_SIZE(1), &row_class, 2}, /* of a kept blank */
+        {TABLE_SIZE(0), &row_kind, 1},                                                            /* a kept blank of class 0 */
         {0, &head_used, 4},          {0, &head_used, 3},          {0, &head_used, 258}, /* too many, or one that is all zeros */
         {0, &head_used, 1},                                                             /* an unused row that is not zero */
         {0, &head_last, 4096},       {0, &head_last, 65535},
@@ -330,6 +364,38 @@ static void taking_refused_8_and_9(void)
     CHECK(take_refused(8, 9, 1, small));
 }
 
+/* 14 comes after 7 and before 8; a frame's row may have any class up to 3. */
+static void taking_refused_14(void)
+{
+    sound();
+    CHECK(class_refused(14, 4, 1, 4, small));
+    CHECK(class_refused(14, 4, 1, 255, small) && class_refused(14, 4, 1, 256, small));
+    CHECK(class_refused(14, 4, 1, 65536 + 3, small) && class_refused(14, 4, 1, UINT32_MAX, small));
+    CHECK(class_refused(6, 4, 0, 4, small));
+    CHECK(class_refused(7, 10, 1, 4, small));
+    put(table, head_next, 16777216);
+    CHECK(class_refused(14, 4, 1, 4, small));
+    CHECK(class_refused(8, 4, 1, 3, small));
+    put(table, head_used, 3);
+    row(2, 16777215, 9, 1, 0);
+    CHECK(class_refused(14, 4, 1, 4, small));
+    put(table, head_next, 16777215);
+    row(2, 16777214, 9, 1, 0);
+    CHECK(class_refused(14, 4, 1, 4, small)); /* and before 9 */
+    CHECK(class_refused(9, 4, 1, 3, small));
+    put(table, head_sealed, 1);
+    CHECK(class_refused(13, 4, 1, 4, small));
+    head(10, 9, 6, 0);
+    CHECK(class_refused(5, 9, 1, 4, small));
+
+    sound();
+    for (uint32_t class = 0; class < 4; class++) {
+        put(table + TABLE_SIZE(0), row_class, class);
+        CHECK(lirvedd_refusal(lirvedd_total(table, small)) == 0);
+    }
+    CHECK(lirvedd_take_class(9, 1, 3, table, small) == 6 << 8);
+}
+
 static int seal_refused(uint64_t number, size_t length)
 {
     memcpy(before, table, sizeof table);
@@ -391,6 +457,7 @@ static void unpacking(void)
 {
     CHECK(lirvedd_refusal(0) == LIRVEDD_ACCEPTED && lirvedd_ticket(0) == 0);
     CHECK(lirvedd_refusal(9) == LIRVEDD_TABLE_FULL && lirvedd_ticket(9) == 0);
+    CHECK(lirvedd_refusal(14) == LIRVEDD_BAD_CLASS && lirvedd_ticket(14) == 0 && LIRVEDD_MOST_CLASS == 3);
     CHECK(lirvedd_refusal((uint64_t)16777215 << 8) == 0 && lirvedd_ticket((uint64_t)16777215 << 8) == 16777215);
     CHECK(lirvedd_ticket((uint64_t)0x00123456 << 8) == 0x00123456);
     CHECK(LIRVEDD_TABLE_SIZE(3) == small && LIRVEDD_TABLE_SIZE(LIRVEDD_MOST_ROWS) == MOST);
@@ -401,6 +468,7 @@ int main(void)
     opening();
     opening_refused();
     taking();
+    taking_classes();
     taking_among_many();
     worked_example();
     taking_until_full();
@@ -413,6 +481,7 @@ int main(void)
     sealing();
     sealing_refused();
     taking_refused_13();
+    taking_refused_14();
     unpacking();
     printf("%u passed, %u failed\n", passed, failed);
     return failed == 0 ? 0 : 1;

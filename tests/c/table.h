@@ -18,7 +18,8 @@ struct field {
 
 static const struct field head_slot = {0, 2}, head_last = {2, 2}, head_next = {4, 4}, head_used = {8, 2}, head_sealed = {10, 1},
                           head_zeros = {11, 5};
-static const struct field row_ticket = {0, 4}, row_due = {4, 2}, row_weight = {6, 4}, row_kind = {10, 1}, row_zeros = {11, 13};
+static const struct field row_ticket = {0, 4}, row_due = {4, 2}, row_weight = {6, 4}, row_kind = {10, 1}, row_class = {11, 1},
+                          row_zeros = {12, 12};
 
 static inline void put(uint8_t *from, struct field field, uint32_t value)
 {

@@ -1,12 +1,14 @@
 /* The third demand by trying every set: small rounds drawn at random, played through the archive to their end. After each call the rows
  * are read from the table's bytes, and for every set of them it is seen whether it could go out in time and what it weighs. Some rounds
- * are sealed: the rows planned then have to go out by their due slots. Nothing of how a plan is computed stands here. LIRVEDD_ROUNDS sets how many rounds are played; a failure names its round's seed.
+ * are sealed: the rows planned then have to go out by their due slots. Frames have classes, and with every class turned round the total and
+ * the marks are the same. Nothing of how a plan is computed stands here. LIRVEDD_ROUNDS sets how many rounds are played; a failure names its round's seed.
  */
 #include "lirvedd.h"
 #include "table.h"
 
 #include <stdio.h>
 #include <stdlib.h>
+#include <string.h>
 
 enum { MOST_SMALL_ROWS = 8, MOST_SMALL_LAST = 9, MOST_SLOTS = MOST_SMALL_LAST + 1, CALLS = 40 };
 
@@ -86,6 +88,23 @@ static unsigned planned(const struct seen *s)
     return set;
 }
 
+/* Total and marks are the same where each frame of class c has class 3 - c: they do not depend on the order among equals. */
+static void other_classes(const struct seen *s)
+{
+    uint8_t other[sizeof table];
+
+    memcpy(other, table, sizeof table);
+    for (uint32_t i = 0; i < s->used; i++) {
+        uint8_t *row = other + TABLE_SIZE(i);
+        if (get(row, row_kind) == 0)
+            put(row, row_class, 3 - get(row, row_class));
+    }
+    if (s->slot <= s->last)
+        note(lirvedd_amount(lirvedd_total(other, length)) == s->total, "the total does not depend on classes");
+    for (uint32_t slot = s->slot; slot <= s->last; slot++)
+        note(lirvedd_mark(slot, other, length) == s->marks[slot] << 8, "no mark depends on classes");
+}
+
 static void look(struct seen *s)
 {
     s->slot = get(table, head_slot);
@@ -101,6 +120,7 @@ static void look(struct seen *s)
     note(in_time(s, planned(s)), "the plan can go out in time");
     note(weight_of(s, planned(s)) == s->total, "the total is the plan's weight");
     note(heaviest(s) == s->total, "nothing that could go out in time weighs more");
+    other_classes(s);
 }
 
 static uint32_t draw_weight(uint32_t kind)
@@ -115,10 +135,10 @@ static uint32_t draw_weight(uint32_t kind)
     }
 }
 
-static void take(const struct seen *old, uint32_t due, uint32_t weight)
+static void take(const struct seen *old, uint32_t due, uint32_t weight, uint32_t class)
 {
     struct seen new;
-    uint64_t reply = lirvedd_take(due, weight, table, length);
+    uint64_t reply = class == 0 ? lirvedd_take(due, weight, table, length) : lirvedd_take_class(due, weight, class, table, length);
     uint64_t above = 0;
 
     look(&new);
@@ -178,9 +198,9 @@ static void play(void)
         else if (may_seal && draw(16) == 0)
             seal(&old);
         else if (draw(12) == 0)
-            take(&old, last + 1, 0); /* refused */
+            take(&old, last + draw(2), draw(2), 4); /* refused */
         else
-            take(&old, old.slot + draw(last - old.slot + 1), draw_weight(kind));
+            take(&old, old.slot + draw(last - old.slot + 1), draw_weight(kind), draw(4));
         not_sunk(&old);
     }
 }

@@ -3,12 +3,12 @@ use mathlib.Core.Path.{_≡_, refl}
 use mathlib.Core.List.{List, [], _∷_, _++_, map}
 use Prim.Native.Nat.{ℕ, _*_, _-_}
 use lib.ListN.{take, replicate}
-use Rattle.rules.specs.Rows.{Round, row, round, frame-tail, blank-tail, unsealed-tail, sealed-tail}
+use Rattle.rules.specs.Rows.{Round, row, round, frame-tail, blank-tail, sealed-tail}
 use Rattle.rules.specs.Steps.{taken, sealed}
 use Rattle.rules.specs.Table.{low, value, field, put, row-bytes, rows-bytes, head-bytes, table, rows-in, rows-of, round-in, length-good, every, rows-good, round-good, same, table-refusal}
 use Rattle.rules.specs.Calls.{first, act, deed, round-refusal, leaves, table-first, refusal, left}
 use Rattle.rules.specs.Conditions.{class-in}
-use Rattle.rules.proofs.Played.{takes-of, seals}
+use Rattle.rules.proofs.Played.{takes-of, seals, plain, waits}
 
 -- slot 0102, last slot 0304, next ticket 00060608, sealed, one frame of class 2 and one kept blank in 259 rows (hexadecimal)
 abbrev pub vector-round : Round
@@ -60,8 +60,8 @@ unfolding row round low value field put row-bytes rows-bytes head-bytes table ro
     table-refusal
 vector-zeros = refl
 
--- as read of each row, and as the conditions read it
-pub vector-class-in : map (class-in (vector-bytes 0 2 3 0 0)) (0 ∷ 1 ∷ 2 ∷ []) ≡ 2 ∷ 3 ∷ 0 ∷ []
+-- as the conditions read it, whatever stands behind
+pub vector-class-in : map (class-in (vector-bytes 0 2 3 7 0)) (0 ∷ 1 ∷ 2 ∷ []) ≡ 2 ∷ 3 ∷ 0 ∷ []
 unfolding value field
 vector-class-in = refl
 
@@ -87,7 +87,7 @@ unfolding row round low value field put row-bytes rows-bytes head-bytes table ro
 vector-taken = refl
 
 -- and the head alone with 0102 rows in use, unsealed
-pub vector-head : take 16 (table (round 258 772 394760 259 (replicate 258 (row 1 515 1 (frame-tail 0))) unsealed-tail)) ≡ 2 ∷ 1 ∷ 4 ∷ 3 ∷ 8 ∷ 6 ∷ 6 ∷ 0 ∷ 2 ∷ 1 ∷ replicate 6 0
+pub vector-head : take 16 (table (plain 258 772 394760 259 (replicate 258 (waits 1 515 1)))) ≡ 2 ∷ 1 ∷ 4 ∷ 3 ∷ 8 ∷ 6 ∷ 6 ∷ 0 ∷ 2 ∷ 1 ∷ replicate 6 0
 unfolding row round low put row-bytes rows-bytes head-bytes table
 vector-head = refl
 

@@ -282,7 +282,7 @@ one-slot = plain 0 0 4 8 (waits-of 3 1 0 5 ∷ waits-of 1 2 0 5 ∷ waits-of 0 3
 
 abbrev pub three-slots : Round
 three-slots =
-    plain 0 2 7 8 (waits-of 3 1 1 5 ∷ waits-of 2 2 2 9 ∷ waits-of 2 3 1 5 ∷ waits-of 1 4 1 5 ∷ waits-of 3 5 0 5 ∷ waits 6 2 5 ∷ [])
+    plain 0 2 7 8 (waits-of 3 1 1 5 ∷ waits-of 2 2 2 3 ∷ waits-of 2 3 1 5 ∷ waits-of 1 4 1 5 ∷ waits-of 3 5 0 6 ∷ waits 6 2 3 ∷ [])
 
 abbrev pub tickets-by : (before : Row → Row → Bool) → Round → List ℕ
 tickets-by f r = tickets-of (sorted canonical (rows-only (plan-by f r)))
@@ -298,7 +298,7 @@ old-and-new r =
 pub old-order-by-hand :
     map old-and-new (one-slot ∷ three-slots ∷ [])
     ≡ ((1 ∷ []) ∷ (2 ∷ []) ∷ (5 ∷ 5 ∷ []) ∷ (5 ∷ 5 ∷ []) ∷ (5 ∷ 5 ∷ []) ∷ [])
-    ∷ ((5 ∷ 1 ∷ 2 ∷ []) ∷ (5 ∷ 4 ∷ 2 ∷ []) ∷ (19 ∷ 19 ∷ []) ∷ (5 ∷ 5 ∷ []) ∷ (5 ∷ 5 ∷ []) ∷ [])
+    ∷ ((5 ∷ 1 ∷ 2 ∷ []) ∷ (5 ∷ 4 ∷ 6 ∷ []) ∷ (14 ∷ 14 ∷ []) ∷ (6 ∷ 3 ∷ []) ∷ (6 ∷ 3 ∷ []) ∷ [])
     ∷ []
 unfolding row blank round slots-left heavier canonical old-heavier into sorted rows-only due-by fits-from feasible kept blanks-from plan total-weight total
     tight tight-from tight-after least-weight mark-in mark

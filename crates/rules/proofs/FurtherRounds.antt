@@ -1,5 +1,6 @@
 -- Further rounds by hand, in the form of Rounds.antt, for what P1 to P10 leave open: each keeps a wrong definition out.
--- Their values are from a model written from document 01 alone; those of the substitutes asked, and what a sealed table refuses, are worked out by hand.
+-- Their values are from a model written from document 01 alone; those of the substitutes asked, of frames beside kept blanks of equal weight,
+-- and what a sealed table refuses, are worked out by hand.
 use mathlib.Core.Path.{_≡_, refl}
 use mathlib.Core.Bool.{true}
 use mathlib.Core.List.{List, [], _∷_}

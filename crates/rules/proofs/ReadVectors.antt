@@ -1,7 +1,7 @@
 -- Inputs cut into reads, by hand: what is written for each read, and what is there afterwards, on a table of two rows that is zero at first.
 use mathlib.Core.Path.{_≡_, refl}
 use mathlib.Core.Bool.{Bool, true, false, cond}
-use mathlib.Core.List.{List, [], _∷_}
+use mathlib.Core.List.{List, [], _∷_, _++_}
 use Prim.Native.Nat.{ℕ}
 use native.Mathlib.Omega.{arith}
 use lib.ListN.{replicate}
@@ -13,6 +13,7 @@ use Rattle.rules.specs.Calls.{first, act, question, deed, round-refusal,
 use Rattle.rules.specs.Lines.{digit, is-digit, digit-value, digits, number-from, all-digits, count-digits, number-at, numbers-at, forms, found, front-size, payload-fits, has-length, call-of, body, command-of, read-digits, read, out-digits, reply-digits, reply-text, turn, printed-from}
 use Rattle.rules.specs.Reads.{complete-from, begun-from, asked, calls-of, stops, overlong, Between, served, written, between-after, Some-bytes}
 use Rattle.rules.proofs.Text.{zeroed}
+use Rattle.rules.proofs.LineVectors.{sixteen}
 
 -- READS BY HAND: the bytes written for each that is made, then the line held, whether it is over, and the waiting rows
 pub record Reads-by-hand : Type 0 where
@@ -40,6 +41,10 @@ made (x ∷ xs) =
       rows = round-in (s .table) .rows;
     }
     ∷ made xs
+
+-- the most payload digits
+abbrev pub whole-payload : List ℕ
+whole-payload = sixteen ++ sixteen ++ sixteen
 
 abbrev pub reads : List Reads-by-hand
 reads =
@@ -212,7 +217,7 @@ reads =
     record {
       reads =
           (48 ∷ 48 ∷ 48 ∷ 48 ∷ 48 ∷ 49 ∷ 10 ∷ []) ∷
-          (48 ∷ 52 ∷ 48 ∷ 48 ∷ 48 ∷ 48 ∷ 48 ∷ 48 ∷ 48 ∷ 48 ∷ 48 ∷ 48 ∷ 48 ∷ 53 ∷ 48 ∷ 51 ∷ 48 ∷ 49 ∷ 50 ∷ 51 ∷ 52 ∷ 53 ∷ 54 ∷ 55 ∷ 56 ∷ 57 ∷ 65 ∷ 66 ∷ 67 ∷ 68 ∷ 69 ∷ 70 ∷ 48 ∷ 49 ∷ 50 ∷ 51 ∷ 52 ∷ 53 ∷ 54 ∷ 55 ∷ 56 ∷ 57 ∷ 65 ∷ 66 ∷ 67 ∷ 68 ∷ 69 ∷ 70 ∷ 48 ∷ 49 ∷ 50 ∷ 51 ∷ 52 ∷ 53 ∷ 54 ∷ 55 ∷ 56 ∷ 57 ∷ 65 ∷ 66 ∷ 67 ∷ 68 ∷ 69 ∷ 70 ∷ []) ∷
+          (48 ∷ 52 ∷ 48 ∷ 48 ∷ 48 ∷ 48 ∷ 48 ∷ 48 ∷ 48 ∷ 48 ∷ 48 ∷ 48 ∷ 48 ∷ 53 ∷ 48 ∷ 51 ∷ whole-payload) ∷
           (10 ∷ []) ∷
           [];
       writes =
@@ -228,7 +233,7 @@ reads =
     record {
       reads =
           (48 ∷ 48 ∷ 48 ∷ 48 ∷ 48 ∷ 49 ∷ 10 ∷ []) ∷
-          (48 ∷ 49 ∷ 48 ∷ 48 ∷ 48 ∷ 48 ∷ 48 ∷ 48 ∷ 48 ∷ 48 ∷ 48 ∷ 48 ∷ 48 ∷ 53 ∷ 48 ∷ 49 ∷ 50 ∷ 51 ∷ 52 ∷ 53 ∷ 54 ∷ 55 ∷ 56 ∷ 57 ∷ 65 ∷ 66 ∷ 67 ∷ 68 ∷ 69 ∷ 70 ∷ 48 ∷ 49 ∷ 50 ∷ 51 ∷ 52 ∷ 53 ∷ 54 ∷ 55 ∷ 56 ∷ 57 ∷ 65 ∷ 66 ∷ 67 ∷ 68 ∷ 69 ∷ 70 ∷ 48 ∷ 49 ∷ 50 ∷ 51 ∷ 52 ∷ 53 ∷ 54 ∷ 55 ∷ 56 ∷ 57 ∷ 65 ∷ 66 ∷ 67 ∷ 68 ∷ 69 ∷ 70 ∷ 48 ∷ 51 ∷ []) ∷
+          (48 ∷ 49 ∷ 48 ∷ 48 ∷ 48 ∷ 48 ∷ 48 ∷ 48 ∷ 48 ∷ 48 ∷ 48 ∷ 48 ∷ 48 ∷ 53 ∷ 48 ∷ 51 ∷ whole-payload) ∷
           (10 ∷ []) ∷
           [];
       writes =

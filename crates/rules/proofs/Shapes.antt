@@ -8,11 +8,12 @@ use lib.Dec.{ltb, leb, eqb}
 use borrow.Author.Tests.{le-ltb, lt-leb}
 use lib.ListN.{length, drop, replicate}
 use Rattle.rules.specs.Limits.{most-last, most-weight, ticket-limit}
-use Rattle.rules.specs.Rows.{Frame, Setup, Row, Round, row, blank, round}
-use Rattle.rules.specs.Plan.{plan, total, first-end, mark, best, canonical-first}
+use Rattle.rules.specs.Rows.{Frame, Setup, Row, Round, row, blank, round, heavier, old-heavier}
+use Rattle.rules.specs.Plan.{plan, plan-by, total-weight, total, first-end, mark-in, mark, best, canonical-first}
 use Rattle.rules.specs.Steps.{opened, taken, sealed, turn-of, goes, sent, is-ordinary}
 use Rattle.rules.specs.Table.{low, field, put, row-bytes, rows-bytes, head-bytes, table, rows-in, rows-of, round-in, every, rows-good, round-good}
 use Rattle.rules.specs.Calls.{taking, sending, sealing, marking, totalling, Call, opening, acting, asking, act, question, deed, done, closed, ticket, step, amount, ordinary, leap, out-of, round-refusal, says, leaves}
+use Rattle.rules.specs.Classes.{old-total, old-mark}
 use Rattle.rules.specs.Conditions.{Length-bad, Unsound, Past, Weight-bad, Slot-bad, No-row, Not-planned, next-in, used-in, sealed-in, when, accepted, act-conditions, question-conditions, conditions, refusal-given, substitute-given}
 
 -- A ROW's bytes, of a kind and a class that fit a byte each
@@ -101,6 +102,17 @@ round-good-is r =
     rw (sym (below-two (r .tail .sealed)))
     (regrouped-head (leb (r .last) 4095) (leb (r .slot) (suc (r .last))) (leb 1 (r .next)) (leb (r .next) 16777216) (leb (length (r .rows)) (r .room))
     (leb (r .tail .sealed) 1) (rows-good r 0 (r .rows)))
+
+-- THE OLD ORDER's total and marks (Classes.antt) are those of the plan that it makes, whatever the plan is
+pub old-total-is : (r : Round) → old-total r ≡ total-weight (plan-by old-heavier r)
+old-total-is r = refl
+
+pub old-mark-is : (r : Round) (s : ℕ) → old-mark r s ≡ mark-in r (plan-by old-heavier r) s
+old-mark-is r s = refl
+
+pub plan-is : (r : Round) → plan r ≡ plan-by heavier r
+unfolding plan
+plan-is r = refl
 
 -- REFUSALS in their order, replies and rounds left
 pub opening-is : (u : Setup) (r : Round) →

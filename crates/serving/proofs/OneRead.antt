@@ -10,7 +10,7 @@ use lib.Seq.{length-take-le, drop-drop, take-add, take-at, drop-at}
 use borrow.Author.Tests.{lt-ltb, le-ltb, ne-eqb}
 use Rattle.rules.specs.Calls.{refused, run}
 use Rattle.rules.specs.Lines.{reply-text, printed-from}
-use Rattle.rules.specs.Reads.{begun-from, calls-of, stops, overlong, served, written}
+use Rattle.rules.specs.Reads.{begun-from, calls-of, stops, longest-line, overlong, served, written}
 use Rattle.theory.specs.Served.{served-short}
 use Rattle.replying.specs.Replying.{Replies}
 use Rattle.answering.specs.declared.Progress.{Progress}
@@ -119,7 +119,7 @@ module _ (held got : ℕ) (input : List ℕ) {t out t′ out′ : List ℕ} {p :
     begun-long = ap length (sym (a .rest e)) ∙ length-drop (p .read) (take (held + got) input) ∙ rw (length-take-le (held + got) input h)
 
     -- of which is longer than any command's
-    pub serves-overlong : {w : ℕ} {out″ : List ℕ} {r : Served} → 63 < held + got - p .read → Refused-behind (p .wrote) out′ out″ w → Over w r →
+    pub serves-overlong : {w : ℕ} {out″ : List ℕ} {r : Served} → longest-line < held + got - p .read → Refused-behind (p .wrote) out′ out″ w → Over w r →
         Serves held got input t out input t′ out″ r
     unfolding overlong
     serves-overlong {w} {out″} {r} k b q =
@@ -127,7 +127,7 @@ module _ (held got : ℕ) (input : List ℕ) {t out t′ out′ : List ℕ} {p :
         let ps = printed-from (lines i) t in
         let rf = reply-text (refused 1) in
         let s = some-of held got input t g h in
-        let long : overlong (begun-from [] i) ≡ true = rw begun-long (lt-ltb 63 (held + got - p .read) k) in
+        let long : overlong (begun-from [] i) ≡ true = rw begun-long (lt-ltb longest-line (held + got - p .read) k) in
         let writes : to-write held got input t ≡ ps ++ rf = s .writes ∙ rw (goes, long) in
         let hold : after-read held got input t .held ≡ [] = s .held ∙ rw (goes, long) in
         let front : take (p .wrote) out′ ≡ ps = ap (take (p .wrote)) (a .said) ∙ take-at ps (drop (length ps) out) (p .wrote) (sym (a .wrote)) in
@@ -146,14 +146,14 @@ module _ (held got : ℕ) (input : List ℕ) {t out t′ out′ : List ℕ} {p :
         }
 
     -- which is kept for the next read
-    pub serves-on : {input′ : List ℕ} {r : Served} → held + got - p .read ≤ 63 → input′ ≡ moved-front (p .read) (held + got) input →
+    pub serves-on : {input′ : List ℕ} {r : Served} → held + got - p .read ≤ longest-line → input′ ≡ moved-front (p .read) (held + got) input →
         (r .wrote ≡ p .wrote) × (r .held ≡ held + got - p .read) × (r .over ≡ false) → Serves held got input t out input′ t′ out′ r
     unfolding overlong
     serves-on {input′} {r} k m q =
         let i = take (held + got) input in
         let ps = printed-from (lines i) t in
         let s = some-of held got input t g h in
-        let short : overlong (begun-from [] i) ≡ false = rw begun-long (le-ltb 63 (held + got - p .read) k) in
+        let short : overlong (begun-from [] i) ≡ false = rw begun-long (le-ltb longest-line (held + got - p .read) k) in
         let writes : to-write held got input t ≡ ps = s .writes ∙ rw (goes, short) (append-nil ps) in
         let hold : after-read held got input t .held ≡ begun-from [] i = s .held ∙ rw (goes, short) in
         record {
@@ -166,7 +166,7 @@ module _ (held got : ℕ) (input : List ℕ) {t out t′ out′ : List ℕ} {p :
         }
 
 -- WHAT IS HELD is no longer than a command's line
-pub held-short : {held got : ℕ} {input t out input′ t′ out′ : List ℕ} {r : Served} → Serves held got input t out input′ t′ out′ r → r .held ≤ 63
+pub held-short : {held got : ℕ} {input t out input′ t′ out′ : List ℕ} {r : Served} → Serves held got input t out input′ t′ out′ r → r .held ≤ longest-line
 held-short {held} {got} {input} {t} s = omega (arith, s .holds, served-short t (take held input) (take got (drop held input)))
 
 -- and what is written is within the output

@@ -13,8 +13,8 @@ pub struct Served {
     pub over: bool,
 }
 
-// A command's longest line: its number, a due slot, a weight, a payload and the 0A.
-pub const LONGEST_LINE: usize = 63;
+// A command's longest line: its number, a due slot, a weight, a class, a payload and the 0A.
+pub const LONGEST_LINE: usize = 65;
 
 // A head and 1,024 rows.
 pub const TABLE_SIZE: usize = 24592;

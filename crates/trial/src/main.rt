@@ -8,6 +8,7 @@ use crate::writing::try_write;
 use libc::STDIN_FILENO;
 use libc::STDOUT_FILENO;
 use numbers::read4;
+use sorts::Class;
 use sorts::Slot;
 use sorts::Weight;
 
@@ -23,6 +24,7 @@ pub struct Request {
     pub command: u32,
     pub slot: Slot,
     pub weight: Weight,
+    pub class: Class,
 }
 
 const LIST: u32 = 0;
@@ -30,6 +32,8 @@ const LIST: u32 = 0;
 const WRITE: u32 = 1;
 
 const READ: u32 = 2;
+
+const HEAD_SIZE: usize = 28;
 
 const MOST_SIZE: usize = 24640;
 
@@ -54,9 +58,9 @@ fn main() {
 fn answer_next(body: &mut [u8], out: &mut [u8]) -> bool
     requires { ⌜ (length (now body) ≡ 24640) × (length (now out) ≡ 65536) ⌝ }
 {
-    let mut head_space = [0u8; 24];
+    let mut head_space = [0u8; HEAD_SIZE];
     let head: &mut [u8] = &mut head_space;
-    if io::read_full(STDIN_FILENO, head) != 24 {
+    if io::read_full(STDIN_FILENO, head) != HEAD_SIZE {
         return false;
     }
     let request = request_of(head);
@@ -78,7 +82,7 @@ fn answer_next(body: &mut [u8], out: &mut [u8]) -> bool
 }
 
 fn request_of(head: &[u8]) -> Request
-    requires { ⌜ length (now head) ≡ 24 ⌝ }
+    requires { ⌜ length (now head) ≡ 28 ⌝ }
 {
     Request {
         kind: read4(head, 0),
@@ -87,6 +91,7 @@ fn request_of(head: &[u8]) -> Request
         command: read4(head, 12),
         slot: Slot(read4(head, 16)),
         weight: Weight(read4(head, 20)),
+        class: Class(read4(head, 24)),
     }
 }
 

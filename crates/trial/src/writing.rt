@@ -18,6 +18,7 @@ pub fn try_write(request: Request, payload: &[u8], out: &mut [u8]) -> usize
 {
     let slot = request.slot;
     let weight = request.weight;
+    let class = request.class;
     let room = request.room;
     let command = request.command;
     match command {
@@ -25,6 +26,7 @@ pub fn try_write(request: Request, payload: &[u8], out: &mut [u8]) -> usize
         1 => put_line(Command::Take(slot, weight), payload, room, out),
         2 => put_line(Command::Send, payload, room, out),
         3 => put_line(Command::Seal, payload, room, out),
+        4 => put_line(Command::Classed(slot, weight, class), payload, room, out),
         _ => 0,
     }
 }

@@ -1,5 +1,5 @@
 -- A reply's line by another name for it, and a turn by the call that its command asks for.
-use mathlib.Core.Path.{_≡_, ap, ap₂}
+use mathlib.Core.Path.{_≡_, ap}
 use mathlib.Core.List.{List}
 use Prim.Native.Nat.{ℕ}
 use Rattle.rules.specs.Rows.{framed, until}
@@ -20,5 +20,5 @@ turned c k o t z before after r e s p = record { said = rw (e, ← s .0) p; move
 pub same-opening : {l m : ℕ} → l ≡ m → opening (until l) ≡ opening (until m)
 same-opening e = ap (λ (n : ℕ). opening (until n)) e
 
-pub same-taking : {d e w v : ℕ} → d ≡ e → w ≡ v → acting (taking (framed d w)) ≡ acting (taking (framed e v))
-same-taking p q = ap₂ (λ (d w : ℕ). acting (taking (framed d w))) p q
+pub same-taking : {d e w v a b : ℕ} → d ≡ e → w ≡ v → a ≡ b → acting (taking (framed d w a)) ≡ acting (taking (framed e v b))
+same-taking p q r = rw (p, q, r)

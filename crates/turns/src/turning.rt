@@ -12,16 +12,22 @@ use lines::Command;
 use opening::open_round;
 use sealing::seal_round;
 use sending::send_slot;
+use sorts::Class;
 use taking::take_frame;
 
+// Line 01 takes a frame of class 0.
 pub fn take_turn_in_room(command: Command, table: &mut [u8], reply: &mut [u8]) -> usize
     requires { ⌜ reply-room ≤ length (now reply) ⌝ }
     ensures { λ r. ⌜ Turns (of-command command) (now (table .entry)) (now (table .exit)) (now (reply .entry)) (now (reply .exit)) r ⌝ }
 {
     match command {
         Command::Open(last) => say_opened(open_round(last, table), reply),
-        Command::Take(due, weight) => say_taken(take_frame(due, weight, table), reply),
+        Command::Take(due, weight) => say_taken(take_frame(due, weight, Class(0), table), reply),
         Command::Send => say_sent(send_slot(table), reply),
         Command::Seal => say_sealed(seal_round(table), reply),
+        Command::Classed(due, weight, class) => say_taken(
+            take_frame(due, weight, class, table),
+            reply,
+        ),
     }
 }

@@ -4,6 +4,7 @@
 pub enum Call {
     Open { last: u32 },
     Take { due: u32, weight: u32 },
+    TakeClass { due: u32, weight: u32, class: u32 },
     Send,
     Seal,
     Mark { slot: u32 },
@@ -17,6 +18,7 @@ pub enum Call {
 pub enum CallName {
     Open,
     Take,
+    TakeClass,
     Send,
     Seal,
     Mark,
@@ -34,6 +36,7 @@ impl Call {
         match self {
             Call::Open { .. } => CallName::Open,
             Call::Take { .. } => CallName::Take,
+            Call::TakeClass { .. } => CallName::TakeClass,
             Call::Send => CallName::Send,
             Call::Seal => CallName::Seal,
             Call::Mark { .. } => CallName::Mark,
@@ -48,6 +51,7 @@ impl CallName {
     pub const ALL: &'static [CallName] = &[
         CallName::Open,
         CallName::Take,
+        CallName::TakeClass,
         CallName::Send,
         CallName::Seal,
         CallName::Mark,
@@ -57,6 +61,7 @@ impl CallName {
 
     /// Whether the call needs the plan.
     pub fn plans(self) -> bool {
-        !matches!(self, CallName::Open | CallName::Take | CallName::Seal)
+        use CallName::{Open, Seal, Take, TakeClass};
+        !matches!(self, Open | Take | TakeClass | Seal)
     }
 }

@@ -1,7 +1,7 @@
 //! The calls: each is a rule too, so that a fault may stand around one.
 
 use crate::command::{self, Command};
-use crate::counts::{Slot, Ticket, Weight};
+use crate::counts::{Class, Slot, Ticket, Weight};
 use crate::listing::{self, Entry};
 use crate::opening;
 use crate::payload;
@@ -36,6 +36,7 @@ macro_rules! calls {
 calls! {
     open(last: Slot, table: &mut [u8]) -> Result<(), Refusal> = opening::open;
     take(due: Slot, weight: Weight, table: &mut [u8]) -> Result<Ticket, Refusal> = taking::take;
+    take_class(due: Slot, weight: Weight, class: Class, table: &mut [u8]) -> Result<Ticket, Refusal> = taking::take_class;
     send(table: &mut [u8]) -> Result<Step, Refusal> = send::send;
     seal(table: &mut [u8]) -> Result<(), Refusal> = sealing::seal;
     mark(slot: Slot, table: &[u8]) -> Result<Weight, Refusal> = questions::mark;

@@ -1,6 +1,6 @@
 //! The forms of text lines, and reading one as a command.
 
-use crate::counts::{Slot, Weight};
+use crate::counts::{Class, Slot, Weight};
 use crate::refusal::Refusal;
 use crate::rules::{hold, Clause, Clauses, Rules};
 use std::borrow::Cow;
@@ -12,10 +12,20 @@ pub const PAYLOAD_DIGITS: usize = 48;
 
 #[derive(Clone, Copy, PartialEq, Eq, Debug)]
 pub enum Command {
-    Open { last: Slot },
-    Take { due: Slot, weight: Weight },
+    Open {
+        last: Slot,
+    },
+    Take {
+        due: Slot,
+        weight: Weight,
+    },
     Send,
     Seal,
+    TakeClass {
+        due: Slot,
+        weight: Weight,
+        class: Class,
+    },
 }
 
 /// The form of a command's line.
@@ -60,6 +70,16 @@ pub const FORMS: &[Form] = &[
         has_payload: false,
         command: |_| Command::Seal,
     },
+    Form {
+        line: "04",
+        widths: &[4, 8, 2],
+        has_payload: true,
+        command: |numbers| Command::TakeClass {
+            due: Slot(numbers[0]),
+            weight: Weight(numbers[1]),
+            class: Class(numbers[2]),
+        },
+    },
 ];
 
 impl Command {
@@ -70,6 +90,7 @@ impl Command {
             Command::Take { due, weight } => ("01", vec![due.0, weight.0]),
             Command::Send => ("02", vec![]),
             Command::Seal => ("03", vec![]),
+            Command::TakeClass { due, weight, class } => ("04", vec![due.0, weight.0, class.0]),
         }
     }
 }

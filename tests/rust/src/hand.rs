@@ -1,9 +1,9 @@
 //! Rounds by hand, written as document 01 writes them: the last slot, then
-//! "due:weight" for each taking, "S" for each sending, "seal" for a sealing
+//! "due:weight" for each taking ("due:weight/class" with a class), "S" for each sending, "seal" for a sealing
 //! and "O1" for an opening anew, of slots 0 and 1.
 
 use crate::call::Call;
-use crate::counts::{Slot, Ticket, Weight};
+use crate::counts::{Class, Slot, Ticket, Weight};
 use crate::round::{Round, Row};
 use crate::table::{encode, row_at};
 
@@ -41,11 +41,22 @@ pub const ROUNDS: &[(&str, &str)] = &[
     ("sealed, the heavier first", "3; 2:1 2:7 2:3 3:8 seal S S seal S S"),
     ("sealed, silence between", "4; 0:3 3:2 4:9 seal S S S 4:1 S S"),
     ("sealed and empty", "2; seal 2:1 S S S"),
+    ("class after weight and due slot", "1; 1:5 0:5/3 1:6/2 S S"),
+    ("class decides the plan", "0; 0:5/2 0:5/1 0:5/3 S"),
+    ("without a class it is 0", "1; 1:5/1 1:5 1:5/0 S S"),
+    ("class of the lightest", "3; 3:9/0 3:9/3 3:9/1 2:9/3 S S S S"),
+    ("class of a substitute", "3; 0:9 3:4/2 3:4/1 3:9 2:9 1:9 S S S S"),
+    ("class of a shift", "3; 0:6 1:10 3:5/2 3:5/1 3:5/3 S S S S"),
+    ("class of a kept blank", "1; 0:4 1:11 S 1:4/2 S"),
+    ("class 3 as a kept blank's", "1; 0:4 1:11/1 S 1:4/3 S"),
+    ("sealed, by class", "2; 2:5/3 2:5 2:5/2 2:5/3 seal S S S"),
+    ("class above 3", "1; 1:5/4 1:5/255 1:0/4 2:5/4 0:4 1:11/3 S S"),
     ("sealed and opened anew", "1; seal 1:9 O1 0:4 1:11 S S"),
 ];
 
-/// A row by hand: ticket, due slot, weight and whether kept.
-pub type HandRow = (u32, u32, u32, bool);
+/// A row by hand: ticket, due slot, weight, and a frame's class; a kept blank has
+/// none of its own.
+pub type HandRow = (u32, u32, u32, Option<u32>);
 
 /// Sound tables that no list of calls reaches, kept blanks anywhere: the last
 /// slot, and the rows.
@@ -57,40 +68,57 @@ pub const TABLES: &[(u32, &[HandRow])] = &[
     (1, FRAME_FIRST),
     (1, BLANK_FIRST),
     (3, BLANK_LIGHTEST),
+    (1, BLANK_LAST),
+    (3, CLASSES_MIXED),
 ];
 
 pub const SHIFTED: &[HandRow] = &[
-    (1, 0, 4, false),
-    (2, 1, 20, false),
-    (3, 2, 9, true),
-    (4, 2, 2, false),
+    (1, 0, 4, Some(0)),
+    (2, 1, 20, Some(0)),
+    (3, 2, 9, None),
+    (4, 2, 2, Some(0)),
 ];
 
-pub const LEAPING: &[HandRow] = &[(1, 0, 4, false), (2, 1, 11, true)];
+pub const LEAPING: &[HandRow] = &[(1, 0, 4, Some(0)), (2, 1, 11, None)];
 
 /// A kept blank goes out before its due slot, a frame waiting.
-pub const BLANK_GOES: &[HandRow] = &[(1, 1, 5, true), (2, 1, 5, false)];
+pub const BLANK_GOES: &[HandRow] = &[(1, 1, 5, None), (2, 1, 5, Some(3))];
 
 pub const THREE_SHIFTS: &[HandRow] = &[
-    (1, 0, 5, false),
-    (2, 1, 20, false),
-    (3, 2, 4, false),
-    (4, 3, 3, true),
-    (5, 4, 2, false),
-    (6, 4, 1, false),
+    (1, 0, 5, Some(0)),
+    (2, 1, 20, Some(0)),
+    (3, 2, 4, Some(0)),
+    (4, 3, 3, None),
+    (5, 4, 2, Some(0)),
+    (6, 4, 1, Some(0)),
 ];
 
-/// A frame and a kept blank of equal weight: the smaller ticket first.
-pub const FRAME_FIRST: &[HandRow] = &[(1, 1, 5, false), (2, 1, 5, true), (3, 1, 5, false)];
+/// Frames of class 0 and a kept blank of equal weight: the kept blank last.
+pub const FRAME_FIRST: &[HandRow] = &[(1, 1, 5, Some(0)), (2, 1, 5, None), (3, 1, 5, Some(0))];
 
-pub const BLANK_FIRST: &[HandRow] = &[(1, 1, 5, true), (2, 1, 5, false), (3, 1, 5, true)];
+/// Frames of a kept blank's class: the smaller ticket first.
+pub const BLANK_FIRST: &[HandRow] = &[(1, 1, 5, None), (2, 1, 5, Some(3)), (3, 1, 5, None)];
+
+/// A frame of a smaller class goes before a kept blank.
+pub const BLANK_LAST: &[HandRow] = &[(1, 1, 5, None), (2, 1, 5, Some(2)), (3, 1, 5, Some(1))];
+
+/// Equals of every class, some left out.
+pub const CLASSES_MIXED: &[HandRow] = &[
+    (1, 1, 5, Some(3)),
+    (2, 1, 5, Some(2)),
+    (3, 3, 5, None),
+    (4, 1, 5, Some(1)),
+    (5, 3, 5, Some(3)),
+    (6, 3, 5, Some(0)),
+    (7, 3, 5, Some(1)),
+];
 
 /// A kept blank is the lightest of the first segment.
 pub const BLANK_LIGHTEST: &[HandRow] = &[
-    (1, 1, 9, false),
-    (2, 1, 3, true),
-    (3, 3, 8, false),
-    (4, 3, 7, false),
+    (1, 1, 9, Some(0)),
+    (2, 1, 3, None),
+    (3, 3, 8, Some(0)),
+    (4, 3, 7, Some(0)),
 ];
 
 /// The calls of a round by hand, its opening first.
@@ -105,14 +133,25 @@ pub fn calls(text: &str) -> Vec<Call> {
 
 fn call(word: &str) -> Call {
     match (word, word.split_once(':'), word.strip_prefix('O')) {
-        (_, Some((due, weight)), _) => Call::Take {
-            due: number(due),
-            weight: number(weight),
-        },
+        (_, Some((due, frame)), _) => taking(number(due), frame),
         (_, _, Some(last)) => Call::Open { last: number(last) },
         ("seal", ..) => Call::Seal,
         ("S", ..) => Call::Send,
         _ => panic!("no call: {word}"),
+    }
+}
+
+fn taking(due: u32, frame: &str) -> Call {
+    match frame.split_once('/') {
+        None => Call::Take {
+            due,
+            weight: number(frame),
+        },
+        Some((weight, class)) => Call::TakeClass {
+            due,
+            weight: number(weight),
+            class: number(class),
+        },
     }
 }
 
@@ -122,8 +161,8 @@ fn number(text: &str) -> u32 {
 
 /// A table of so many rows.
 pub fn table(rows: usize, last: u32, used: &[HandRow]) -> Vec<u8> {
-    let row = |&(ticket, due, weight, kept): &HandRow| {
-        Row::of_kind(kept, Ticket(ticket), Slot(due), Weight(weight))
+    let row = |&(ticket, due, weight, class): &HandRow| {
+        Row::of_kind(class.map(Class), Ticket(ticket), Slot(due), Weight(weight))
     };
     let next = used.last().map_or(1, |row| row.0 + 1);
     let round = Round {
@@ -136,11 +175,18 @@ pub fn table(rows: usize, last: u32, used: &[HandRow]) -> Vec<u8> {
     table
 }
 
-/// The rows of a round as "due:weight (ticket)", kept blanks with "kept".
+/// The rows of a round as "due:weight (ticket)", kept blanks with "kept", frames
+/// of another class than 0 as "due:weight/class (ticket)".
 pub fn shown(round: &Round) -> String {
     let show = |row: &Row| {
-        let kept = if row.kept { "kept " } else { "" };
-        format!("{kept}{}:{} (t{})", row.due.0, row.weight.0, row.ticket.0)
+        let (kept, class) = match row {
+            Row { kept: true, .. } => ("kept ", String::new()),
+            Row {
+                class: Class(0), ..
+            } => ("", String::new()),
+            Row { class, .. } => ("", format!("/{}", class.0)),
+        };
+        format!("{kept}{}:{}{class} (t{})", row.due.0, row.weight.0, row.ticket.0)
     };
     round.rows.iter().map(show).collect::<Vec<_>>().join(" ")
 }

@@ -1,7 +1,8 @@
-//! Rows and blanks side by side, and the two orders of document 01.
+//! Rows and blanks side by side, and the two orders of document 01, heavier
+//! as document 02 refines it (request L2).
 
-use crate::counts::{Slot, Ticket, Weight};
-use crate::round::Row;
+use crate::counts::{Class, Slot, Ticket, Weight};
+use crate::round::{Round, Row};
 use crate::rules::Rules;
 use std::cmp::Ordering;
 
@@ -10,6 +11,7 @@ use std::cmp::Ordering;
 pub struct Item {
     pub due: Slot,
     pub weight: Weight,
+    pub class: Class,
     pub ticket: Option<Ticket>,
 }
 
@@ -18,6 +20,7 @@ impl Item {
         Item {
             due: row.due,
             weight: row.weight,
+            class: row.class,
             ticket: Some(row.ticket),
         }
     }
@@ -26,18 +29,20 @@ impl Item {
         Item {
             due,
             weight: Weight(0),
+            class: Round::CLASS,
             ticket: None,
         }
     }
 }
 
 /// Heavier comes first: larger weight; if equal, earlier due slot; if equal,
-/// smaller ticket.
+/// smaller class; if equal, smaller ticket.
 pub fn heaviest_first(a: &Item, b: &Item) -> Ordering {
     let weight = b.weight.cmp(&a.weight);
     let due = a.due.cmp(&b.due);
+    let class = a.class.cmp(&b.class);
     let ticket = a.ticket.cmp(&b.ticket);
-    weight.then(due).then(ticket)
+    weight.then(due).then(class).then(ticket)
 }
 
 impl Rules {

@@ -2,7 +2,7 @@
 //! the refusal, 0 when accepted; a refusal has every other bit 0.
 
 use crate::call::Call;
-use crate::counts::{Slot, Ticket, Weight};
+use crate::counts::{Class, Slot, Ticket, Weight};
 use crate::questions::Substitute;
 use crate::refusal::Refusal;
 use crate::rules::Rules;
@@ -15,6 +15,9 @@ impl Rules {
             Call::Open { last } => packed(self.open(Slot(last), table), |()| 0),
             Call::Take { due, weight } => {
                 packed(self.take(Slot(due), Weight(weight), table), ticket)
+            }
+            Call::TakeClass { due, weight, class } => {
+                packed(self.take_class(Slot(due), Weight(weight), Class(class), table), ticket)
             }
             Call::Send => packed(self.send(table), step),
             Call::Seal => packed(self.seal(table), |()| 0),

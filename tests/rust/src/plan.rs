@@ -62,26 +62,31 @@ impl Free {
     }
 }
 
+/// From heaviest to lightest, then in canonical order.
+pub fn plan<'a>(round: &Round, rules: &'a Rules) -> Plan<'a> {
+    let mut plan = Plan {
+        rules,
+        slot: round.slot,
+        last: round.last,
+        members: Vec::new(),
+        outside: Vec::new(),
+        tight: vec![i64::from(round.slot.0) - 1],
+    };
+    let mut free = Free::new(round.slot, round.last);
+    plan.choose_rows(round, &mut free);
+    plan.choose_blanks(&mut free);
+    plan.members.sort_by(|a, b| rules.canonical(a, b));
+    for (s, left) in (round.slot.0..).zip(&free.left) {
+        if *left == 0 {
+            plan.tight.push(i64::from(s));
+        }
+    }
+    plan
+}
+
 impl<'a> Plan<'a> {
     pub fn of(round: &Round, rules: &'a Rules) -> Plan<'a> {
-        let mut plan = Plan {
-            rules,
-            slot: round.slot,
-            last: round.last,
-            members: Vec::new(),
-            outside: Vec::new(),
-            tight: vec![i64::from(round.slot.0) - 1],
-        };
-        let mut free = Free::new(round.slot, round.last);
-        plan.choose_rows(round, &mut free);
-        plan.choose_blanks(&mut free);
-        plan.members.sort_by(|a, b| rules.canonical(a, b));
-        for (s, left) in (round.slot.0..).zip(&free.left) {
-            if *left == 0 {
-                plan.tight.push(i64::from(s));
-            }
-        }
-        plan
+        (rules.planning.plan)(round, rules)
     }
 
     /// Every row weighs more than every blank, so the rows come first.

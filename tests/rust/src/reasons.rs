@@ -1,7 +1,7 @@
 //! The reasons to refuse, by the papers' numbers, and the order in which
 //! each call checks them. The first that applies is given.
 
-use crate::counts::{Slot, Ticket, Weight};
+use crate::counts::{Class, Slot, Ticket, Weight};
 use crate::listing::Entry;
 use crate::plan::Plan;
 use crate::refusal::Refusal;
@@ -21,7 +21,7 @@ pub const OPENING: &[Reason<Slot>] = &[
     (Refusal::LastTooLate, last_too_late),
 ];
 
-/// Taking a frame is checked by 2, 3, 5 to 9, and by 13 after 5.
+/// Taking a frame is checked by 2, 3, 5 to 9, by 13 after 5 and by 14 after 7.
 pub const TAKING: &[Reason<Frame>] = &[
     (Refusal::Length, bad_length),
     (Refusal::Unsound, unsound),
@@ -29,6 +29,7 @@ pub const TAKING: &[Reason<Frame>] = &[
     (Refusal::Sealed, sealed),
     (Refusal::Weight, bad_weight),
     (Refusal::Slot, |asked| outside(asked, asked.argument.due)),
+    (Refusal::Class, bad_class),
     (Refusal::Tickets, no_ticket_left),
     (Refusal::Full, full),
 ];
@@ -122,6 +123,11 @@ pub fn sealed<A>(asked: &Asked<A>) -> bool {
     asked.round().sealed
 }
 
+/// 14: the class is above 3.
+fn bad_class(asked: &Asked<Frame>) -> bool {
+    asked.argument.class > Round::CLASS
+}
+
 /// A reason to refuse a line to be written: by the line, if what is given
 /// could stand in one, and the bytes lent.
 pub type WritingReason = (Refusal, fn(Option<&[u8]>, usize) -> bool);
@@ -138,6 +144,7 @@ pub const WRITING: &[WritingReason] = &[
 pub struct Frame {
     pub due: Slot,
     pub weight: Weight,
+    pub class: Class,
 }
 
 /// A call on a lent table, as it is before the call, with its argument.

@@ -28,6 +28,8 @@ pub enum Refusal {
     Short = 12,
     /// The round is sealed.
     Sealed = 13,
+    /// The class is above 3.
+    Class = 14,
 }
 
 impl Refusal {

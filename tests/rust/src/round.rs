@@ -1,6 +1,6 @@
 //! A round as it stands between two calls.
 
-use crate::counts::{Slot, Ticket, Weight};
+use crate::counts::{Class, Slot, Ticket, Weight};
 use crate::order::Item;
 
 /// A waiting row: a frame, or a kept blank.
@@ -9,6 +9,7 @@ pub struct Row {
     pub ticket: Ticket,
     pub due: Slot,
     pub weight: Weight,
+    pub class: Class,
     /// True for a kept blank.
     pub kept: bool,
 }
@@ -25,27 +26,29 @@ pub struct Round {
 }
 
 impl Row {
-    pub fn frame(ticket: Ticket, due: Slot, weight: Weight) -> Row {
+    pub fn frame(ticket: Ticket, due: Slot, weight: Weight, class: Class) -> Row {
         Row {
             ticket,
             due,
             weight,
+            class,
             kept: false,
         }
     }
 
+    /// Kept blanks have class 3.
     pub fn kept_blank(ticket: Ticket, due: Slot, weight: Weight) -> Row {
         Row {
             kept: true,
-            ..Row::frame(ticket, due, weight)
+            ..Row::frame(ticket, due, weight, Round::CLASS)
         }
     }
 
-    /// One of the two.
-    pub fn of_kind(kept: bool, ticket: Ticket, due: Slot, weight: Weight) -> Row {
-        match kept {
-            true => Row::kept_blank(ticket, due, weight),
-            false => Row::frame(ticket, due, weight),
+    /// A frame of this class, or with none a kept blank.
+    pub fn of_kind(class: Option<Class>, ticket: Ticket, due: Slot, weight: Weight) -> Row {
+        match class {
+            Some(class) => Row::frame(ticket, due, weight, class),
+            None => Row::kept_blank(ticket, due, weight),
         }
     }
 }
@@ -57,6 +60,8 @@ impl Round {
     pub const LAST: Slot = Slot(4_095);
     /// The greatest weight.
     pub const WEIGHT: Weight = Weight(16_777_216);
+    /// The greatest class; kept blanks have it.
+    pub const CLASS: Class = Class(3);
     /// The greatest next ticket; with it no frame is taken.
     pub const TICKET: Ticket = Ticket(16_777_216);
 

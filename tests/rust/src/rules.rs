@@ -9,7 +9,7 @@ use crate::golden::{self, Score};
 use crate::leap::{self, Leap};
 use crate::listing::{self, Entry};
 use crate::order::{self, Item};
-use crate::plan::Plan;
+use crate::plan::{self, Plan};
 use crate::reasons::{self, Frame, Order, WritingOrder};
 use crate::round::{Round, Row};
 use crate::send;
@@ -53,9 +53,10 @@ pub struct Reasons {
     pub write: WritingOrder,
 }
 
-/// The definitions of plan and sending that are not the plan itself.
+/// The definitions of plan and sending.
 #[derive(Clone)]
 pub struct Planning {
+    pub plan: for<'a> fn(&Round, &'a Rules) -> Plan<'a>,
     /// Heavier comes first.
     pub heaviest_first: fn(&Item, &Item) -> Ordering,
     pub mark: fn(&Plan, Slot) -> Weight,
@@ -88,6 +89,7 @@ impl Rules {
             write: Cow::Borrowed(reasons::WRITING),
         },
         planning: Planning {
+            plan: plan::plan,
             heaviest_first: order::heaviest_first,
             mark: tight::mark,
             substitute: substitute::substitute,

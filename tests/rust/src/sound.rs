@@ -4,8 +4,8 @@ use crate::field::Field;
 use crate::round::Round;
 use crate::rules::Clause;
 use crate::table::{
-    zeros_at, DUE, HEAD, HEAD_FIELDS, KIND, LAST, NEXT, ROW, ROW_FIELDS, SEALED, SLOT, TICKET,
-    USED, WEIGHT,
+    zeros_at, CLASS, DUE, HEAD, HEAD_FIELDS, KIND, LAST, NEXT, ROW, ROW_FIELDS, SEALED, SLOT,
+    TICKET, USED, WEIGHT,
 };
 
 /// Document 01's clauses, in its order, and what the requests name for bytes
@@ -14,6 +14,8 @@ pub const CLAUSES: &[Clause] = &[
     ("zero bytes", |table| head_zeros(table) && row_zeros(table)),
     ("sealed", |table| SEALED.get(table) <= 1),
     ("kinds", |table| each(table, KIND, |kind| kind <= 1)),
+    ("classes", |table| each(table, CLASS, |class| class <= Round::CLASS.0)),
+    ("kept blanks' class", |table| used(table).all(|row| !is_kept(row) || has_last_class(row))),
     ("rows in use", |table| USED.get(table) as usize <= rows(table)),
     ("last slot", |table| LAST.get(table) <= Round::LAST.0),
     ("current slot", |table| SLOT.get(table) <= LAST.get(table) + 1),
@@ -54,6 +56,14 @@ pub fn each(table: &[u8], field: Field, holds: impl Fn(u32) -> bool) -> bool {
 pub fn pairs(table: &[u8]) -> impl Iterator<Item = (u32, u32)> + '_ {
     let tickets = used(table).map(|row| TICKET.get(row));
     [0].into_iter().chain(tickets.clone()).zip(tickets)
+}
+
+pub fn is_kept(row: &[u8]) -> bool {
+    KIND.get(row) == 1
+}
+
+pub fn has_last_class(row: &[u8]) -> bool {
+    CLASS.get(row) == Round::CLASS.0
 }
 
 pub fn is_zero(bytes: &[u8]) -> bool {

@@ -36,7 +36,7 @@ fn answer(rules: &Rules, command: Command, table: &mut [u8]) -> Result<String, R
         }
         Command::Take { due, weight } => {
             let ticket = rules.take(due, weight, table)?;
-            Ok(format!("01{:08X}\n", ticket.0))
+            Ok(taken(ticket))
         }
         Command::Send => {
             let step = rules.send(table)?;
@@ -46,7 +46,16 @@ fn answer(rules: &Rules, command: Command, table: &mut [u8]) -> Result<String, R
             rules.seal(table)?;
             Ok("03\n".to_string())
         }
+        Command::TakeClass { due, weight, class } => {
+            let ticket = rules.take_class(due, weight, class, table)?;
+            Ok(taken(ticket))
+        }
     }
+}
+
+/// The same for both lines that take a frame.
+fn taken(ticket: Ticket) -> String {
+    format!("01{:08X}\n", ticket.0)
 }
 
 /// What went out, the step, and the ticket; zeros stand for silence.

@@ -1,7 +1,7 @@
 //! The table's layout: a head of 16 bytes, then rows of 24. The bytes after
 //! the last field of each are zero.
 
-use crate::counts::{Slot, Ticket, Weight};
+use crate::counts::{Class, Slot, Ticket, Weight};
 use crate::field::{fields, Field};
 use crate::round::{Round, Row};
 
@@ -25,6 +25,7 @@ fields! {
     DUE, "due slot", 4, 2;
     WEIGHT, "weight", 6, 4;
     KIND, "kind", 10, 1;
+    CLASS, "class", 11, 1;
 }
 
 /// Where the zero bytes begin, after these fields.
@@ -72,6 +73,7 @@ fn get_row(bytes: &[u8]) -> Row {
         ticket: Ticket(TICKET.get(bytes)),
         due: Slot(DUE.get(bytes)),
         weight: Weight(WEIGHT.get(bytes)),
+        class: Class(CLASS.get(bytes)),
         kept: KIND.get(bytes) == 1,
     }
 }
@@ -95,4 +97,5 @@ pub fn put_row(row: &Row, bytes: &mut [u8]) {
     DUE.put(bytes, row.due.0);
     WEIGHT.put(bytes, row.weight.0);
     KIND.put(bytes, u32::from(row.kept));
+    CLASS.put(bytes, row.class.0);
 }

@@ -5,9 +5,10 @@ use second::call::{Call, CallName};
 use second::compare::kinds::{run, Found, Settings};
 use second::compare::library::Library;
 use second::compare::tally::{Outcome, Tally};
+use second::compare::ties::PARTS;
 use second::faults::Fault;
 use second::rules::Rules;
-use second::table::{row_at, WEIGHT};
+use second::table::{row_at, row_mut, CLASS, USED, WEIGHT};
 
 const SHORT: Settings = Settings {
     seed: 3,
@@ -24,9 +25,10 @@ fn meets_every_outcome() {
     let Ok(tally) = compared(Rules::PAPERS, Rules::PAPERS) else {
         panic!("it differs from itself");
     };
-    let refusals: [(CallName, &[u8]); 7] = [
+    let refusals: [(CallName, &[u8]); 8] = [
         (CallName::Open, &[2, 4]),
         (CallName::Take, &[2, 3, 5, 6, 7, 8, 9, 13]),
+        (CallName::TakeClass, &[2, 3, 5, 6, 7, 8, 9, 13, 14]),
         (CallName::Send, &[2, 3, 5]),
         (CallName::Seal, &[2, 3, 5]),
         (CallName::Mark, &[2, 3, 5, 7]),
@@ -34,7 +36,7 @@ fn meets_every_outcome() {
         (CallName::Substitute, &[2, 3, 5, 10, 11]),
     ];
     for (call, numbers) in refusals {
-        for number in 1..=13 {
+        for number in 1..=14 {
             let met = tally.met(call, Outcome::Refused(number)) > 0;
             assert_eq!(met, numbers.contains(&number), "{call:?} {number}");
         }
@@ -50,6 +52,9 @@ fn meets_every_outcome() {
         assert_eq!(tally.met(CallName::Send, Outcome::SentSealed(what, true)), 0);
     }
     assert!(tally.met(CallName::Substitute, Outcome::Blank) > 9);
+    for (part, _) in PARTS {
+        assert!(tally.decided(part) > 3, "{part}");
+    }
 }
 
 #[test]
@@ -85,7 +90,7 @@ impl Library for Wrong {
 fn catches_wrong_libraries() {
     let unchanged = Wrong(|_, _, reply| reply);
     assert!(compared(&unchanged, Rules::PAPERS).is_ok());
-    let wrong: [Change; 5] = [
+    let wrong: [Change; 6] = [
         // Turns every call down.
         |_, _, _| 3,
         // Always silent.
@@ -102,6 +107,14 @@ fn catches_wrong_libraries() {
         |_, table, reply| {
             if reply == 9 {
                 table[row_at(1) - 1] = 1;
+            }
+            reply
+        },
+        // Loses the class of each frame taken.
+        |call, table, reply| {
+            if matches!(call, Call::TakeClass { .. }) && reply & 0xFF == 0 {
+                let used = USED.get(table) as usize;
+                CLASS.put(row_mut(table, used - 1), 0);
             }
             reply
         },

@@ -1,6 +1,7 @@
 //! The third demand by brute force, on small rounds and drawn lists of calls.
 
 use second::call::Call;
+use second::compare::classes::{taking, Classes};
 use second::compare::draw::Draw;
 use second::counts::Slot;
 use second::faults;
@@ -96,10 +97,10 @@ fn drawn(draw: &mut Draw, most: u32, falling: bool, table: &[u8]) -> Call {
     let due = draw.between(round.slot.0.min(round.last.0), round.last.0 + 1);
     let later = due.saturating_sub(round.slot.0);
     match draw.below(16) {
-        0..=9 => Call::Take {
-            due,
-            weight: weight(draw, most, falling, later),
-        },
+        0..=9 => {
+            let weight = weight(draw, most, falling, later);
+            taking(draw, due, weight, Classes::Any)
+        }
         10 => Call::Mark { slot: due },
         11 => Call::Total,
         12 => Call::Open { last: 4_096 },
@@ -115,7 +116,9 @@ fn holds(second: &Rules, call: Call, table: &mut [u8]) -> bool {
     let refused = reply & 0xFF != 0;
     let grows = match call {
         _ if refused => *table == before[..],
-        Call::Take { due, weight } => newcomer_adds(second, &before, table, due, weight),
+        Call::Take { due, weight } | Call::TakeClass { due, weight, .. } => {
+            newcomer_adds(second, &before, table, due, weight)
+        }
         _ => true,
     };
     let hold = marks_hold(&marks(second, &before), &marks(second, table));

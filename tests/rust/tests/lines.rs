@@ -2,7 +2,7 @@
 
 use second::command::Command;
 use second::compare::draw::Draw;
-use second::counts::{Slot, Weight};
+use second::counts::{Class, Slot, Weight};
 use second::refusal::Refusal;
 use second::rules::Rules;
 
@@ -15,6 +15,14 @@ fn take(due: u32, weight: u32) -> Command {
     }
 }
 
+fn classed(due: u32, weight: u32, class: u32) -> Command {
+    Command::TakeClass {
+        due: Slot(due),
+        weight: Weight(weight),
+        class: Class(class),
+    }
+}
+
 #[test]
 fn good_lines() {
     assert_eq!(SECOND.read(b"000ABC\n"), Ok(Command::Open { last: Slot(0xABC) }));
@@ -24,12 +32,17 @@ fn good_lines() {
     assert_eq!(SECOND.read(b"01FFFFFFFFFFFF\n"), Ok(take(0xFFFF, 0xFFFF_FFFF)));
     let longest = format!("010001000000FF{}\n", "A5".repeat(24));
     assert_eq!(SECOND.read(longest.as_bytes()), Ok(take(1, 255)));
+    assert_eq!(SECOND.read(b"04000100000005FF\n"), Ok(classed(1, 5, 255)));
+    assert_eq!(SECOND.read(b"0400010000000500\n"), Ok(classed(1, 5, 0)));
+    let longest = format!("040001000000FF02{}\n", "A5".repeat(24));
+    assert_eq!((longest.len(), SECOND.read(longest.as_bytes())), (65, Ok(classed(1, 255, 2))));
 }
 
 #[test]
 fn broken_lines() {
     let too_long = format!("010001000000FF{}\n", "A5".repeat(25));
-    let lines: [&[u8]; 18] = [
+    let too_long_04 = format!("040001000000FF02{}\n", "A5".repeat(25));
+    let lines: [&[u8]; 26] = [
         b"",
         b"\n",
         b"0\n",
@@ -48,6 +61,14 @@ fn broken_lines() {
         b"01000100000001ab\n",
         b"00\n0001\n",
         too_long.as_bytes(),
+        b"05\n",
+        b"04000100000001\n",
+        b"040001000000010\n",
+        b"040001000000010g\n",
+        b"040001000000010a\n",
+        b"0400010000000102A\n",
+        b"0400010000000102",
+        too_long_04.as_bytes(),
     ];
     for line in lines {
         assert_eq!(SECOND.read(line), Err(Refusal::Line), "{line:?}");
@@ -63,6 +84,10 @@ fn the_payload_is_a_part_of_the_line() {
     let bare = b"01000000000004\n";
     assert_eq!(SECOND.payload_place(bare), (0, 0));
     assert_eq!(SECOND.payload(bare).as_ptr(), bare.as_ptr());
+    let classed = b"040000000000040300000004\n";
+    assert_eq!(SECOND.payload_place(classed), (16, 24));
+    assert_eq!(SECOND.payload(classed).as_ptr(), classed[16..].as_ptr());
+    assert_eq!(SECOND.payload_place(b"0400000000000403\n"), (0, 0));
     assert_eq!(SECOND.payload_place(b"02\n"), (0, 0));
     assert_eq!(SECOND.payload_place(b"03\n"), (0, 0));
 }
@@ -71,7 +96,7 @@ fn the_payload_is_a_part_of_the_line() {
 fn the_writer_refuses_1_before_12() {
     let mut buffer = [7; 63];
     let long = [b'A'; 50];
-    let refused: [(Command, &[u8]); 8] = [
+    let refused: [(Command, &[u8]); 13] = [
         (
             Command::Open {
                 last: Slot(0x10000),
@@ -85,12 +110,18 @@ fn the_writer_refuses_1_before_12() {
         (take(1, 1), b"0"),
         (take(1, 1), b"0a"),
         (take(1, 1), &long),
+        (classed(0x10000, 1, 1), b""),
+        (classed(1, 1, 0x100), b""),
+        (classed(1, 1, 1), b"0"),
+        (classed(1, 1, 1), b"0a"),
+        (classed(1, 1, 1), &long),
     ];
     for (command, digits) in refused {
         assert_eq!(SECOND.write(command, digits, &mut buffer), Err(Refusal::Line));
         assert_eq!(SECOND.write(command, digits, &mut []), Err(Refusal::Line));
     }
     assert_eq!(SECOND.write(take(1, 0), b"", &mut buffer[..14]), Err(Refusal::Short));
+    assert_eq!(SECOND.write(classed(1, 0, 255), b"", &mut buffer[..16]), Err(Refusal::Short));
     assert_eq!(SECOND.write(Command::Send, b"", &mut buffer[..2]), Err(Refusal::Short));
     assert_eq!(SECOND.write(Command::Seal, b"", &mut buffer[..2]), Err(Refusal::Short));
     assert_eq!(buffer, [7; 63]);
@@ -103,17 +134,13 @@ fn drawn(draw: &mut Draw) -> (Command, Vec<u8>) {
     let digits = (0..2 * bytes)
         .map(|_| *draw.pick(b"0123456789ABCDEF"))
         .collect();
-    match draw.below(4) {
+    let weight = draw.number() as u32;
+    match draw.below(5) {
         0 => (Command::Open { last: slot }, Vec::new()),
         1 => (Command::Send, Vec::new()),
         2 => (Command::Seal, Vec::new()),
-        _ => (
-            Command::Take {
-                due: slot,
-                weight: Weight(draw.number() as u32),
-            },
-            digits,
-        ),
+        3 => (classed(slot.0, weight, draw.between(0, 255)), digits),
+        _ => (take(slot.0, weight), digits),
     }
 }
 

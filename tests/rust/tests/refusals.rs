@@ -1,12 +1,12 @@
 //! Each refusal under its condition, in order, and nothing changed by it.
 
 use second::call::Call;
-use second::counts::{Slot, Ticket, Weight};
+use second::counts::{Class, Slot, Ticket, Weight};
 use second::hand::table;
 use second::listing::Entry;
 use second::refusal::Refusal;
 use second::rules::Rules;
-use second::table::{row_at, row_mut, NEXT, SEALED, SLOT, TICKET};
+use second::table::{row_at, row_mut, CLASS, NEXT, SEALED, SLOT, TICKET};
 
 /// A refused call: its number, and the table as it was.
 fn refused(call: Call, table: &[u8], number: u64) {
@@ -16,10 +16,14 @@ fn refused(call: Call, table: &[u8], number: u64) {
 }
 
 /// Every call with arguments that no number but 2, 3 and 5 speaks against.
-fn every_call() -> [Call; 6] {
-    let take = Call::Take { due: 0, weight: 1 };
+fn every_call() -> [Call; 7] {
     [
-        take,
+        Call::Take { due: 0, weight: 1 },
+        Call::TakeClass {
+            due: 0,
+            weight: 1,
+            class: 3,
+        },
         Call::Send,
         Call::Seal,
         Call::Mark { slot: 0 },
@@ -46,11 +50,17 @@ fn two_then_three_then_five() {
     }
     refused(Call::Take { due: 9, weight: 0 }, &over, 5);
     refused(Call::Mark { slot: 9 }, &over, 5);
+    let class = Call::TakeClass {
+        due: 9,
+        weight: 0,
+        class: 4,
+    };
+    refused(class, &over, 5);
 }
 
 #[test]
 fn six_to_nine() {
-    let mut full = table(1, 2, &[(16_777_215, 1, 1, false)]);
+    let mut full = table(1, 2, &[(16_777_215, 1, 1, Some(0))]);
     let take = |due, weight| Call::Take { due, weight };
     refused(take(3, 0), &full, 6);
     refused(take(3, 16_777_217), &full, 6);
@@ -62,19 +72,64 @@ fn six_to_nine() {
     refused(take(2, 1), &full, 9);
 }
 
+/// 14 comes after 7 and before 8; class 3 is taken.
+#[test]
+fn fourteen_in_taking() {
+    let take = |due, weight, class| Call::TakeClass { due, weight, class };
+    let mut full = table(1, 2, &[(16_777_215, 1, 1, Some(3))]);
+    refused(take(3, 0, 4), &full, 6);
+    refused(take(3, 1, 4), &full, 7);
+    for class in [4, 5, 255, 256, 259, 65_536, u32::MAX] {
+        refused(take(2, 1, class), &full, 14);
+    }
+    for class in 0..=3 {
+        refused(take(2, 1, class), &full, 8);
+    }
+    NEXT.put(&mut full, 16_777_215);
+    TICKET.put(row_mut(&mut full, 0), 1);
+    refused(take(2, 1, 4), &full, 14);
+    refused(take(2, 1, 3), &full, 9);
+    SEALED.put(&mut full, 1);
+    refused(take(2, 1, 4), &full, 13);
+}
+
+/// A class above 3 is not sound, nor is a kept blank of another class.
+#[test]
+fn classes_of_rows() {
+    let mut lent = table(3, 2, &[(2, 1, 5, Some(1)), (4, 2, 5, None)]);
+    for class in 0..=255 {
+        CLASS.put(row_mut(&mut lent, 0), class);
+        let reply = Rules::PAPERS.answer(Call::Total, &mut lent);
+        assert_eq!(reply, if class <= 3 { 10 << 8 } else { 3 }, "class {class}");
+    }
+    CLASS.put(row_mut(&mut lent, 0), 3);
+    for class in (0..=255).filter(|class| *class != 3) {
+        CLASS.put(row_mut(&mut lent, 1), class);
+        for call in every_call() {
+            refused(call, &lent, 3);
+        }
+    }
+    CLASS.put(row_mut(&mut lent, 1), 3);
+    for at in 12..24 {
+        row_mut(&mut lent, 1)[at] = 3;
+        refused(Call::Total, &lent, 3);
+        row_mut(&mut lent, 1)[at] = 0;
+    }
+}
+
 /// 13 comes after 5 and before 6; every other call goes on, and a value above
 /// 1 is not sound.
 #[test]
 fn thirteen_in_taking() {
     let take = |due, weight| Call::Take { due, weight };
-    let mut sealed = table(1, 2, &[(16_777_215, 1, 1, false)]);
+    let mut sealed = table(1, 2, &[(16_777_215, 1, 1, Some(0))]);
     SEALED.put(&mut sealed, 1);
     for call in [take(1, 1), take(3, 1), take(3, 0), take(65_536, 16_777_217)] {
         refused(call, &sealed, 13);
     }
     for call in every_call()
         .into_iter()
-        .skip(1)
+        .skip(2)
         .chain([Call::Open { last: 9 }])
     {
         let number = match call {
@@ -102,7 +157,7 @@ fn thirteen_in_taking() {
 /// does not.
 #[test]
 fn sealing_sets_one_byte() {
-    let open = table(3, 2, &[(2, 1, 5, false), (4, 2, 5, true)]);
+    let open = table(3, 2, &[(2, 1, 5, Some(0)), (4, 2, 5, None)]);
     let mut sealed = open.clone();
     sealed[10] = 1;
     let mut lent = open.clone();
@@ -117,7 +172,7 @@ fn sealing_sets_one_byte() {
 
 #[test]
 fn ten_and_eleven() {
-    let lent = table(3, 0, &[(2, 0, 5, false), (4, 0, 5, false)]);
+    let lent = table(3, 0, &[(2, 0, 5, Some(0)), (4, 0, 5, Some(0))]);
     for ticket in [0, 1, 3, 5, u32::MAX] {
         refused(Call::Substitute { ticket }, &lent, 10);
     }
@@ -128,7 +183,7 @@ fn ten_and_eleven() {
 
 #[test]
 fn twelve_in_listing() {
-    let lent = table(3, 3, &[(2, 0, 5, false), (4, 1, 5, true), (6, 0, 4, false)]);
+    let lent = table(3, 3, &[(2, 0, 5, Some(0)), (4, 1, 5, None), (6, 0, 4, Some(0))]);
     let none = Entry {
         ticket: Ticket(9),
         due: Slot(9),
@@ -160,22 +215,23 @@ fn opening_reads_no_old_content() {
 /// One table byte for byte, with values above 255 in every field.
 #[test]
 fn layout() {
-    let row = (0x01_0203, 0x0405, 0x06_0708, true);
+    let row = (0x01_0203, 0x0405, 0x06_0708, None);
     let mut lent = table(2, 0x0908, &[row]);
     SLOT.put(&mut lent, 0x0102);
     let mut bytes = vec![
         0x02, 0x01, 0x08, 0x09, 0x04, 0x02, 0x01, 0, 1, 0, 0, 0, 0, 0, 0, 0,
     ];
-    bytes.extend([0x03, 0x02, 0x01, 0, 0x05, 0x04, 0x08, 0x07, 0x06, 0, 1]);
+    bytes.extend([0x03, 0x02, 0x01, 0, 0x05, 0x04, 0x08, 0x07, 0x06, 0, 1, 3]);
     bytes.resize(64, 0);
     assert_eq!(lent, bytes);
-    let ticket = Rules::PAPERS.take(Slot(0x0907), Weight(0x0A_0B0C), &mut lent);
+    let (due, weight) = (Slot(0x0907), Weight(0x0A_0B0C));
+    let ticket = Rules::PAPERS.take_class(due, weight, Class(2), &mut lent);
     assert_eq!(ticket, Ok(Ticket(0x01_0204)));
     let mut after = vec![
         0x02, 0x01, 0x08, 0x09, 0x05, 0x02, 0x01, 0, 2, 0, 0, 0, 0, 0, 0, 0,
     ];
     after.extend(&bytes[16..40]);
-    after.extend([0x04, 0x02, 0x01, 0, 0x07, 0x09, 0x0C, 0x0B, 0x0A, 0, 0]);
+    after.extend([0x04, 0x02, 0x01, 0, 0x07, 0x09, 0x0C, 0x0B, 0x0A, 0, 0, 2]);
     after.resize(64, 0);
     assert_eq!(lent, after);
 }

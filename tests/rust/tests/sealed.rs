@@ -3,6 +3,7 @@
 //! once its due slot is sent, and no mark sinks.
 
 use second::call::Call;
+use second::compare::classes::{taking, Classes};
 use second::compare::draw::Draw;
 use second::counts::Slot;
 use second::faults;
@@ -64,10 +65,10 @@ fn drawn(draw: &mut Draw, last: u32, most: u32, table: &[u8]) -> Call {
     let due = draw.between(round.slot.0.min(last), last);
     let takes = if round.sealed { 3 } else { 12 };
     match draw.below(20) {
-        chance if chance < takes => Call::Take {
-            due,
-            weight: draw.between(1, most),
-        },
+        chance if chance < takes => {
+            let weight = draw.between(1, most);
+            taking(draw, due, weight, Classes::Any)
+        }
         15 => Call::Mark { slot: due },
         16 => Call::Total,
         17 if draw.once_in(6) => Call::Open { last },

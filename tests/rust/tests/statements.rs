@@ -101,11 +101,11 @@ fn equals_and_idle_slots() {
 fn kept_blanks_anywhere() {
     leaves(2, SHIFTED, leap(2), "kept 1:9 (t3) 2:4 (t4)");
     leaves(1, LEAPING, Step::Leap(kept(2)), "kept 1:4 (t2)");
-    leaves(1, BLANK_GOES, Step::Ordinary(kept(1)), "1:5 (t2)");
+    leaves(1, BLANK_GOES, Step::Ordinary(kept(1)), "1:5/3 (t2)");
     let shifted = "1:5 (t3) kept 2:4 (t4) 3:3 (t5) 4:2 (t6)";
     leaves(4, THREE_SHIFTS, leap(2), shifted);
     leaves(1, FRAME_FIRST, ordinary(1), "kept 1:5 (t2) 1:5 (t3)");
-    let frame = "1:5 (t2) kept 1:5 (t3)";
+    let frame = "1:5/3 (t2) kept 1:5 (t3)";
     leaves(1, BLANK_FIRST, Step::Ordinary(kept(1)), frame);
     let rest = "kept 1:3 (t2) 3:8 (t3) 3:7 (t4)";
     leaves(3, BLANK_LIGHTEST, ordinary(1), rest);
@@ -117,9 +117,9 @@ fn kept_blanks_anywhere() {
 fn sealed_tables() {
     sealed(2, SHIFTED, ordinary(1), "1:20 (t2) kept 2:9 (t3) 2:2 (t4)");
     sealed(1, LEAPING, ordinary(1), "kept 1:11 (t2)");
-    sealed(1, BLANK_GOES, Step::Ordinary(kept(1)), "1:5 (t2)");
+    sealed(1, BLANK_GOES, Step::Ordinary(kept(1)), "1:5/3 (t2)");
     sealed(1, FRAME_FIRST, ordinary(1), "kept 1:5 (t2) 1:5 (t3)");
-    sealed(1, BLANK_FIRST, Step::Ordinary(kept(1)), "1:5 (t2) kept 1:5 (t3)");
+    sealed(1, BLANK_FIRST, Step::Ordinary(kept(1)), "1:5/3 (t2) kept 1:5 (t3)");
     let rest = "kept 1:3 (t2) 3:8 (t3) 3:7 (t4)";
     sealed(3, BLANK_LIGHTEST, ordinary(1), rest);
 }

@@ -3,6 +3,7 @@ use mathlib.Core.Path.{_≡_}
 use Prim.Native.Nat.{_≤_}
 use native.Mathlib.Omega.{arith}
 use lib.ListN.{length, length-take}
+use Rattle.rules.specs.Reads.{longest-line}
 use Rattle.serving.proofs.OneRead.{held-short, wrote-within}
 use Rattle.stationround.proofs.SoFar.{So-far, so-far-none, so-far-more}
 use borrow.Author.Needs.{needs}
@@ -11,7 +12,7 @@ use Rattle.stationround.proofs.main.Tie as tie
 
 abbrev Inv-loop : tie.InvT-loop
 Inv-loop table₀ input₀ out₀ held₀ turns₀ table input out held turns =
-    (length table ≡ 24592) × (length input ≡ 4096) × (length out ≡ 65536) × (held ≤ 63) × So-far table input held
+    (length table ≡ 24592) × (length input ≡ 4096) × (length out ≡ 65536) × (held ≤ longest-line) × So-far table input held
 
 abbrev μ-loop : tie.MeasureT-loop
 μ-loop table₀ input₀ out₀ held₀ turns₀ table input out held turns = turns

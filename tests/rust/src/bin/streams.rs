@@ -3,7 +3,7 @@
 
 use second::call::CallName;
 use second::ending::{caught, enough, with_program, Ended};
-use second::faults::Fault;
+use second::faults::{self, Fault};
 use second::kind::counted;
 use second::programs::files::KINDS;
 use second::programs::pipes::{closed, paced};
@@ -39,12 +39,14 @@ const LEAST: &[(&str, usize)] = &[
     ("FF07", 500),
     ("FF09", 30),
     ("FF0D", 1_000),
+    ("FF0E", 500),
 ];
 
 /// The calls whose faults lines show.
 const SHOWN_BY: &[CallName] = &[
     CallName::Open,
     CallName::Take,
+    CallName::TakeClass,
     CallName::Send,
     CallName::Seal,
     CallName::Read,
@@ -125,7 +127,10 @@ fn least(runs: &[Run]) -> Result<(), String> {
         let met = replies.filter(|reply| reply.starts_with(start.as_bytes()));
         enough("streams", &format!("{start}.."), met.count(), *least)?;
     }
-    Ok(())
+    let old = faults::with("ClassNotCompared");
+    let decided = |run: &&Run| old.printed(&run.file).as_bytes() != run.output;
+    let met = runs.iter().filter(decided).count();
+    enough("streams", "files that classes decide", met, 600)
 }
 
 /// Parts of the input as they reach the program.

@@ -3,7 +3,7 @@
 
 use second::call::CallName;
 use second::ending::{caught, enough, with_program, Ended};
-use second::faults::Fault;
+use second::faults::{self, Fault};
 use second::kind::counted;
 use second::programs::process::{ended_well, run, Watch};
 use second::programs::requests::KINDS;
@@ -42,6 +42,16 @@ const LEAST: &[(u8, u8, usize)] = &[
     (1, 12, 500),
     (2, 0, 3_000),
     (2, 1, 1_500),
+];
+
+/// How often at least the class decides: what is listed, and in which order; and
+/// how often a line has one.
+const DECIDED: &[(&str, usize)] = &[
+    ("ClassNotCompared", 600),
+    ("PlanWithoutClass", 400),
+    ("ListedWithoutClass", 300),
+    ("ClassUnread", 500),
+    ("ClassUnwritten", 200),
 ];
 
 fn main() -> ExitCode {
@@ -130,6 +140,12 @@ fn least(tried: &[Tried]) -> Result<(), String> {
         let met = tried.iter().filter(met).count();
         let what = format!("kind {kind}, refusal {refusal}");
         enough("trials", &what, met, *least)?;
+    }
+    for (name, least) in DECIDED {
+        let second = faults::with(name);
+        let decided = |one: &&Tried| one.request.outcome(&second) != one.outcome;
+        let met = tried.iter().filter(decided).count();
+        enough("trials", &format!("shown with {name}"), met, *least)?;
     }
     Ok(())
 }

@@ -14,11 +14,11 @@ const LENGTH: u64 = row_at(4) as u64;
 /// second with values above 255 in every field.
 fn base(which: u64) -> Vec<u8> {
     if which == 0 {
-        return hand::table(4, 3, &[(2, 1, 7, false), (5, 2, 9, true)]);
+        return hand::table(4, 3, &[(2, 1, 7, Some(0)), (5, 2, 9, None)]);
     }
     let rows = [
-        (0x01_0203, 0x0304, 0x10_0203, true),
-        (0x01_0305, 0x0405, 0x0304, false),
+        (0x01_0203, 0x0304, 0x10_0203, None),
+        (0x01_0305, 0x0405, 0x0304, Some(2)),
     ];
     let mut table = hand::table(4, 0x0506, &rows);
     SLOT.put(&mut table, 0x0203);
@@ -33,6 +33,15 @@ pub fn run(bench: &mut Bench, _: &mut Draw, case: u64) -> Agreed<()> {
     for value in 0..=255 {
         table[at] = value;
         bench.check_aside(Call::Take { due, weight: 6 }, &table)?;
+        let class = u32::from(value) % 5;
+        bench.check_aside(
+            Call::TakeClass {
+                due,
+                weight: 6,
+                class,
+            },
+            &table,
+        )?;
         bench.check_aside(Call::Mark { slot: due }, &table)?;
         bench.check_aside(Call::Total, &table)?;
         bench.check_aside(Call::Substitute { ticket }, &table)?;

@@ -3,12 +3,15 @@
 
 use crate::call::Call;
 use crate::compare::bench::{Agreed, Bench};
+use crate::compare::classes::{classes, taking};
 use crate::compare::draw::Draw;
 use crate::compare::extremes::NUMBERS;
 use crate::compare::tables::{drawn, size};
 use crate::field::Field;
 use crate::round::Round;
-use crate::table::{row_at, row_mut, zeros_at, HEAD, HEAD_FIELDS, ROW, ROW_FIELDS, TICKET};
+use crate::table::{
+    row_at, row_mut, zeros_at, CLASS, HEAD, HEAD_FIELDS, KIND, ROW, ROW_FIELDS, TICKET,
+};
 
 /// A sound table about to be damaged.
 pub struct Target {
@@ -29,6 +32,17 @@ const DAMAGES: &[Damage] = &[
         let at = draw.between(zeros_at(ROW_FIELDS) as u32, ROW as u32 - 1);
         let place = target.place(draw);
         row_mut(&mut target.table, place)[at as usize] = draw.between(1, 255) as u8;
+    }),
+    ("class", 1, |target, draw| {
+        let place = target.place(draw);
+        let class = *draw.pick(&[0, 1, 2, 3, 4, 5, 7, 128, 255]);
+        CLASS.put(row_mut(&mut target.table, place), class);
+    }),
+    ("kept blank's class", 1, |target, draw| {
+        let place = target.place(draw);
+        let row = row_mut(&mut target.table, place);
+        KIND.put(row, 1);
+        CLASS.put(row, draw.between(0, 4));
     }),
     ("first ticket", 1, |target, draw| {
         let second = target.round.rows.get(1).map_or(9, |row| row.ticket.0);
@@ -150,11 +164,13 @@ pub fn run(bench: &mut Bench, draw: &mut Draw, case: u64) -> Agreed<()> {
     let due = draw.between(target.round.slot.0.min(target.round.last.0), target.round.last.0);
     let weight = draw.between(1, Round::WEIGHT.0);
     let ticket = target.round.rows.first().map_or(1, |row| row.ticket.0);
-    bench.check_aside(Call::Take { due, weight }, &target.table)?;
+    let classes = classes(draw);
+    bench.check_aside(taking(draw, due, weight, classes), &target.table)?;
     bench.check_aside(
-        Call::Take {
+        Call::TakeClass {
             due: 65_535,
             weight: 0,
+            class: 4,
         },
         &target.table,
     )?;

@@ -4,7 +4,7 @@ use crate::call::Call;
 use crate::compare::bench::{Agreed, Bench};
 use crate::compare::draw::Draw;
 use crate::compare::tables::table;
-use crate::counts::{Slot, Ticket, Weight};
+use crate::counts::{Class, Slot, Ticket, Weight};
 use crate::round::{Round, Row};
 
 pub const NUMBERS: &[u32] = &[
@@ -47,7 +47,8 @@ fn round(case: u64) -> Round {
     let row = |place: u32| {
         let due = Slot(if place == 1 { slot } else { last });
         let weight = Weight([1, 16_777_216, 16_777_215][place as usize]);
-        Row::of_kind(place == 2, Ticket(next - 3 + place), due, weight)
+        let class = (place < 2).then_some(Class(3 * place));
+        Row::of_kind(class, Ticket(next - 3 + place), due, weight)
     };
     let rows = (0..used).map(row).collect();
     Round {
@@ -82,6 +83,12 @@ pub fn run(bench: &mut Bench, _: &mut Draw, case: u64) -> Agreed<()> {
         bench.check_aside(Call::Mark { slot: first }, &table)?;
         for weight in NUMBERS.iter().copied() {
             bench.check_aside(Call::Take { due: first, weight }, &table)?;
+        }
+        for class in [3, 4].iter().chain(NUMBERS).copied() {
+            for weight in [0, 1, 16_777_216] {
+                let due = first;
+                bench.check_aside(Call::TakeClass { due, weight, class }, &table)?;
+            }
         }
     }
     for ticket in NUMBERS.iter().chain(&tickets).copied() {

@@ -3,6 +3,7 @@
 
 use crate::call::Call;
 use crate::compare::bench::{Agreed, Bench};
+use crate::compare::classes::{class, classes, taking, taking_of, Classes};
 use crate::compare::draw::Draw;
 use crate::compare::tables::{weight, weights, Weights};
 use crate::round::Round;
@@ -17,6 +18,7 @@ struct Frames {
     /// How many slots ahead they are due at most.
     reach: u32,
     weights: Weights,
+    classes: Classes,
     /// One due in each slot, lighter from slot to slot: long leaps.
     falling: bool,
 }
@@ -26,6 +28,7 @@ impl Frames {
         Frames {
             reach: *draw.pick(&[16, 512, 1_023, 1_024, 2_048, 4_095]),
             weights: weights(draw),
+            classes: classes(draw),
             falling: draw.once_in(4),
         }
     }
@@ -34,15 +37,13 @@ impl Frames {
     fn next(&self, draw: &mut Draw, slot: u32, before: u32) -> Call {
         if self.falling && before < Round::ROWS as u32 {
             let weight = 2 * (Round::ROWS as u32 - before) + draw.between(0, 3);
-            return Call::Take {
-                due: before,
-                weight,
-            };
+            let class = class(draw, self.classes);
+            return taking_of(draw, before, weight, class);
         }
-        Call::Take {
-            due: (slot + draw.between(0, self.reach)).min(Round::LAST.0),
-            weight: weight(draw, self.weights),
-        }
+        let due = (slot + draw.between(0, self.reach)).min(Round::LAST.0);
+        let weight = weight(draw, self.weights);
+        let class = class(draw, self.classes);
+        taking_of(draw, due, weight, class)
     }
 }
 
@@ -82,7 +83,7 @@ fn questions(
     table: &[u8],
 ) -> Agreed<()> {
     let due = draw.between(slot, Round::LAST.0);
-    bench.check_aside(Call::Take { due, weight: 1 }, table)?;
+    bench.check_aside(taking(draw, due, 1, Classes::Any), table)?;
     let near = draw.between(slot, slot + 1_100);
     bench.check_aside(Call::Mark { slot: near }, table)?;
     bench.check_aside(Call::Total, table)?;

@@ -5,7 +5,7 @@ use crate::compare::draw::Draw;
 use crate::compare::library::Library;
 use crate::compare::tally::Tally;
 use crate::compare::{
-    bytes, damage, extremes, fullest, hands, large, lengths, lists, sealed, sound, unused,
+    bytes, damage, extremes, fullest, hands, large, lengths, lists, sealed, sound, ties, unused,
 };
 use crate::kind::Kind;
 use crate::rules::Rules;
@@ -24,6 +24,7 @@ pub const KINDS: &[Kind<Case>] = &[
     Kind::drawn("large", 200, large::run),
     Kind::fixed("unused", unused::CASES, unused::run),
     Kind::drawn("sealed", 6_000, sealed::run),
+    Kind::drawn("classes", 8_000, ties::run),
 ];
 
 /// What the long run has beside them.

@@ -3,12 +3,14 @@
 
 use crate::call::Call;
 use crate::compare::bench::{Agreed, Bench};
+use crate::compare::classes::{classes, taking};
 use crate::compare::draw::Draw;
 use crate::compare::tables::{round, table, Size};
 use crate::hand;
 
 pub fn run(bench: &mut Bench, draw: &mut Draw, case: u64) -> Agreed<()> {
     let mut table = drawn(draw, case);
+    let classes = classes(draw);
     for _ in 0..4 {
         let slot = draw.between(0, 4_095);
         bench.check_aside(Call::Mark { slot }, &table)?;
@@ -16,15 +18,15 @@ pub fn run(bench: &mut Bench, draw: &mut Draw, case: u64) -> Agreed<()> {
         let ticket = draw.between(0, 1_024);
         bench.check_aside(Call::Substitute { ticket }, &table)?;
         let weight = draw.between(1, 1_000);
-        bench.check(Call::Take { due: slot, weight }, &mut table)?;
+        bench.check(taking(draw, slot, weight, classes), &mut table)?;
         bench.check(Call::Send, &mut table)?;
         let due = draw.between(0, 4_095);
-        bench.check(Call::Take { due, weight }, &mut table)?;
+        bench.check(taking(draw, due, weight, classes), &mut table)?;
     }
     bench.check(Call::Seal, &mut table)?;
     for _ in 0..4 {
         let due = draw.between(0, 4_095);
-        bench.check(Call::Take { due, weight: 1 }, &mut table)?;
+        bench.check(taking(draw, due, 1, classes), &mut table)?;
         bench.check_aside(Call::Mark { slot: due }, &table)?;
         bench.check(Call::Send, &mut table)?;
     }
@@ -44,11 +46,11 @@ pub fn drawn(draw: &mut Draw, number: u64) -> Vec<u8> {
 /// A round whose first sending shifts as many members as can be.
 fn chain(frames: u32) -> Vec<u8> {
     let last = frames - 2;
-    let mut rows = vec![(1, 0, 1, false)];
+    let mut rows = vec![(1, 0, 1, Some(0))];
     for due in 1..=last {
-        rows.push((due + 1, due, 2, false));
+        rows.push((due + 1, due, 2, Some(due % 4)));
     }
-    rows.push((frames, last, 1, false));
+    rows.push((frames, last, 1, Some(3)));
     hand::table(1_024, last, &rows)
 }
 

@@ -36,6 +36,9 @@ pub fn run(bench: &mut Bench, draw: &mut Draw, case: u64) -> Agreed<()> {
         }
         for (due, weight) in [(3, 5), (9, 1 << 24), (10, 5), (3, 0)] {
             bench.check_aside(Call::Take { due, weight }, &table)?;
+            for class in [0, 3, 4] {
+                bench.check_aside(Call::TakeClass { due, weight, class }, &table)?;
+            }
         }
         bench.check_aside(Call::Send, &table)?;
         bench.check_aside(Call::Seal, &table)?;

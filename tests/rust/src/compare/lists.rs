@@ -2,6 +2,7 @@
 
 use crate::call::Call;
 use crate::compare::bench::{Agreed, Bench};
+use crate::compare::classes::{classes, taking, Classes};
 use crate::compare::draw::Draw;
 use crate::compare::tables::{weight, weights, Weights};
 use crate::round::Round;
@@ -12,6 +13,7 @@ struct List {
     last: u32,
     reach: u32,
     weights: Weights,
+    classes: Classes,
     takes: u64,
     /// Whether it may be sealed.
     seals: bool,
@@ -28,6 +30,7 @@ fn list(draw: &mut Draw) -> List {
         last,
         reach,
         weights: weights(draw),
+        classes: classes(draw),
         takes: *draw.pick(&[20, 40, 60, 80]),
         seals: draw.once_in(3),
     }
@@ -52,10 +55,8 @@ fn call(draw: &mut Draw, list: &List, round: &Round) -> Call {
         } else {
             weight(draw, list.weights)
         };
-        return Call::Take {
-            due: due(draw, list, round),
-            weight,
-        };
+        let due = due(draw, list, round);
+        return taking(draw, due, weight, list.classes);
     }
     let over = round.slot > round.last;
     match draw.below(20) {

@@ -3,6 +3,7 @@
 
 pub mod bench;
 pub mod bytes;
+pub mod classes;
 pub mod damage;
 pub mod draw;
 pub mod extremes;
@@ -18,4 +19,5 @@ pub mod sound;
 pub mod store;
 pub mod tables;
 pub mod tally;
+pub mod ties;
 pub mod unused;

@@ -3,6 +3,7 @@
 
 use crate::call::Call;
 use crate::compare::bench::{Agreed, Bench};
+use crate::compare::classes::{classes, taking, Classes};
 use crate::compare::draw::Draw;
 use crate::compare::tables::{weight, weights, Weights};
 use crate::table::{decode, row_at};
@@ -15,6 +16,7 @@ struct Drawn {
     /// The most takings in a slot.
     most: u32,
     weights: Weights,
+    classes: Classes,
     /// The slot in which it is sealed.
     seal_at: u32,
 }
@@ -30,15 +32,15 @@ impl Drawn {
             reach: *draw.pick(&[1, 3, 8, last.max(1)]),
             most: draw.between(1, 6),
             weights: weights(draw),
+            classes: classes(draw),
             seal_at: draw.between(0, last.min(last / 2 + 1)),
         }
     }
 
     fn take(&self, draw: &mut Draw, slot: u32) -> Call {
-        Call::Take {
-            due: (slot + draw.between(0, self.reach)).min(self.last),
-            weight: weight(draw, self.weights),
-        }
+        let due = (slot + draw.between(0, self.reach)).min(self.last);
+        let weight = weight(draw, self.weights);
+        taking(draw, due, weight, self.classes)
     }
 }
 
@@ -75,9 +77,10 @@ fn between(bench: &mut Bench, draw: &mut Draw, drawn: &Drawn, table: &mut [u8]) 
     let round = decode(table);
     let slot = round.slot.0;
     if round.sealed {
-        let bad = Call::Take {
+        let bad = Call::TakeClass {
             due: drawn.last + draw.between(0, 1),
-            weight: *draw.pick(&[0, 16_777_217]),
+            weight: *draw.pick(&[0, 1, 16_777_217]),
+            class: *draw.pick(&[0, 3, 4]),
         };
         bench.check(bad, table)?;
         bench.check(drawn.take(draw, slot), table)?;

@@ -2,6 +2,7 @@
 
 use crate::call::Call;
 use crate::compare::bench::{Agreed, Bench};
+use crate::compare::classes::{classes, taking};
 use crate::compare::draw::Draw;
 use crate::compare::tables::{drawn, size, weight, weights};
 use crate::round::Round;
@@ -32,11 +33,9 @@ pub fn run(bench: &mut Bench, draw: &mut Draw, _: u64) -> Agreed<()> {
     let size = size(draw);
     let (table, round) = drawn(draw, size);
     for _ in 0..2 {
-        let weights = weights(draw);
-        let take = Call::Take {
-            due: near(draw, &round),
-            weight: weight(draw, weights),
-        };
+        let (weights, classes) = (weights(draw), classes(draw));
+        let (due, weight) = (near(draw, &round), weight(draw, weights));
+        let take = taking(draw, due, weight, classes);
         bench.check_aside(take, &table)?;
         bench.check_aside(
             Call::Mark {

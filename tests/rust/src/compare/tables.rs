@@ -1,7 +1,8 @@
 //! Drawn sound tables: kept blanks anywhere, tickets with gaps, any slot.
 
+use crate::compare::classes::{class, classes};
 use crate::compare::draw::Draw;
-use crate::counts::{Slot, Ticket, Weight};
+use crate::counts::{Class, Slot, Ticket, Weight};
 use crate::round::{Round, Row};
 use crate::table::{encode, row_at};
 
@@ -114,7 +115,7 @@ fn tickets(draw: &mut Draw, used: u32) -> (Ticket, Vec<Ticket>) {
 }
 
 fn rows(draw: &mut Draw, slot: Slot, last: Slot, tickets: Vec<Ticket>) -> Vec<Row> {
-    let weights = weights(draw);
+    let (weights, classes) = (weights(draw), classes(draw));
     let kept_once_in = *draw.pick(&[2, 4, 8, 1_000_000]);
     // Due slots near the current one crowd its segments, late ones spread.
     let late = match draw.below(4) {
@@ -124,7 +125,8 @@ fn rows(draw: &mut Draw, slot: Slot, last: Slot, tickets: Vec<Ticket>) -> Vec<Ro
     let row = |ticket| {
         let due = Slot(draw.between(slot.0, late));
         let weight = Weight(weight(draw, weights));
-        Row::of_kind(draw.once_in(kept_once_in), ticket, due, weight)
+        let class = (!draw.once_in(kept_once_in)).then(|| Class(class(draw, classes)));
+        Row::of_kind(class, ticket, due, weight)
     };
     tickets.into_iter().map(row).collect()
 }
@@ -135,6 +137,7 @@ fn ladder(draw: &mut Draw, slot: Slot, last: Slot, tickets: Vec<Ticket>) -> Vec<
     let steps = u64::from(last.0 - slot.0) + 1;
     let scale = *draw.pick(&[3, 10, 40, 100_000]);
     let kept_once_in = *draw.pick(&[6, 1_000_000]);
+    let classes = classes(draw);
     let first = draw.below(tickets.len().max(1) as u64);
     let mut place = first;
     let mut row = |ticket| {
@@ -153,7 +156,8 @@ fn ladder(draw: &mut Draw, slot: Slot, last: Slot, tickets: Vec<Ticket>) -> Vec<
         };
         let due = Slot(slot.0 + step as u32);
         let weight = Weight((falls as u32 + draw.between(1, 3)) * heavy);
-        Row::of_kind(draw.once_in(kept_once_in), ticket, due, weight)
+        let class = (!draw.once_in(kept_once_in)).then(|| Class(class(draw, classes)));
+        Row::of_kind(class, ticket, due, weight)
     };
     tickets.iter().map(|ticket| row(*ticket)).collect()
 }

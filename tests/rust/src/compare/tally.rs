@@ -7,6 +7,8 @@ use std::collections::BTreeMap;
 #[derive(Default, Clone)]
 pub struct Tally {
     counts: BTreeMap<(CallName, Outcome), u64>,
+    /// How often the class decided something, by its name.
+    decided: BTreeMap<&'static str, u64>,
 }
 
 /// What a packed reply says, without its numbers.
@@ -27,6 +29,15 @@ impl Tally {
     pub fn add(&mut self, call: CallName, reply: u64, sealed: bool) {
         let met = (call, outcome(call, reply, sealed));
         *self.counts.entry(met).or_default() += 1;
+    }
+
+    /// Once more the class decided this.
+    pub fn decide(&mut self, part: &'static str) {
+        *self.decided.entry(part).or_default() += 1;
+    }
+
+    pub fn decided(&self, part: &str) -> u64 {
+        self.decided.get(part).copied().unwrap_or(0)
     }
 
     /// Calls in all.

@@ -11,7 +11,7 @@ use crate::table::{row_at, ROW};
 pub const CASES: u64 = 2 * ROW as u64;
 
 pub fn run(bench: &mut Bench, _: &mut Draw, case: u64) -> Agreed<()> {
-    let sound = hand::table(4, 3, &[(2, 1, 7, false), (5, 2, 9, true)]);
+    let sound = hand::table(4, 3, &[(2, 1, 7, Some(1)), (5, 2, 9, None)]);
     let first = row_at(2) + case as usize;
     for second in first + 1..sound.len() {
         for (low, high) in [(128, 128), (1, 255), (255, 1)] {

@@ -14,15 +14,33 @@ use std::cmp::Reverse;
 
 pub const FAULTS: &[Fault] = &[
     ("ListedByTicket", "rows are listed in ticket order", |rules| {
-        rules.planning.listed = |plan| sorted(plan, |entry| entry.ticket);
+        rules.planning.listed = |plan| sorted(plan, |item| item.ticket);
     }),
     ("ListedHeaviestFirst", "rows are listed from heaviest to lightest", |rules| {
         rules.planning.listed =
-            |plan| sorted(plan, |entry| (Reverse(entry.weight), entry.due, entry.ticket));
+            |plan| sorted(plan, |item| (Reverse(item.weight), item.due, item.class, item.ticket));
     }),
     ("EqualsListedLateFirst", "among equals the larger ticket is listed first", |rules| {
+        rules.planning.listed = |plan| {
+            sorted(plan, |item| (item.due, Reverse(item.weight), item.class, Reverse(item.ticket)))
+        };
+    }),
+    (
+        "ListedWithoutClass",
+        "among equals the smaller ticket is listed first, of any class",
+        |rules| {
+            rules.planning.listed =
+                |plan| sorted(plan, |item| (item.due, Reverse(item.weight), item.ticket));
+        },
+    ),
+    ("ListedLargerClassFirst", "among equals the larger class is listed first", |rules| {
+        rules.planning.listed = |plan| {
+            sorted(plan, |item| (item.due, Reverse(item.weight), Reverse(item.class), item.ticket))
+        };
+    }),
+    ("ListedClassBeforeWeight", "in a due slot the smaller class is listed first", |rules| {
         rules.planning.listed =
-            |plan| sorted(plan, |entry| (entry.due, Reverse(entry.weight), Reverse(entry.ticket)));
+            |plan| sorted(plan, |item| (item.due, item.class, Reverse(item.weight), item.ticket));
     }),
     ("AllRowsListed", "rows outside the plan are listed too", |rules| {
         rules.planning.listed = |plan| {
@@ -84,10 +102,10 @@ pub const FAULTS: &[Fault] = &[
     }),
 ];
 
-fn sorted<Key: Ord>(plan: &Plan, key: impl Fn(&Entry) -> Key) -> Vec<Entry> {
-    let mut entries = listed(plan);
-    entries.sort_by_key(key);
-    entries
+fn sorted<Key: Ord>(plan: &Plan, key: impl Fn(&Item) -> Key) -> Vec<Entry> {
+    let mut plan = plan.clone();
+    plan.members.sort_by_key(key);
+    listed(&plan)
 }
 
 /// A blank has ticket 0.

@@ -3,6 +3,8 @@
 //! papers' rules.
 
 mod change;
+mod class_lines;
+mod classes;
 mod leaping;
 mod listing;
 mod opening;
@@ -38,7 +40,8 @@ const fn shown(by: CallName, all: &'static [Entry]) -> Shown {
 
 /// No line can show these: the table's length and its bytes are the program's
 /// own, a slot has four digits, and a round of 4,096 slots gives out at most
-/// 1,024 tickets in each, far fewer than 16,777,215.
+/// 1,024 tickets in each, far fewer than 16,777,215; a class has two digits, and a
+/// reply to 04 is that to 01.
 const fn hidden_in_lines(by: CallName, all: &'static [Entry]) -> Shown {
     let in_lines = false;
     Shown { by, in_lines, all }
@@ -52,23 +55,32 @@ const ALL: &[Shown] = &[
     shown(CallName::Seal, sealing::SEALING),
     shown(CallName::Open, sealing::OPENING),
     shown(CallName::Take, sealing::TAKING),
+    shown(CallName::TakeClass, classes::TAKING),
+    hidden_in_lines(CallName::TakeClass, classes::HIDDEN),
     shown(CallName::Take, soundness::FAULTS),
     hidden_in_lines(CallName::Take, soundness::HIDDEN),
     shown(CallName::Send, picking::FAULTS),
     shown(CallName::Send, leaping::FAULTS),
     shown(CallName::Send, sealing::SENDING),
+    shown(CallName::Send, classes::SENDING),
     shown(CallName::Mark, questions::MARK),
     shown(CallName::Mark, sealing::MARK),
     shown(CallName::Total, questions::TOTAL),
     shown(CallName::Total, sealing::TOTAL),
     shown(CallName::Substitute, questions::SUBSTITUTE),
     shown(CallName::Substitute, sealing::SUBSTITUTE),
+    shown(CallName::Substitute, classes::SUBSTITUTE),
     shown(CallName::List, listing::FAULTS),
     shown(CallName::List, sealing::LISTING),
     shown(CallName::Read, reading::FAULTS),
+    shown(CallName::Read, class_lines::READING),
+    hidden_in_lines(CallName::Read, class_lines::HIDDEN),
     shown(CallName::Payload, payload::FAULTS),
+    shown(CallName::Payload, class_lines::PAYLOAD),
     shown(CallName::Write, writing::FAULTS),
+    shown(CallName::Write, class_lines::WRITING),
     shown(CallName::Reply, program::FAULTS),
+    shown(CallName::Reply, class_lines::REPLIES),
 ];
 
 #[derive(Clone, Copy)]

@@ -12,7 +12,7 @@ use crate::rules::hold;
 use crate::sealing::seal;
 use crate::send::send;
 use crate::table::{row_at, HEAD, HEAD_FIELDS, NEXT, ROW, ROW_FIELDS};
-use crate::taking::take;
+use crate::taking::take_class;
 
 pub const FAULTS: &[Entry] = &[
     ("OneRowTooFew", "1,024 rows are refused", |rules| {
@@ -77,8 +77,9 @@ pub const HIDDEN: &[Entry] = &[
     ("HighByteFirst", "numbers go high byte first", |rules| {
         let calls = &mut rules.calls;
         calls.open = |rules, last, table| turned(table, |table| open(rules, last, table));
-        calls.take =
-            |rules, due, weight, table| turned(table, |table| take(rules, due, weight, table));
+        calls.take_class = |rules, due, weight, class, table| {
+            turned(table, |table| take_class(rules, due, weight, class, table))
+        };
         calls.send = |rules, table| turned(table, |table| send(rules, table));
         calls.seal = |rules, table| turned(table, |table| seal(rules, table));
         calls.mark =

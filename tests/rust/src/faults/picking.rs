@@ -16,13 +16,17 @@ pub const FAULTS: &[Entry] = &[
     ("TiesByLateDue", "among equal weights the later due slot is heavier", |rules| {
         rules.planning.heaviest_first = |a, b| {
             let heavier = b.weight.cmp(&a.weight).then(b.due.cmp(&a.due));
-            heavier.then(a.ticket.cmp(&b.ticket))
+            heavier
+                .then(a.class.cmp(&b.class))
+                .then(a.ticket.cmp(&b.ticket))
         };
     }),
     ("TiesByLateTicket", "among equals the larger ticket is heavier", |rules| {
         rules.planning.heaviest_first = |a, b| {
             let heavier = b.weight.cmp(&a.weight).then(a.due.cmp(&b.due));
-            heavier.then(b.ticket.cmp(&a.ticket))
+            heavier
+                .then(a.class.cmp(&b.class))
+                .then(b.ticket.cmp(&a.ticket))
         };
     }),
     ("PicksLastOfEquals", "among equal picks the canonical last goes", |rules| {

@@ -101,10 +101,16 @@ pub const FAULTS: &[Entry] = &[
     }),
     ("WeightCutShort", "a weight is cut to three bytes", |rules| {
         rules.calls.read = |rules, line| {
+            let cut = |weight: Weight| Weight(weight.0 & 0xFF_FFFF);
             Ok(match read(rules, line)? {
                 Command::Take { due, weight } => Command::Take {
                     due,
-                    weight: Weight(weight.0 & 0xFF_FFFF),
+                    weight: cut(weight),
+                },
+                Command::TakeClass { due, weight, class } => Command::TakeClass {
+                    due,
+                    weight: cut(weight),
+                    class,
                 },
                 other => other,
             })

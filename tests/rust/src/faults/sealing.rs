@@ -108,7 +108,9 @@ pub const SENDING: &[Entry] = &[
     }),
     ("SealedLateTicketFirst", "in a sealed round the larger ticket goes among equals", |rules| {
         rules.planning.goes = |round, substitutes| {
-            sealed_last(round, substitutes, |a, b| a.due == b.due && a.weight == b.weight)
+            sealed_last(round, substitutes, |a, b| {
+                (a.due, a.weight, a.class) == (b.due, b.weight, b.class)
+            })
         };
     }),
     ("SealedLightestFirst", "in a sealed round the lightest goes of those due first", |rules| {

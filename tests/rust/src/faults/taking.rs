@@ -7,7 +7,7 @@ use crate::reasons::outside;
 use crate::refusal::Refusal;
 use crate::round::Round;
 use crate::table::{row_at, NEXT, ROW, USED};
-use crate::taking::take;
+use crate::taking::take_class;
 
 pub const FAULTS: &[Entry] = &[
     ("RefusalNineOneShort", "9 with one row still free", |rules| {
@@ -56,20 +56,21 @@ pub const FAULTS: &[Entry] = &[
         });
     }),
     ("TakeStoresNothing", "taking gives a ticket and stores nothing", |rules| {
-        rules.calls.take =
-            |rules, due, weight, table| take(rules, due, weight, &mut table.to_vec());
+        rules.calls.take_class = |rules, due, weight, class, table| {
+            take_class(rules, due, weight, class, &mut table.to_vec())
+        };
     }),
     ("TakenInLastRow", "taking fills the last unused row", |rules| {
-        rules.calls.take = |rules, due, weight, table| {
-            let ticket = take(rules, due, weight, table)?;
+        rules.calls.take_class = |rules, due, weight, class, table| {
+            let ticket = take_class(rules, due, weight, class, table)?;
             let taken = USED.get(table) as usize - 1;
             table[row_at(taken)..].rotate_left(ROW);
             Ok(ticket)
         };
     }),
     ("RefusedTakeWrites", "a taking refused by 7 raises the next ticket", |rules| {
-        rules.calls.take = |rules, due, weight, table| {
-            let taken = take(rules, due, weight, table);
+        rules.calls.take_class = |rules, due, weight, class, table| {
+            let taken = take_class(rules, due, weight, class, table);
             if taken == Err(Refusal::Slot) {
                 NEXT.put(table, NEXT.get(table) + 1);
             }
@@ -93,7 +94,8 @@ pub const HIDDEN: &[Entry] = &[
         });
     }),
     ("DueCutShort", "the due slot is cut to two bytes before it is judged", |rules| {
-        rules.calls.take =
-            |rules, due, weight, table| take(rules, Slot(due.0 & 0xFFFF), weight, table);
+        rules.calls.take_class = |rules, due, weight, class, table| {
+            take_class(rules, Slot(due.0 & 0xFFFF), weight, class, table)
+        };
     }),
 ];

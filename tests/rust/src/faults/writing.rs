@@ -85,7 +85,11 @@ pub const FAULTS: &[Entry] = &[
     }),
     ("WriterJudgesWeight", "a weight above 16,777,216 gets 1", |rules| {
         rules.calls.write = |rules, command, payload, buffer| match command {
-            Command::Take { weight, .. } if weight > Round::WEIGHT => Err(Refusal::Line),
+            Command::Take { weight, .. } | Command::TakeClass { weight, .. }
+                if weight > Round::WEIGHT =>
+            {
+                Err(Refusal::Line)
+            }
             _ => write(rules, command, payload, buffer),
         };
     }),
@@ -98,6 +102,11 @@ fn with_slot_cut(command: Command) -> Command {
         Command::Take { due, weight } => Command::Take {
             due: cut(due),
             weight,
+        },
+        Command::TakeClass { due, weight, class } => Command::TakeClass {
+            due: cut(due),
+            weight,
+            class,
         },
         other => other,
     }

@@ -64,7 +64,7 @@ impl Account {
     fn add(&mut self, asked: Asked) -> Result<(), String> {
         let ticket = Ticket((asked.reply >> 8 & 0xFF_FFFF) as u32);
         match asked.call {
-            Call::Take { due, weight } => {
+            Call::Take { due, weight } | Call::TakeClass { due, weight, .. } => {
                 self.tickets.push(ticket);
                 self.offers.push(Offer {
                     from: self.slot,

@@ -2,6 +2,7 @@
 //! questions strewn in.
 
 use crate::call::Call;
+use crate::compare::classes::{classes, taking, Classes};
 use crate::compare::draw::Draw;
 use crate::compare::tables;
 use crate::hindsight::script::Script;
@@ -71,6 +72,7 @@ struct Drawn {
     /// The last slot with takings; what waits then is all that can go.
     until: u32,
     weights: Weights,
+    classes: Classes,
     /// Once in so many takings something else is asked or refused.
     other_once_in: u64,
     /// The slot in which it is sealed, if it is.
@@ -91,6 +93,7 @@ impl Drawn {
             most,
             until: *draw.pick(&[last, last / 2, 1]),
             weights,
+            classes: classes(draw),
             other_once_in: *draw.pick(&[2, 5, 1_000]),
             seal_at: draw.once_in(5).then(|| draw.between(0, last)),
         }
@@ -105,7 +108,7 @@ impl Drawn {
             let later = draw.between(0, self.reach.min(self.last - slot));
             let weight = self.weight(draw, slot, later);
             let due = slot + later;
-            calls.push(Call::Take { due, weight });
+            calls.push(taking(draw, due, weight, self.classes));
             if draw.once_in(self.other_once_in) {
                 calls.push(self.other(draw, slot));
             }
@@ -117,7 +120,7 @@ impl Drawn {
         let mut pair = Vec::new();
         for due in slot..=self.last.min(slot + 1) {
             let weight = self.weight(draw, slot, due - slot);
-            pair.push(Call::Take { due, weight });
+            pair.push(taking(draw, due, weight, self.classes));
         }
         if draw.once_in(2) {
             pair.reverse();

@@ -1,6 +1,7 @@
 //! The kinds of files that stationround is run on.
 
 use crate::call::Call;
+use crate::compare::classes::taking_of;
 use crate::compare::draw::Draw;
 use crate::hand;
 use crate::kind::Kind;
@@ -44,6 +45,10 @@ pub const KINDS: &[Kind<File>] = &[
     Kind::drawn("long files", 12, many_lines),
     Kind::drawn("full tables", 24, full),
     Kind::drawn("sealed", 1_500, |draw, _| sealed(draw)),
+    Kind::drawn("classes", 1_500, |draw, _| {
+        let (start, lines) = (Drawn::of_equals(draw), lines(draw));
+        round(draw, start, lines)
+    }),
 ];
 
 fn valid(draw: &mut Draw, _: u64) -> Vec<u8> {
@@ -104,23 +109,25 @@ fn full(draw: &mut Draw, number: u64) -> Vec<u8> {
     let most = *draw.pick(&[1, 3, 1_000, Round::WEIGHT.0]);
     let mut file = line(Call::Open { last }, "");
     for _ in 0..Round::ROWS as u64 + 2 - number % 4 {
-        file.push_str(&taking(draw, 0, last, most));
+        let class = draw.between(0, Round::CLASS.0);
+        file.push_str(&taking(draw, 0, last, most, class));
     }
+    let refused = draw.between(0, Round::CLASS.0 + 1);
+    file.push_str(&taking(draw, 0, last, most, refused));
     for slot in 1..=draw.between(2, 6) {
         file.push_str(&line(Call::Send, ""));
         for _ in 0..draw.between(0, 3) {
-            file.push_str(&taking(draw, slot, last, most));
+            let class = draw.between(0, Round::CLASS.0 + 1);
+            file.push_str(&taking(draw, slot, last, most, class));
         }
     }
     file.into_bytes()
 }
 
-fn taking(draw: &mut Draw, slot: u32, last: u32, most: u32) -> String {
-    let call = Call::Take {
-        due: draw.between(slot.min(last), last),
-        weight: draw.between(1, most),
-    };
-    line(call, "")
+fn taking(draw: &mut Draw, slot: u32, last: u32, most: u32, class: u32) -> String {
+    let due = draw.between(slot.min(last), last);
+    let weight = draw.between(1, most);
+    line(taking_of(draw, due, weight, class), "")
 }
 
 #[cfg(test)]

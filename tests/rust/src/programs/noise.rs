@@ -32,7 +32,8 @@ pub fn odd_line(draw: &mut Draw) -> Vec<u8> {
     let due = draw.between(0, 65_535);
     let weight = draw.number() as u32;
     let digits = payload(draw, 26);
-    let text = match draw.below(15) {
+    let class = draw.below(6);
+    let text = match draw.below(22) {
         0 => format!("01{due:04X}{weight:08X}{digits}A\n"),
         1 => format!("01{due:04X}{weight:08X}{}\n", digits.to_lowercase()),
         2 => format!("00{due:04X}{digits}\n"),
@@ -47,6 +48,12 @@ pub fn odd_line(draw: &mut Draw) -> Vec<u8> {
         11 => format!("01{due:04X}{weight:08X}{digits} \n"),
         12 => format!("01{due:04X}{weight:08X}{digits}"),
         13 => format!("03{digits}\n"),
+        14 => format!("04{due:04X}{weight:08X}\n"),
+        15 => format!("04{due:04X}{weight:08X}{class:X}\n"),
+        16 => format!("04{due:04X}{weight:08X}{class:02X}{digits}A\n"),
+        17 => format!("04{due:04X}{weight:08X}{class:02x}{}\n", digits.to_lowercase()),
+        18 => format!("04{due:04X}{weight:08X}{}{digits}\n", *draw.pick(&["0a", "g0", "0:", " 0"])),
+        19 | 20 => format!("04{due:04X}{weight:08X}{class:02X}{digits}\n"),
         _ => line(Call::Take { due, weight }, &digits),
     };
     text.into_bytes()
@@ -57,7 +64,7 @@ pub fn noise(draw: &mut Draw) -> Vec<u8> {
     let from: &[u8] = match draw.below(4) {
         0 => &[],
         1 => b"0123456789ABCDEF\n",
-        2 => b"00010203\n\n",
+        2 => b"0001020304\n\n",
         _ => NEAR,
     };
     let most = *draw.pick(&[4, 40, 400]);
@@ -71,7 +78,16 @@ pub fn noise(draw: &mut Draw) -> Vec<u8> {
 /// A line of this many bytes, its end included: digits, zeros, NULs or any
 /// byte but 0A.
 pub fn long_line(draw: &mut Draw, length: usize) -> Vec<u8> {
-    let start = *draw.pick(&["01", "00", "02", "03", "", "01000000000001"]);
+    let start = *draw.pick(&[
+        "01",
+        "00",
+        "02",
+        "03",
+        "04",
+        "",
+        "01000000000001",
+        "0400000000000102",
+    ]);
     let fill = draw.below(4);
     let mut line = start.as_bytes().to_vec();
     while line.len() + 1 < length {

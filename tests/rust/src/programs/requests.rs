@@ -7,7 +7,8 @@ use crate::compare::extremes::NUMBERS;
 use crate::compare::large;
 use crate::compare::lengths;
 use crate::compare::tables::{drawn, size};
-use crate::counts::{Slot, Weight};
+use crate::compare::ties;
+use crate::counts::{Class, Slot, Weight};
 use crate::kind::Kind;
 use crate::listing::Entry;
 use crate::programs::noise::{damage, long_line, noise, odd_line};
@@ -43,6 +44,10 @@ pub const KINDS: &[Kind<Drawing>] = &[
         line: good_line(draw),
     }),
     Kind::drawn("read damaged", 3_000, broken),
+    Kind::drawn("classes", 1_500, |draw, _| {
+        let table = ties::drawn(draw);
+        listing(draw, table)
+    }),
     Kind::drawn("read long", 60, |draw, _| {
         let length = draw.between(60, MOST_SIZE as u32) as usize;
         Request::Read {
@@ -91,14 +96,23 @@ fn writing(draw: &mut Draw, _: u64) -> Request {
     };
     let slot = Slot(number(draw));
     let weight = Weight(number(draw));
-    let command = match draw.below(6) {
+    let class = Class(match draw.below(3) {
+        0 => number(draw),
+        _ => draw.between(0, 260),
+    });
+    let command = match draw.below(9) {
         0 => Command::Open { last: slot },
         1 => Command::Send,
         2 => Command::Seal,
-        _ => Command::Take { due: slot, weight },
+        3..=5 => Command::Take { due: slot, weight },
+        _ => Command::TakeClass {
+            due: slot,
+            weight,
+            class,
+        },
     };
-    let payload = digits(draw, matches!(command, Command::Take { .. }));
     let form = Rules::PAPERS.writing.form(command.numbers().0.as_bytes());
+    let payload = digits(draw, form.is_some_and(|form| form.has_payload));
     let front = form.map_or(0, Form::front);
     let room = near(draw, front + payload.len() + 1, 62);
     Request::Write {
@@ -129,10 +143,15 @@ fn digits(draw: &mut Draw, may_have: bool) -> Vec<u8> {
 fn good_line(draw: &mut Draw) -> Vec<u8> {
     let slot = draw.between(0, 65_535);
     let weight = draw.number() as u32;
-    let text = match draw.below(7) {
+    let class = match draw.below(3) {
+        0 => draw.between(0, 255),
+        _ => draw.between(0, 5),
+    };
+    let text = match draw.below(11) {
         0 => format!("00{slot:04X}\n"),
         1 => "02\n".to_string(),
         2 => "03\n".to_string(),
+        3..=6 => format!("04{slot:04X}{weight:08X}{class:02X}{}\n", payload(draw, 24)),
         _ => format!("01{slot:04X}{weight:08X}{}\n", payload(draw, 24)),
     };
     text.into_bytes()

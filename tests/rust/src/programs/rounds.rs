@@ -2,6 +2,7 @@
 //! lines among them.
 
 use crate::call::Call;
+use crate::compare::classes::{classes, taking, Classes};
 use crate::compare::draw::Draw;
 use crate::compare::tables::{weight, weights, Weights};
 use crate::hand;
@@ -12,8 +13,23 @@ pub fn line(call: Call, payload: &str) -> String {
     match call {
         Call::Open { last } => format!("00{last:04X}\n"),
         Call::Take { due, weight } => format!("01{due:04X}{weight:08X}{payload}\n"),
+        Call::TakeClass { due, weight, class } => {
+            format!("04{due:04X}{weight:08X}{class:02X}{payload}\n")
+        }
         Call::Seal => "03\n".to_string(),
         _ => "02\n".to_string(),
+    }
+}
+
+/// With a class that two digits hold.
+fn short(call: Call) -> Call {
+    match call {
+        Call::TakeClass { due, weight, class } if class > 255 => Call::TakeClass {
+            due,
+            weight,
+            class: 4 + class % 252,
+        },
+        _ => call,
     }
 }
 
@@ -37,6 +53,7 @@ pub struct Drawn {
     /// How far ahead of the current slot frames are due.
     reach: u32,
     weights: Weights,
+    classes: Classes,
     /// Takings, openings and sealings among a hundred lines; the rest are
     /// sendings.
     takes: u64,
@@ -57,6 +74,7 @@ impl Drawn {
             slot: last + 1,
             reach: *draw.pick(&[1, 3, 8, last.max(1)]),
             weights: weights(draw),
+            classes: classes(draw),
             takes: *draw.pick(&[20, 40, 60, 80]),
             opens: 2,
             seals: *draw.pick(&[0, 0, 0, 2]),
@@ -67,6 +85,17 @@ impl Drawn {
     pub fn reopened(draw: &mut Draw) -> Drawn {
         Drawn {
             opens: *draw.pick(&[10, 25, 60]),
+            ..Drawn::new(draw)
+        }
+    }
+
+    /// Few weights and near due slots: what is equal is told apart by its class.
+    pub fn of_equals(draw: &mut Draw) -> Drawn {
+        Drawn {
+            last: draw.between(0, 7),
+            reach: draw.between(0, 3),
+            weights: Weights::UpTo(*draw.pick(&[1, 1, 2, 3])),
+            classes: Classes::Any,
             ..Drawn::new(draw)
         }
     }
@@ -99,10 +128,8 @@ impl Drawn {
     }
 
     fn take(&self, draw: &mut Draw) -> String {
-        let call = Call::Take {
-            due: self.due(draw),
-            weight: self.weight(draw),
-        };
+        let (due, weight) = (self.due(draw), self.weight(draw));
+        let call = short(taking(draw, due, weight, self.classes));
         let most = if draw.once_in(3) { 24 } else { 0 };
         line(call, &payload(draw, most))
     }
@@ -173,8 +200,11 @@ pub fn leaps(draw: &mut Draw) -> Vec<u8> {
     let last = draw.between(1, 9);
     let scale = *draw.pick(&[2, 4, 10, 100_000]);
     let over = *draw.pick(&[0, 0, 1, 4]);
+    let classes = classes(draw);
     let mut file = line(Call::Open { last }, "");
-    let mut frame = |due: u32, weight: u32| file.push_str(&line(Call::Take { due, weight }, ""));
+    let mut frame = |draw: &mut Draw, due: u32, weight: u32| {
+        file.push_str(&line(short(taking(draw, due, weight, classes)), ""));
+    };
     for due in (0..=last).filter(|_| draw.below(8) > 0).collect::<Vec<_>>() {
         let heavy = if draw.once_in(3) {
             draw.between(2, 5)
@@ -182,17 +212,19 @@ pub fn leaps(draw: &mut Draw) -> Vec<u8> {
             1
         };
         let falls = (last + 1 - due) * scale / (last + 1);
-        frame(due, (falls + draw.between(1, 3)) * heavy);
+        let weight = (falls + draw.between(1, 3)) * heavy;
+        frame(draw, due, weight);
     }
     for _ in 0..over {
-        frame(draw.between(0, last), draw.between(1, 3));
+        let (due, weight) = (draw.between(0, last), draw.between(1, 3));
+        frame(draw, due, weight);
     }
     for slot in 1..=last + 1 {
         file.push_str(&line(Call::Send, ""));
         if slot <= last && draw.once_in(3) {
             let due = draw.between(slot, last);
             let weight = draw.between(1, scale + 2);
-            file.push_str(&line(Call::Take { due, weight }, ""));
+            file.push_str(&line(short(taking(draw, due, weight, classes)), ""));
         }
     }
     file.into_bytes()

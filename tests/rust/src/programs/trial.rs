@@ -12,7 +12,7 @@ pub const MOST_SIZE: usize = 24_640;
 /// The most entries or buffer bytes lent.
 pub const MOST_ROOM: usize = 1_024;
 /// Bytes of a request's head.
-pub const HEAD: usize = 24;
+pub const HEAD: usize = 28;
 
 #[derive(Clone, PartialEq, Eq, Debug)]
 pub enum Request {
@@ -41,18 +41,18 @@ const BYTE: u8 = 0x2A;
 impl Request {
     /// Its bytes.
     pub fn bytes(&self) -> Vec<u8> {
-        let (kind, body, room, [command, slot, weight]) = match self {
-            Request::List { table, room } => (0, table, *room, [0; 3]),
+        let (kind, body, room, [command, slot, weight, class]) = match self {
+            Request::List { table, room } => (0, table, *room, [0; 4]),
             Request::Write {
                 command,
                 payload,
                 room,
             } => (1, payload, *room, numbers_of(*command)),
-            Request::Read { line } => (2, line, 0, [0; 3]),
+            Request::Read { line } => (2, line, 0, [0; 4]),
         };
-        let head = [kind, body.len() as u32, room as u32, command, slot, weight];
         let mut bytes = Vec::new();
-        put(&mut bytes, &head);
+        put(&mut bytes, &[kind, body.len() as u32, room as u32]);
+        put(&mut bytes, &[command, slot, weight, class]);
         bytes.extend_from_slice(body);
         bytes
     }
@@ -73,7 +73,7 @@ impl Request {
         let request = match number(0) {
             0 => Request::List { table: body, room },
             1 => Request::Write {
-                command: command_of(number(12), number(16), number(20))?,
+                command: command_of(number(12), [number(16), number(20), number(24)])?,
                 payload: body,
                 room,
             },
@@ -110,16 +110,18 @@ fn reply(answer: Result<usize, Refusal>) -> [u32; 2] {
 }
 
 /// The place of its form, which is the line's number, and its numbers.
-fn numbers_of(command: Command) -> [u32; 3] {
+fn numbers_of(command: Command) -> [u32; 4] {
     let (line, numbers) = command.numbers();
     let place = FORMS.iter().position(|form| form.line == line);
     let number = |place: usize| numbers.get(place).copied().unwrap_or(0);
-    [place.expect("its form") as u32, number(0), number(1)]
+    let place = place.expect("its form") as u32;
+    [place, number(0), number(1), number(2)]
 }
 
-fn command_of(number: u32, slot: u32, weight: u32) -> Option<Command> {
+/// The numbers are a slot, a weight and a class.
+fn command_of(number: u32, numbers: [u32; 3]) -> Option<Command> {
     let form = FORMS.get(number as usize)?;
-    Some((form.command)(&[slot, weight]))
+    Some((form.command)(&numbers))
 }
 
 fn listed(second: &Rules, table: &[u8], room: usize) -> Vec<u8> {
@@ -143,15 +145,15 @@ fn wrote(second: &Rules, command: Command, payload: &[u8], room: usize) -> Vec<u
 }
 
 fn read(second: &Rules, line: &[u8]) -> Vec<u8> {
-    let (refusal, [command, slot, weight]) = match second.read(line) {
+    let (refusal, [command, slot, weight, class]) = match second.read(line) {
         Ok(command) => (0, numbers_of(command)),
-        Err(refusal) => (u32::from(refusal.number()), [0; 3]),
+        Err(refusal) => (u32::from(refusal.number()), [0; 4]),
     };
     let (start, end) = second.payload_place(line);
     let payload = second.payload(line);
     let places = [start as u32, end as u32, payload.len() as u32];
     let mut bytes = Vec::new();
-    put(&mut bytes, &[refusal, command, slot, weight]);
+    put(&mut bytes, &[refusal, command, slot, weight, class]);
     put(&mut bytes, &places);
     bytes.extend_from_slice(payload);
     bytes

@@ -41,6 +41,15 @@ seal-round-requires c κs = tt
 say-sealed-requires : tie.Need-say-sealed-requires
 say-sealed-requires c κs = c .before .before .before .before .before .before .before .before .before .pre
 
+enum-known-command-3 : tie.Need-enum-known-command-3
+enum-known-command-3 c = c .match .keys5
+
+take-frame-requires-2 : tie.Need-take-frame-requires-2
+take-frame-requires-2 c κs = tt
+
+say-taken-requires-2 : tie.Need-say-taken-requires-2
+say-taken-requires-2 c κs = c .before .before .before .before .before .before .before .before .before .before .pre
+
 same-length : tie.Need-same-length
 same-length c = c .before .before .before .before .before .before .open-round .kept .1 .0
 
@@ -55,7 +64,7 @@ returns c =
     (c .before .before .say-opened .ensures)
 
 same-length-3 : tie.Need-same-length-3
-same-length-3 c = c .before .before .before .before .before .before .take-frame .kept .1 .1 .0
+same-length-3 c = c .before .before .before .before .before .before .take-frame .kept .1 .1 .1 .0
 
 same-length-4 : tie.Need-same-length-4
 same-length-4 c = c .before .before .say-taken .kept .1 .0
@@ -64,7 +73,7 @@ returns-2 : tie.Need-returns-2
 unfolding call-of
 returns-2 c =
     let told = c .before .before .before .before .before .before .before .before .before .command2 .given .1 in
-    turned _ _ _ _ _ _ _ _ (rw told (same-taking (search needs) (search needs))) (c .before .before .before .before .before .before .take-frame .ensures)
+    turned _ _ _ _ _ _ _ _ (rw told (same-taking (search needs) (search needs) (search needs))) (c .before .before .before .before .before .before .take-frame .ensures)
     (c .before .before .say-taken .ensures)
 
 same-length-5 : tie.Need-same-length-5
@@ -91,6 +100,19 @@ returns-4 c =
     let told = c .before .before .before .before .before .before .before .before .enum-told2 .given .1 in
     turned _ _ _ _ _ _ _ _ (rw told) (c .before .before .before .before .before .before .seal-round .ensures) (c .before .before .say-sealed .ensures)
 
+same-length-9 : tie.Need-same-length-9
+same-length-9 c = c .before .before .before .before .before .before .take-frame2 .kept .1 .1 .1 .0
+
+same-length-10 : tie.Need-same-length-10
+same-length-10 c = c .before .before .say-taken2 .kept .1 .0
+
+returns-5 : tie.Need-returns-5
+unfolding call-of
+returns-5 c =
+    let told = c .before .before .before .before .before .before .before .before .before .command3 .given .1 in
+    turned _ _ _ _ _ _ _ _ (rw told (same-taking (search needs) (search needs) (search needs)))
+    (c .before .before .before .before .before .before .take-frame2 .ensures) (c .before .before .say-taken2 .ensures)
+
 pub take-turn-in-room-spec : {M : Type 1} → statement M
 take-turn-in-room-spec =
     tie.close
@@ -107,6 +129,9 @@ take-turn-in-room-spec =
     enum-told-2
     seal-round-requires
     say-sealed-requires
+    enum-known-command-3
+    take-frame-requires-2
+    say-taken-requires-2
     same-length
     same-length-2
     returns
@@ -118,4 +143,7 @@ take-turn-in-room-spec =
     returns-3
     same-length-7
     same-length-8
-    returns-4)
+    returns-4
+    same-length-9
+    same-length-10
+    returns-5)

@@ -18,6 +18,13 @@ mod boundary {
     extern "C" {
         fn lirvedd_open(last: u32, table: *mut u8, length: usize) -> u64;
         fn lirvedd_take(due: u32, weight: u32, table: *mut u8, length: usize) -> u64;
+        fn lirvedd_take_class(
+            due: u32,
+            weight: u32,
+            class: u32,
+            table: *mut u8,
+            length: usize,
+        ) -> u64;
         fn lirvedd_send(table: *mut u8, length: usize) -> u64;
         fn lirvedd_seal(table: *mut u8, length: usize) -> u64;
         fn lirvedd_mark(slot: u32, table: *const u8, length: usize) -> u64;
@@ -35,6 +42,9 @@ mod boundary {
                 match call {
                     Call::Open { last } => lirvedd_open(last, lent, length),
                     Call::Take { due, weight } => lirvedd_take(due, weight, lent, length),
+                    Call::TakeClass { due, weight, class } => {
+                        lirvedd_take_class(due, weight, class, lent, length)
+                    }
                     Call::Send => lirvedd_send(lent, length),
                     Call::Seal => lirvedd_seal(lent, length),
                     Call::Mark { slot } => lirvedd_mark(slot, lent, length),

@@ -47,22 +47,43 @@ fn compare(options: &Options, second: &Rules) -> Ended {
     }
 }
 
-/// How often at least sealing, and what it does to others, was met.
+/// How often at least sealing, and what it does to others, and classes were met.
 const LEAST: &[(CallName, Outcome, usize)] = &[
     (CallName::Seal, Outcome::Accepted, 100_000),
     (CallName::Seal, Outcome::Refused(2), 500),
     (CallName::Seal, Outcome::Refused(3), 100_000),
     (CallName::Seal, Outcome::Refused(5), 15_000),
-    (CallName::Take, Outcome::Refused(13), 150_000),
+    (CallName::Take, Outcome::Accepted, 40_000),
+    (CallName::Take, Outcome::Refused(13), 70_000),
+    (CallName::TakeClass, Outcome::Accepted, 200_000),
+    (CallName::TakeClass, Outcome::Refused(2), 5_000),
+    (CallName::TakeClass, Outcome::Refused(3), 100_000),
+    (CallName::TakeClass, Outcome::Refused(13), 300_000),
+    (CallName::TakeClass, Outcome::Refused(14), 20_000),
     (CallName::Send, Outcome::SentSealed(0, false), 30_000),
     (CallName::Send, Outcome::SentSealed(1, false), 20_000),
     (CallName::Send, Outcome::SentSealed(2, false), 3_000),
+];
+
+/// How often at least the class decided each of these, in tables of equals.
+const DECIDED: &[(&str, usize)] = &[
+    ("plan", 4_000),
+    ("pick", 1_500),
+    ("lightest of the first segment", 2_500),
+    ("substitute outside the plan", 1_000),
+    ("shift", 500),
+    ("sealed first", 500),
+    ("listing", 5_000),
 ];
 
 fn least(tally: &Tally) -> Result<(), String> {
     for (call, outcome, least) in LEAST {
         let met = tally.met(*call, *outcome) as usize;
         enough("compare", &format!("{call:?} {outcome:?}"), met, *least)?;
+    }
+    for (part, least) in DECIDED {
+        let met = tally.decided(part) as usize;
+        enough("compare", &format!("the class decided the {part}"), met, *least)?;
     }
     Ok(())
 }

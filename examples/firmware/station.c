@@ -6,11 +6,11 @@
 
 #include <stdio.h>
 
-enum { ROWS = 4, LAST = 5, CLOSING = 3 };
+enum { ROWS = 4, LAST = 5, CLOSING = 3, PRICE = 0, PICTURE = 3 };
 
-/* What the desk hands in: in which slot, the last slot in which it is of use, its weight, and the price to show. */
+/* What the desk hands in: in which slot, the last slot in which it is of use, its weight, its class, and what to show. */
 struct frame {
-    uint32_t slot, due, weight;
+    uint32_t slot, due, weight, of_class;
     const char *text;
 };
 
@@ -22,19 +22,20 @@ struct frame {
  *    and kept: 1:4, as t2. t1 leaves, too late.
  * 1  kept 1:4, 3:7 3:5; 9 is past the last slot. Tight: 1, 3, 4, 5, so the marks up to 3 are 4. The kept blank is its own substitute:
  *    4 + 6.5; t3 and t4 have blanks: 7 and 5. The kept blank goes.
- * 2  3:7 3:5, marks 5 up to slot 3. 3:6 is above that by 1, and t4 is left out; 5:9 is above 0 by 9. Then every row is in use.
- *    Tight: 3, 4, 5; marks 6 up to 3. t3's substitute is t5: 7 + 9.7, t5's too: 6 + 9.7; t6 has a blank: 9. t3 goes.
- * 3  The desk closes the list: from now on the plan goes out as it stands, the earliest due first. 3:5 3:6 5:9, t4 left out. t5 goes, and
+ * 2  3:7 3:5, marks 5 up to slot 3. Another 3:5 is not above that: the plan gains nothing. But of the two t5 is a price and t4 a picture, so
+ *    t5 counts as heavier, and t4 is left out. 5:9 is above 0 by 9. Then every row is in use. Tight: 3, 4, 5; marks 5 up to 3. t3's
+ *    substitute is t5: 7 + 8.1, t5's too: 5 + 8.1; t6 has a blank: 9. t3 goes.
+ * 3  The desk closes the list: from now on the plan goes out as it stands, the earliest due first. 3:5 3:5 5:9, t4 left out. t5 goes, and
  *    t4 leaves, too late.
  * 4  A frame comes too late: the round is sealed. 5:9, and a blank fills this slot, so the marks are 0. The blank is due first: silence.
  *    (Unsealed, t6 would leap into this slot, to leave slot 5 to a frame that might still come.)
  * 5  t6 goes. Then the round is over.
  */
 static const struct frame frames[] = {
-    {0, 0, 4, "milk 1.09"}, {0, 1, 11, "bread 2.49"},
-    {1, 3, 7, "eggs 3.19"}, {1, 3, 5, "tea 4.99"},    {1, 9, 8, "jam 2.79"},
-    {2, 3, 6, "rice 1.89"}, {2, 5, 9, "coffee 5.49"}, {2, 4, 2, "salt 0.49"},
-    {4, 5, 3, "soap 0.99"},
+    {0, 0, 4, PRICE, "milk 1.09"}, {0, 1, 11, PRICE, "bread 2.49"},
+    {1, 3, 7, PRICE, "eggs 3.19"}, {1, 3, 5, PICTURE, "a tin of tea"}, {1, 9, 8, PRICE, "jam 2.79"},
+    {2, 3, 5, PRICE, "rice 1.89"}, {2, 5, 9, PRICE, "coffee 5.49"},    {2, 4, 2, PRICE, "salt 0.49"},
+    {4, 5, 3, PRICE, "soap 0.99"},
 };
 
 static uint8_t table[LIRVEDD_TABLE_SIZE(ROWS)];
@@ -102,9 +103,10 @@ static unsigned total(void)
 static void take(const struct frame *frame)
 {
     unsigned before = total();
-    uint64_t reply = lirvedd_take(frame->due, frame->weight, table, sizeof table);
+    uint64_t reply = lirvedd_take_class(frame->due, frame->weight, frame->of_class, table, sizeof table);
+    const char *shown = frame->of_class == PICTURE ? ", a picture" : "";
 
-    printf("  %s, due by slot %u, weight %u: ", frame->text, (unsigned)frame->due, (unsigned)frame->weight);
+    printf("  %s, due by slot %u, weight %u%s: ", frame->text, (unsigned)frame->due, (unsigned)frame->weight, shown);
     switch (lirvedd_refusal(reply)) {
     case LIRVEDD_ACCEPTED:
         store(lirvedd_ticket(reply), frame->text);

@@ -29,6 +29,19 @@ pub unsafe extern "C" fn lirvedd_take(due: u32, weight: u32, table: *mut u8, len
 /// # Safety
 /// As `lirvedd_open`.
 #[no_mangle]
+pub unsafe extern "C" fn lirvedd_take_class(
+    due: u32,
+    weight: u32,
+    class: u32,
+    table: *mut u8,
+    length: usize,
+) -> u64 {
+    calls::take_class(due, weight, class, lent(table, length))
+}
+
+/// # Safety
+/// As `lirvedd_open`.
+#[no_mangle]
 pub unsafe extern "C" fn lirvedd_send(table: *mut u8, length: usize) -> u64 {
     calls::send(lent(table, length))
 }

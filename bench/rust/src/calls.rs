@@ -2,8 +2,8 @@
 
 use crate::sound::{judge, LENGTH};
 use crate::table::{
-    is_length, is_sealed, rows, rows_mut, set, LAST, MOST_LAST, MOST_WEIGHT, NEXT, SEALED, TICKET,
-    TICKET_LIMIT, USED,
+    is_length, is_sealed, rows, rows_mut, set, CLASS, LAST, MOST_CLASS, MOST_LAST, MOST_WEIGHT,
+    NEXT, SEALED, TICKET, TICKET_LIMIT, USED,
 };
 
 pub use crate::questions::{mark, total};
@@ -16,6 +16,7 @@ pub(crate) const BAD_SLOT: u64 = 7;
 const NO_TICKET_LEFT: u64 = 8;
 const TABLE_FULL: u64 = 9;
 const IS_SEALED: u64 = 13;
+const BAD_CLASS: u64 = 14;
 
 pub fn open(last: u32, table: &mut [u8]) -> u64 {
     if !is_length(table.len()) {
@@ -30,7 +31,17 @@ pub fn open(last: u32, table: &mut [u8]) -> u64 {
     0
 }
 
+/// Without a class it is 0.
 pub fn take(due: u32, weight: u32, table: &mut [u8]) -> u64 {
+    taken(due, weight, 0, table)
+}
+
+pub fn take_class(due: u32, weight: u32, class: u32, table: &mut [u8]) -> u64 {
+    taken(due, weight, class, table)
+}
+
+#[inline(always)]
+fn taken(due: u32, weight: u32, class: u32, table: &mut [u8]) -> u64 {
     let head = match judge(table, |_, _| ()) {
         Ok(head) => head,
         Err(refusal) => return refusal,
@@ -44,6 +55,9 @@ pub fn take(due: u32, weight: u32, table: &mut [u8]) -> u64 {
     if due < head.slot || due > head.last {
         return BAD_SLOT;
     }
+    if class > MOST_CLASS {
+        return BAD_CLASS;
+    }
     if head.next == TICKET_LIMIT {
         return NO_TICKET_LEFT;
     }
@@ -53,6 +67,7 @@ pub fn take(due: u32, weight: u32, table: &mut [u8]) -> u64 {
     let row = &mut rows_mut(table)[head.used];
     TICKET.put(row, head.next);
     set(row, due, weight);
+    CLASS.put(row, class);
     NEXT.put(table, head.next + 1);
     USED.put(table, head.used as u32 + 1);
     u64::from(head.next) << 8

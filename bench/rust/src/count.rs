@@ -5,13 +5,15 @@
 
 const OVER: i32 = 2_048;
 
-/// One place in what `starts` gives: a place above, the slots ahead below.
-pub const STEP: u32 = 1 << 22;
+/// One place in what `starts` gives, from its low bits up: the slots ahead in ten bits; a place in ten; two for a class, both set; and
+/// 1,023 less the slots ahead.
+pub const STEP: u32 = 1 << 10;
+pub const CLASS_STEP: u32 = STEP << 10;
+const EARLIER: u32 = CLASS_STEP << 2;
+const PLACES: u32 = 1 << 10;
 
-/// What is added to a start for the next slot if there are no rows: what a count begins with is taken back.
-const NEXT_START: u32 = (NONE_DUE as u32)
-    .wrapping_mul(STEP / OVER as u32)
-    .wrapping_add(1);
+/// What is added to a start for the next slot if half a count, which is a step for each row less one, is taken from it.
+const NEXT_START: u32 = 1_u32.wrapping_sub(EARLIER).wrapping_sub(STEP);
 
 /// What a slot's count begins with.
 pub const NONE_DUE: i32 = 1 - OVER;
@@ -97,17 +99,16 @@ impl<const N: usize> Counts<'_, N> {
     /// If none is, it is N; if all are, a multiple of N.
     #[inline(always)]
     pub fn last_place(&self, ahead: usize) -> usize {
-        (self.0[ahead] as u32 / STEP + 1) as usize
+        (self.0[ahead] as u32 / STEP % PLACES + 1) as usize
     }
 
-    /// In place of each busy slot's count, the first place of its rows in due order from N − 1 down, in steps, and the
-    /// slots ahead below it.
+    /// In place of each busy slot's count, the first place of its rows in due order from N − 1 down, in steps, with the slots ahead.
     #[inline(always)]
     pub fn starts(&mut self, busy: usize) -> &mut [i32] {
         let starts = &mut self.0[..busy];
-        let mut start = (N as u32 - 1) * STEP;
+        let mut start = EARLIER.wrapping_neg() + 3 * CLASS_STEP + (N as u32 - 1) * STEP;
         for count in starts.iter_mut() {
-            let rows = (*count as u32).wrapping_mul(STEP / OVER as u32);
+            let rows = (*count >> 1) as u32;
             *count = start as i32;
             // One slot ahead more, and as many places on as there are rows.
             start = start.wrapping_sub(rows).wrapping_add(NEXT_START);

@@ -3,7 +3,7 @@
 use crate::count::{Counts, Segment};
 use crate::segments::score;
 use crate::send::{Heaviest, Step};
-use crate::table::{due, set, weight, Row, KIND};
+use crate::table::{due, keep, weight, Row};
 
 pub fn step<const N: usize>(rows: &mut [Row], slot: u32, counts: &Counts<N>, busy: usize) -> Step {
     let mut heaviest = Heaviest::NONE;
@@ -15,7 +15,7 @@ pub fn step<const N: usize>(rows: &mut [Row], slot: u32, counts: &Counts<N>, bus
         return leap(rows);
     }
     let first_end = counts.segment(0).end;
-    let ahead = (heaviest.due - slot) as usize;
+    let ahead = (heaviest.due() - slot) as usize;
     if ahead <= first_end {
         return Step::of(rows, heaviest.index, false);
     }
@@ -37,8 +37,7 @@ pub fn step<const N: usize>(rows: &mut [Row], slot: u32, counts: &Counts<N>, bus
     let mut step = leap(rows);
     if !late {
         let row = &mut rows[heaviest.index];
-        set(row, slot + own.start as u32, found.mark);
-        KIND.put(row, 1);
+        keep(row, slot + own.start as u32, found.mark);
         step.leaves = false;
     }
     step

@@ -2,7 +2,7 @@
 
 use crate::plan::{ahead_in, weight_in, Index, Plan};
 use crate::segments::{Pick, Segments};
-use crate::table::{set, Row, KIND};
+use crate::table::{keep, set, Row};
 
 /// Whether p's row stays, as a kept blank.
 pub fn leap<const N: usize>(
@@ -17,8 +17,7 @@ pub fn leap<const N: usize>(
     if pick.substitute == 0 {
         let mark = marks(segments, own);
         let row = &mut rows[index.of(pick.key)];
-        set(row, slot + u32::from(segments.end[own + 1]) + 1, mark);
-        KIND.put(row, 1);
+        keep(row, slot + u32::from(segments.end[own + 1]) + 1, mark);
         return true;
     }
     let due = ahead_in(pick.substitute);

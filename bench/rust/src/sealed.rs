@@ -4,7 +4,7 @@
 use crate::count::{Counts, Load};
 use crate::plan::{ahead_in, Index, Plan, OUTSIDE};
 use crate::send::Step;
-use crate::table::{due, weight, Row};
+use crate::table::{class, due, weight, Row};
 
 #[inline(always)]
 pub fn step<const N: usize>(rows: &[Row], slot: u32, counts: &mut Counts<N>, load: &Load) -> Step {
@@ -15,17 +15,23 @@ pub fn step<const N: usize>(rows: &[Row], slot: u32, counts: &mut Counts<N>, loa
     Step::of(rows, index, false)
 }
 
-/// Where every row is in the plan: the earliest due; among these the heaviest; among equals the first.
+/// Where every row is in the plan: the earliest due; among these the heaviest; of these the smallest class; among equals the first.
 #[inline(always)]
 fn first_of_all(rows: &[Row]) -> usize {
     let (mut first, mut heaviest, mut at) = (u32::MAX, 0, 0);
     for (index, row) in rows.iter().enumerate() {
         let due = due(row);
-        if due <= first && (due < first || weight(row) > heaviest) {
-            (first, heaviest, at) = (due, weight(row), index);
+        if due <= first && (due < first || heaviness(row) > heaviest) {
+            (first, heaviest, at) = (due, heaviness(row), index);
         }
     }
     at
+}
+
+/// Among rows of one due slot the heavier has the greater.
+#[inline(always)]
+fn heaviness(row: &Row) -> u32 {
+    weight(row) << 2 | class(row) ^ 3
 }
 
 #[inline(always)]

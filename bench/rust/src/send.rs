@@ -9,7 +9,7 @@ use crate::sealed;
 use crate::segments::{score, Segments};
 use crate::sound::judge;
 use crate::table::{
-    due, is_sealed, rows_mut, ticket, weight, Head, Row, KIND, MIDDLE, MIDDLE_ROWS, MOST_ROWS,
+    is_sealed, rank, rows_mut, ticket, weight, Head, Row, KIND, MIDDLE, MIDDLE_ROWS, MOST_ROWS,
     SLOT, SMALL, SMALL_ROWS, USED,
 };
 
@@ -17,23 +17,37 @@ use crate::table::{
 #[derive(Clone, Copy)]
 pub struct Heaviest {
     pub weight: u32,
-    pub due: u32,
+    /// Its due slot and class.
+    pub rank: u32,
     pub index: usize,
 }
 
 impl Heaviest {
     pub const NONE: Heaviest = Heaviest {
         weight: 0,
-        due: 0,
+        rank: 0,
         index: 0,
     };
 
     #[inline(always)]
     pub fn see(&mut self, row: &Row, index: usize) {
-        let (weight, due) = (weight(row), due(row));
-        if weight >= self.weight && (weight > self.weight || due < self.due) {
-            *self = Heaviest { weight, due, index };
+        let weight = weight(row);
+        if weight < self.weight {
+            return;
         }
+        let rank = rank(row);
+        if weight > self.weight || rank < self.rank {
+            *self = Heaviest {
+                weight,
+                rank,
+                index,
+            };
+        }
+    }
+
+    #[inline(always)]
+    pub fn due(&self) -> u32 {
+        self.rank >> 2
     }
 }
 

@@ -1,8 +1,8 @@
 //! Refusals 2, 3 and 5: the table's length, its soundness, and a round that is over.
 
 use crate::table::{
-    is_length, rows, weight, word, Head, Row, DUE, KIND, LAST, MOST_LAST, MOST_WEIGHT, NEXT,
-    SEALED, SLOT, TICKET, TICKET_LIMIT, USED, WORD,
+    is_length, rows, weight, word, Head, Row, CLASS, DUE, KIND, LAST, MOST_CLASS, MOST_LAST,
+    MOST_WEIGHT, NEXT, SEALED, SLOT, TICKET, TICKET_LIMIT, USED, WEIGHT, WORD,
 };
 
 /// The bits above the due slot in a row's first word, and those below it once these are shifted out.
@@ -11,6 +11,13 @@ const DUE_AT_TOP: usize = 8 * (WORD - DUE.size);
 
 /// The bit of a sealed round in the head's second word.
 const SEAL: u64 = 1 << (8 * (SEALED.at - USED.at));
+
+/// In a row's second word: the bit of a kept blank, those of its class, and those that no row may have. The weight's upper half stands
+/// below them.
+const KEPT: u64 = 1 << (8 * (KIND.at - WORD));
+const CLASS_AT: usize = 8 * (CLASS.at - WORD);
+const NONE_OF: u64 = !(KEPT | (MOST_CLASS as u64) << CLASS_AT) >> ABOVE << ABOVE;
+const ABOVE: usize = 8 * (WEIGHT.end() - WORD);
 
 pub const LENGTH: u64 = 2;
 pub const NOT_SOUND: u64 = 3;
@@ -76,9 +83,18 @@ fn used_are_sound(used: &[Row], head: Head, mut each: impl FnMut(usize, u32)) ->
         thirds |= word(row, 2 * WORD);
         each((ahead >> DUE_AT_TOP) as usize, weight);
     }
-    // The second word is the weight's upper half, the kind, of which one bit may be set, and five zero bytes.
-    let zeros = seconds >> (8 * (KIND.at - WORD) + 1) | thirds | u64::from(weights / MOST_WEIGHT);
-    zeros == 0 && rising == used.len() && timely == used.len() && previous < head.next
+    let zeros = seconds & NONE_OF | thirds | u64::from(weights / MOST_WEIGHT);
+    let sound = zeros == 0 && rising == used.len() && timely == used.len();
+    sound && previous < head.next && (seconds & KEPT == 0 || kept_are_last(used))
+}
+
+/// Where some row is a kept blank: each such has class 3. With a class and five times the kind in one number, only a kept blank of
+/// another class has the bit of 4.
+#[inline(never)]
+fn kept_are_last(used: &[Row]) -> bool {
+    let five_times = 1 + (5 << (CLASS_AT - 8 * (KIND.at - WORD)));
+    let other = |bits: u64, row: &Row| bits | word(row, WORD).wrapping_mul(five_times);
+    used.iter().fold(0, other) >> CLASS_AT & 4 == 0
 }
 
 /// A branch for each eight bytes, as document 02 asks (L8), of four rows in a turn.

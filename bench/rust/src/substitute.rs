@@ -4,7 +4,8 @@ use crate::count::{Counts, NONE_DUE};
 use crate::plan::{ahead_in, Index, Plan, OUTSIDE};
 use crate::sound::judge;
 use crate::table::{
-    due, rows, ticket as ticket_of, weight, Row, MIDDLE, MIDDLE_ROWS, MOST_ROWS, SMALL, SMALL_ROWS,
+    due, rank, rows, ticket as ticket_of, weight, Row, MIDDLE, MIDDLE_ROWS, MOST_ROWS, SMALL,
+    SMALL_ROWS,
 };
 
 const NO_ROW: u64 = 10;
@@ -104,7 +105,7 @@ fn among_all<const N: usize>(rows: &[Row], slot: u32, counts: &Counts<N>, ahead:
     }
     let first_end = slot + own.end as u32;
     let due_by = rows.iter().filter(|row| due(row) <= first_end);
-    let lightest = due_by.min_by_key(|row| (weight(row), !due(row), !ticket_of(row)));
+    let lightest = due_by.min_by_key(|row| (weight(row), !rank(row), !ticket_of(row)));
     lightest.map_or(0, row)
 }
 

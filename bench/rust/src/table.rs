@@ -11,6 +11,7 @@ pub const MIDDLE: usize = HEAD + ROW * MIDDLE_ROWS;
 pub const MOST_LAST: u32 = 4_095;
 pub const MOST_WEIGHT: u32 = 1 << 24;
 pub const TICKET_LIMIT: u32 = 1 << 24;
+pub const MOST_CLASS: u32 = 3;
 
 /// The head's fields.
 pub const SLOT: Field = Field { at: 0, size: 2 };
@@ -24,6 +25,7 @@ pub const TICKET: Field = Field { at: 0, size: 4 };
 pub const DUE: Field = Field { at: 4, size: 2 };
 pub const WEIGHT: Field = Field { at: 6, size: 4 };
 pub const KIND: Field = Field { at: 10, size: 1 };
+pub const CLASS: Field = Field { at: 11, size: 1 };
 
 /// The bytes of a word.
 pub const WORD: usize = 8;
@@ -118,6 +120,25 @@ pub fn due(row: &Row) -> u32 {
 #[inline(always)]
 pub fn weight(row: &Row) -> u32 {
     WEIGHT.get(row)
+}
+
+#[inline(always)]
+pub fn class(row: &Row) -> u32 {
+    u32::from(row[CLASS.at])
+}
+
+/// Among rows of one weight the heavier has the smaller: earlier due, then of the smaller class.
+#[inline(always)]
+pub fn rank(row: &Row) -> u32 {
+    due(row) << 2 | class(row)
+}
+
+/// Makes a row a kept blank.
+#[inline(always)]
+pub fn keep(row: &mut Row, due: u32, weight: u32) {
+    set(row, due, weight);
+    KIND.put(row, 1);
+    CLASS.put(row, MOST_CLASS);
 }
 
 /// Gives a row a due slot and a weight.

@@ -14,6 +14,7 @@ impl Library for Tuned {
         match call {
             Call::Open { last } => calls::open(last, table),
             Call::Take { due, weight } => calls::take(due, weight, table),
+            Call::TakeClass { due, weight, class } => calls::take_class(due, weight, class, table),
             Call::Send => calls::send(table),
             Call::Seal => calls::seal(table),
             Call::Mark { slot } => calls::mark(slot, table),

@@ -26,6 +26,7 @@ pub fn taking_refusal(round: Round, due: Slot, weight: Weight, class: Class) -> 
     let sealed = round.sealed == 1;
     let bad_weight = (weight.0 == 0) | (Round::WEIGHT.0 < weight.0);
     let bad_class = Round::CLASS.0 < class.0;
+    let spent = round.next.0 == Round::TICKETS.0;
     if is_over(round) {
         return 5;
     }
@@ -41,7 +42,7 @@ pub fn taking_refusal(round: Round, due: Slot, weight: Weight, class: Class) -> 
     if bad_class {
         return 14;
     }
-    if round.next.0 == Round::TICKETS.0 {
+    if spent {
         return 8;
     }
     if is_full(round) {

@@ -11,18 +11,18 @@ use Rattle.rules.specs.Table.{low, put}
 use Rattle.row.specs.Numbers.{row-numbers}
 use Rattle.row.specs.Written.{with-shift, with-weight, with-kept}
 
--- A ROW's five stores are one
-pub row-stored : (t u v w x y : List ℕ) (a k d m c : ℕ) → u ≡ sets t (a + ticket-at) (low wide-bytes k) → v ≡ sets u (a + due-at) (low slot-bytes d) →
+-- A ROW's five stores are one; the class z is stored at b
+pub row-stored : (t u v w x y : List ℕ) (a k d m c b z : ℕ) → u ≡ sets t (a + ticket-at) (low wide-bytes k) → v ≡ sets u (a + due-at) (low slot-bytes d) →
     w ≡ sets v (a + weight-at) (low wide-bytes m) → x ≡ sets w (a + kind-at) (low kind-bytes 0) →
-    y ≡ sets x (a + class-at) (low class-bytes c) → y ≡ sets t a (row-numbers k (framed d m c))
+    y ≡ sets x b (low class-bytes z) → b ≡ a + class-at → z ≡ c → y ≡ sets t a (row-numbers k (framed d m c))
 unfolding low put row row-numbers
-row-stored t u v w x y a k d m c e f g h i =
+row-stored t u v w x y a k d m c b z e f g h i j l =
     let o : a + 0 ≡ a = omega arith in
     let p : a + 4 ≡ suc (suc (suc (suc a))) = omega arith in
     let q : a + 6 ≡ suc (suc (suc (suc (suc (suc a))))) = omega arith in
     let r : a + 10 ≡ suc (suc (suc (suc (suc (suc (suc (suc (suc (suc a))))))))) = omega arith in
     let n : a + 11 ≡ suc (suc (suc (suc (suc (suc (suc (suc (suc (suc (suc a)))))))))) = omega arith in
-    i ∙ (rw (h, g, f, e, o, p, q, r, n))
+    i ∙ (rw (j, l, h, g, f, e, o, p, q, r, n))
 
 -- two stores side by side are one; at is where the row begins
 pub shift-stored : (t u v : List ℕ) (at i d w : ℕ) → at ≡ row-at i → u ≡ sets t (at + due-at) (low slot-bytes d) →

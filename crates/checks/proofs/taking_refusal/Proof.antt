@@ -2,9 +2,7 @@
 use mathlib.Core.Path.{_≡_, sym, _∙_}
 use mathlib.Core.Bool.{true, false, _||_}
 use lib.Dec.{eqb, ltb}
-use native.Mathlib.Omega.{arith}
 use borrow.Author.Needs.{needs}
-use borrow.Author.Tests.{eq-eqb, ne-eqb}
 use Rattle.rules.specs.Limits.{most-weight, most-class, ticket-limit}
 use Rattle.checks.proofs.taking_refusal.Statement.{statement}
 use Rattle.checks.proofs.taking_refusal.Tie as tie
@@ -19,28 +17,28 @@ is-full-requires : tie.Need-is-full-requires
 is-full-requires c κs = search needs
 
 -- what a test says that did not hold
-going-on : (c : tie.Else1) → let r = c .before .before .before .before .before .before .before .before .args .round in ltb (r .last .0) (r .slot .0) ≡ false
-going-on c = sym (c .before .is-over .ensures) ∙ c .if1 .left
+going-on : (c : tie.Else1) → let r = c .before .before .before .before .before .before .before .before .before .before .args .round in ltb (r .last .0) (r .slot .0) ≡ false
+going-on c = cc (c .before .is-over .ensures, c .if1 .left)
 
-unsealed : (c : tie.Else2) → eqb (c .before .before .before .before .before .before .before .before .before .args .round .sealed) 1 ≡ false
+unsealed : (c : tie.Else2) → eqb (c .before .before .before .before .before .before .before .before .before .before .before .args .round .sealed) 1 ≡ false
 unsealed c = cc (c .if2 .left)
 
-weighed : (c : tie.Else3) → let w = c .before .before .before .before .before .before .before .before .before .before .args .weight .0 in (eqb w 0 || ltb most-weight w) ≡ false
+weighed : (c : tie.Else3) → let w = c .before .before .before .before .before .before .before .before .before .before .before .before .args .weight .0 in (eqb w 0 || ltb most-weight w) ≡ false
 weighed c = c .if3 .left
 
-ahead : (c : tie.Else4) → let s = c .before .before .before .before .before .before .before .before .before .before .before .before .args in (ltb (s .due .0) (s .round .slot .0) || ltb (s .round .last .0) (s .due .0)) ≡ false
-ahead c = sym (c .before .not-ahead .ensures) ∙ c .if4 .left
+ahead : (c : tie.Else4) → let s = c .before .before .before .before .before .before .before .before .before .before .before .before .before .before .args in (ltb (s .due .0) (s .round .slot .0) || ltb (s .round .last .0) (s .due .0)) ≡ false
+ahead c = cc (c .before .not-ahead .ensures, c .if4 .left)
 
-classed : (c : tie.Else5) → ltb most-class (c .before .before .before .before .before .before .before .before .before .before .before .before .before .args .class .0) ≡ false
-classed c = c .if5 .left
+classed : (c : tie.Else5) → ltb most-class (c .before .before .before .before .before .before .before .before .before .before .before .before .before .before .before .args .class .0) ≡ false
+classed c = cc (c .if5 .left)
 
 unspent : (c : tie.Else6) → eqb (c .before .before .before .before .before .before .before .before .before .before .before .before .before .before .before .before .args .round .next .0) ticket-limit ≡ false
-unspent c = ne-eqb (c .before .before .before .before .before .before .before .before .before .before .before .before .before .before .before .before .args .round .next .0) ticket-limit (λ z. omega (arith, z))
+unspent c = cc (c .if6 .left)
 
 returns : tie.Need-returns
 returns c = rw (sym (c .before .is-over .ensures) ∙ c .if1 .taken)
 
-sealed : (c : tie.Then2) → eqb (c .before .before .before .before .before .before .before .before .before .args .round .sealed) 1 ≡ true
+sealed : (c : tie.Then2) → eqb (c .before .before .before .before .before .before .before .before .before .before .before .args .round .sealed) 1 ≡ true
 sealed c = cc (c .if2 .taken)
 
 returns-2 : tie.Need-returns-2
@@ -55,34 +53,30 @@ returns-4 c = rw (going-on (c .before .before .before .before), unsealed (c .bef
 returns-5 : tie.Need-returns-5
 returns-5 c = rw (going-on (c .before .before .before .before .before), unsealed (c .before .before .before .before), weighed (c .before .before .before), ahead (c .before), c .if5 .taken)
 
+is-spent : (c : tie.Then6) → eqb (c .before .before .before .before .before .before .before .before .before .before .before .before .before .before .before .before .args .round .next .0) ticket-limit ≡ true
+is-spent c = cc (c .if6 .taken)
+
 returns-6 : tie.Need-returns-6
-returns-6 c = rw (
+returns-6 c = rw (going-on (c .before .before .before .before .before .before), unsealed (c .before .before .before .before .before), weighed (c .before .before .before .before), ahead (c .before .before), classed (c .before), is-spent c)
+
+returns-7 : tie.Need-returns-7
+returns-7 c = rw (
   going-on (c .before .before .before .before .before .before .before .before),
   unsealed (c .before .before .before .before .before .before .before),
   weighed (c .before .before .before .before .before .before),
   ahead (c .before .before .before .before),
   classed (c .before .before .before),
-  eq-eqb (c .before .before .before .before .before .before .before .before .before .before .before .before .before .before .before .before .args .round .next .0) ticket-limit (omega arith),
-)
-
-returns-7 : tie.Need-returns-7
-returns-7 c = rw (
-  going-on (c .before .before .before .before .before .before .before .before .before .before),
-  unsealed (c .before .before .before .before .before .before .before .before .before),
-  weighed (c .before .before .before .before .before .before .before .before),
-  ahead (c .before .before .before .before .before .before),
-  classed (c .before .before .before .before .before),
   unspent (c .before .before),
   sym (c .before .is-full .ensures) ∙ c .if7 .taken,
 )
 
 returns-8 : tie.Need-returns-8
 returns-8 c = rw (
-  going-on (c .before .before .before .before .before .before .before .before .before .before),
-  unsealed (c .before .before .before .before .before .before .before .before .before),
-  weighed (c .before .before .before .before .before .before .before .before),
-  ahead (c .before .before .before .before .before .before),
-  classed (c .before .before .before .before .before),
+  going-on (c .before .before .before .before .before .before .before .before),
+  unsealed (c .before .before .before .before .before .before .before),
+  weighed (c .before .before .before .before .before .before),
+  ahead (c .before .before .before .before),
+  classed (c .before .before .before),
   unspent (c .before .before),
   sym (c .before .is-full .ensures) ∙ c .if7 .left,
 )

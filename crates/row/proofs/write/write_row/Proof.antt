@@ -1,4 +1,5 @@
 -- `row::write::write_row` meets its contract: five stores are the row's numbers.
+use native.Mathlib.Omega.{arith}
 use borrow.Author.Needs.{needs}
 use Rattle.row.proofs.StoreLaws.{row-stored}
 use Rattle.row.proofs.write.write_row.Statement.{statement}
@@ -39,12 +40,14 @@ same-length c = search needs
 
 returns : tie.Need-returns
 returns c =
-    row-stored _ _ _ _ _ _ _ _ _ _ _
+    row-stored _ _ _ _ _ _ _ _ _ _ (c .before .before .before .before .before .before .before .before .before .before .before .before .before .before .before .before .before .before .before .before .before .args .class .0) _ _
     (c .before .before .before .before .before .before .before .before .before .before .before .before .before .before .before .before .before .before .write4 .ensures)
     (c .before .before .before .before .before .before .before .before .before .before .before .before .before .before .write2 .ensures)
     (c .before .before .before .before .before .before .before .before .before .before .write42 .ensures)
     (c .before .before .before .before .before .before .write1 .ensures)
     (c .before .before .write12 .ensures)
+    (omega arith)
+    (omega arith)
 
 pub write-row-spec : {M : Type 1} → statement M
 write-row-spec =

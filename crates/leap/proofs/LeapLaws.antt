@@ -287,6 +287,7 @@ module _ {t : List ℕ} {h : Head} {es ts ls : List ℕ} {l : Lead} (w : Leaps-r
             due-by = y-fine .due-by;
             some = mark-some (round-in t) f (l .count) to es ts ls us (v .pieces) m to (omega arith) to-in;
             most = omega (arith, mk-is, mark-most (round-in t) g);
+            class = y-fine .class;
           })
           (all-in Tail-fine y (round-in t .rows) (q .size .tails) y-in)
 

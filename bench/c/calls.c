@@ -1,7 +1,7 @@
 #include "calls.h"
 
-const char *const call_names[CALLS] = {"soundness", "open", "take",  "seal",      "send",
-                                       "sealed",    "mark", "total", "substitute"};
+const char *const call_names[CALLS] = {"soundness", "open",   "take", "take_class", "seal",
+                                       "send",      "sealed", "mark", "total",      "substitute"};
 
 int has_shapes(enum call call)
 {
@@ -16,7 +16,7 @@ static uint32_t mark_reach(enum shape shape, uint32_t rows)
 
 void draw_input(struct input *input, enum call call, enum shape shape, uint32_t rows, uint32_t slots, uint32_t number)
 {
-    draw_table(&input->table, shape, rows, call == TAKE, slots, 1000 * shape + number);
+    draw_table(&input->table, shape, rows, call == TAKE || call == TAKE_CLASS, slots, 1000 * shape + number);
     put(input->table.bytes, head_sealed, call == SEALED);
     input->argument = call == MARK ? mark_reach(shape, rows) * (2 * number + 1) / (2 * DRAWS) : heaviest_ticket(&input->table);
 }
@@ -29,6 +29,7 @@ uint64_t do_call(const struct side *side, enum call call, struct input *input)
     case SOUND: return side->take(0, 0, table, length);
     case OPEN: return side->open(1023, table, length);
     case TAKE: return side->take(0, 7, table, length);
+    case TAKE_CLASS: return side->take_class(0, 7, 2, table, length);
     case SEAL: return side->seal(table, length);
     case SEND:
     case SEALED: return side->send(table, length);

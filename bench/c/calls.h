@@ -6,7 +6,7 @@
 #include "tables.h"
 
 /* SOUND is a taking of weight 0: refusal 6, given once the table was found sound. SEALED is a sending of the same table, sealed. */
-enum call { SOUND, OPEN, TAKE, SEAL, SEND, SEALED, MARK, TOTAL, SUBSTITUTE, CALLS };
+enum call { SOUND, OPEN, TAKE, TAKE_CLASS, SEAL, SEND, SEALED, MARK, TOTAL, SUBSTITUTE, CALLS };
 
 extern const char *const call_names[CALLS];
 

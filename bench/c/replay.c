@@ -8,11 +8,11 @@
 
 #define MOST_LINES 200000
 
-enum kind { OPEN, TAKE, SEND };
+enum kind { OPEN, TAKE, SEND, TAKE_CLASS = 4 };
 
 struct line {
     enum kind kind;
-    uint32_t slot, weight;
+    uint32_t slot, weight, class;
     uint64_t reply;
 };
 
@@ -34,7 +34,8 @@ static size_t read_lines(FILE *file)
         struct line *line = &lines[count++];
         line->kind = (enum kind)number(text, 0, 2);
         line->slot = line->kind == SEND ? 0 : number(text, 2, 4);
-        line->weight = line->kind == TAKE ? number(text, 6, 8) : 0;
+        line->weight = line->kind == TAKE || line->kind == TAKE_CLASS ? number(text, 6, 8) : 0;
+        line->class = line->kind == TAKE_CLASS ? number(text, 14, 2) : 0;
     }
     return count;
 }
@@ -44,6 +45,7 @@ static uint64_t called(const struct line *line)
     switch (line->kind) {
     case OPEN: return lirvedd_open(line->slot, table, sizeof table);
     case TAKE: return lirvedd_take(line->slot, line->weight, table, sizeof table);
+    case TAKE_CLASS: return lirvedd_take_class(line->slot, line->weight, line->class, table, sizeof table);
     default: return lirvedd_send(table, sizeof table);
     }
 }
@@ -55,7 +57,7 @@ static void print_reply(const struct line *line)
         printf("FF%02X\n", (unsigned)lirvedd_refusal(line->reply));
     } else if (line->kind == OPEN) {
         puts("00");
-    } else if (line->kind == TAKE) {
+    } else if (line->kind == TAKE || line->kind == TAKE_CLASS) {
         printf("01%08X\n", ticket);
     } else {
         const unsigned out = lirvedd_out(line->reply), leap = lirvedd_is_leap(line->reply);

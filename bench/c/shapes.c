@@ -7,7 +7,7 @@
 
 const char *const shape_names[SHAPES] = {"inplan", "halfout", "asc2x",   "fewdue", "equal", "spread",
                                          "chain",  "sparse",  "unused",  "quarter", "tenth", "far",
-                                         "crowd",  "alternating", "beyond", "fallrise", "worst"};
+                                         "crowd",  "alternating", "beyond", "fallrise", "worst", "classes"};
 
 int is_partly_used(enum shape shape)
 {
@@ -43,13 +43,18 @@ static uint32_t at_least_1(uint32_t number)
     return number > 0 ? number : 1;
 }
 
+static struct row frame(uint32_t due, uint32_t weight)
+{
+    return (struct row){due, weight, 0};
+}
+
 /* Falling weights, and the last row's is the substitute of all. */
 static struct row chain_row(uint32_t place, uint32_t rows)
 {
     if (place == 0 || place + 1 == rows) {
-        return (struct row){place == 0 ? 0 : rows - 2, 1};
+        return frame(place == 0 ? 0 : rows - 2, 1);
     }
-    return (struct row){place, 1 + rows - place};
+    return frame(place, 1 + rows - place);
 }
 
 /* Crowded near rows, then heavier far ones. */
@@ -57,9 +62,9 @@ static struct row beyond_row(uint32_t place, uint32_t rows, uint32_t slots, uint
 {
     const uint32_t weight = 1 + below(state, MOST_WEIGHT / 2);
     if (place < rows / 2) {
-        return (struct row){below(state, rows / 4), weight};
+        return frame(below(state, rows / 4), weight);
     }
-    return (struct row){slots / 2 + below(state, slots / 2), MOST_WEIGHT / 2 + weight};
+    return frame(slots / 2 + below(state, slots / 2), MOST_WEIGHT / 2 + weight);
 }
 
 /* All due in one slot, each lighter than the ones before until its slots are filled, then each heavier. */
@@ -67,13 +72,26 @@ static struct row fallrise_row(uint32_t place, uint32_t rows)
 {
     const uint32_t slots = at_least_1(3 * rows / 8);
     const uint32_t weight = place < slots ? 1 + (rows - place) * 8000 : 9000000 + place * 5000;
-    return (struct row){slots - 1, weight};
+    return frame(slots - 1, weight);
 }
 
 /* Two a slot, the light ones ever lighter, the heavy ones ever heavier. */
 static struct row alternating_row(uint32_t place)
 {
-    return (struct row){place / 2, place % 2 ? 9000000 + place * 5000 : 5000000 - place * 4000};
+    return frame(place / 2, place % 2 ? 9000000 + place * 5000 : 5000000 - place * 4000);
+}
+
+/* One of sixteen due slots within the first half of the rows' slots. */
+static uint32_t sixteenth(uint32_t rows, uint64_t *state)
+{
+    return (1 + below(state, 16)) * at_least_1(rows / 32) - 1;
+}
+
+/* Equals in every due slot, told apart by their classes. */
+static struct row classes_row(uint32_t rows, uint64_t *state)
+{
+    const uint32_t due = sixteenth(rows, state);
+    return (struct row){due, 1000, below(state, 4)};
 }
 
 /* The row at one place of so many, before any shuffling. */
@@ -82,18 +100,19 @@ static struct row draw_row(enum shape shape, uint32_t place, uint32_t rows, uint
     const uint32_t weight = 1 + below(state, MOST_WEIGHT);
     const uint32_t half = below(state, at_least_1(rows / 2));
     switch (shape) {
-    case INPLAN: return (struct row){place, weight};
-    case HALFOUT: return (struct row){half, weight};
-    case ASC2X: return (struct row){place / 2, place + 1};
-    case FEWDUE: return (struct row){(1 + below(state, 16)) * at_least_1(rows / 32) - 1, weight};
-    case EQUAL: return (struct row){half, 1000};
+    case INPLAN: return frame(place, weight);
+    case HALFOUT: return frame(half, weight);
+    case ASC2X: return frame(place / 2, place + 1);
+    case FEWDUE: return frame(sixteenth(rows, state), weight);
+    case EQUAL: return frame(half, 1000);
     case CHAIN: return chain_row(place, rows);
-    case FAR: return (struct row){slots / 2 + below(state, slots / 2), weight};
-    case CROWD: return (struct row){place < rows / 4 ? 0 : place - rows / 4, weight};
+    case FAR: return frame(slots / 2 + below(state, slots / 2), weight);
+    case CROWD: return frame(place < rows / 4 ? 0 : place - rows / 4, weight);
     case ALTERNATING: return alternating_row(place);
     case BEYOND: return beyond_row(place, rows, slots, state);
     case FALLRISE: return fallrise_row(place, rows);
-    default: return (struct row){below(state, rows), weight};
+    case CLASSES: return classes_row(rows, state);
+    default: return frame(below(state, rows), weight);
     }
 }
 

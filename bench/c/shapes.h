@@ -9,7 +9,7 @@
 /* New shapes go last: the seeds are counted from here. */
 enum shape {
     INPLAN, HALFOUT, ASC2X, FEWDUE, EQUAL, SPREAD, CHAIN, SPARSE, UNUSED,
-    QUARTER, TENTH, FAR, CROWD, ALTERNATING, BEYOND, FALLRISE, WORST, SHAPES
+    QUARTER, TENTH, FAR, CROWD, ALTERNATING, BEYOND, FALLRISE, WORST, CLASSES, SHAPES
 };
 
 extern const char *const shape_names[SHAPES];
@@ -24,7 +24,7 @@ int is_possible(enum shape shape, uint32_t rows, uint32_t slots);
 uint32_t in_use(enum shape shape, uint32_t rows);
 
 struct row {
-    uint32_t due, weight;
+    uint32_t due, weight, class;
 };
 
 /* Draws so many rows of a round of so many slots. */

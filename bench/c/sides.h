@@ -8,6 +8,7 @@
 struct side {
     uint64_t (*open)(uint32_t last, uint8_t *table, size_t length);
     uint64_t (*take)(uint32_t due, uint32_t weight, uint8_t *table, size_t length);
+    uint64_t (*take_class)(uint32_t due, uint32_t weight, uint32_t of_class, uint8_t *table, size_t length);
     uint64_t (*send)(uint8_t *table, size_t length);
     uint64_t (*seal)(uint8_t *table, size_t length);
     uint64_t (*mark)(uint32_t slot, const uint8_t *table, size_t length);

@@ -18,6 +18,7 @@ void draw_table(struct table *table, enum shape shape, uint32_t rows, uint32_t k
         put(row, row_ticket, place + 1);
         put(row, row_due, drawn_rows[place].due);
         put(row, row_weight, drawn_rows[place].weight);
+        put(row, row_class, drawn_rows[place].class);
     }
 }
 

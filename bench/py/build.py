@@ -8,7 +8,7 @@ BENCH = Path(__file__).resolve().parent.parent
 ROOT = BENCH.parent
 TARGET = ROOT / "target" / "bench"
 LIBRARY = ROOT / "target" / "staticlib" / "libstation.a"
-CALLS = ("open", "take", "send", "seal", "mark", "total", "substitute")
+CALLS = ("open", "take", "take_class", "send", "seal", "mark", "total", "substitute")
 CELLS = ("calls", "cells", "kept", "linked", "shapes", "tables")
 
 

@@ -5,8 +5,8 @@ from known import BY_CALL, NEW, PARTLY_USED, SEVEN
 from shown import most_stack
 
 # The library against tuned Rust at 1,024 rows: full tables in the seven shapes.
-FULL = {"soundness": 1.05, "open": 1.05, "take": 1.05, "seal": 1.05, "send": 1.05, "sealed": 1.05, "mark": 1.05, "total": 1.12,
-        "substitute": 1.3}
+FULL = {"soundness": 1.05, "open": 1.05, "take": 1.05, "take_class": 1.05, "seal": 1.05, "send": 1.05, "sealed": 1.05, "mark": 1.05,
+        "total": 1.12, "substitute": 1.3}
 PARTLY_USED_MOST = 1.3
 NEW_MOST = 1.5
 FEW_ROWS_MOST = 1.6

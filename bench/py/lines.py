@@ -9,14 +9,15 @@ from measured import ONCE, total
 PROGRAM = ROOT / "target" / "bin" / "stationround"
 LAST = 4095
 REACH = 256
-TOGGLES = [f"lirvedd_{call}" for call in ("open", "take", "send")]
+TOGGLES = [f"lirvedd_{call}" for call in ("open", "take", "take_class", "send")]
 
 # Instructions of the calls alone, the library's and tuned Rust's, and of the whole program, or None.
 Lines = namedtuple("Lines", "count calls tuned program")
 
 
 def busy(count):
-    """So many lines: rounds of 4,096 slots, three takings for two sendings, due within 256 slots, payloads of any length."""
+    """So many lines: rounds of 4,096 slots, three takings for two sendings, half of them with a class, due within 256 slots, payloads of any
+    length."""
     draw = random.Random(1)
     slot = LAST + 1
     for _ in range(count):
@@ -25,7 +26,9 @@ def busy(count):
             yield f"00{LAST:04X}"
         elif draw.random() < 0.6:
             due = min(slot + draw.randrange(REACH), LAST)
-            yield f"01{due:04X}{draw.randint(1, 1 << 24):08X}{draw.randbytes(draw.randrange(25)).hex().upper()}"
+            frame = f"{due:04X}{draw.randint(1, 1 << 24):08X}"
+            payload = draw.randbytes(draw.randrange(25)).hex().upper()
+            yield f"04{frame}{draw.randrange(4):02X}{payload}" if draw.random() < 0.5 else f"01{frame}{payload}"
         else:
             slot += 1
             yield "02"

@@ -106,7 +106,7 @@ impl<const N: usize> Counts<'_, N> {
     #[inline(always)]
     pub fn starts(&mut self, busy: usize) -> &mut [i32] {
         let starts = &mut self.0[..busy];
-        let mut start = EARLIER.wrapping_neg() | 3 * CLASS_STEP | (N as u32 - 1) * STEP;
+        let mut start = EARLIER.wrapping_neg() + 3 * CLASS_STEP + (N as u32 - 1) * STEP;
         for count in starts.iter_mut() {
             let rows = (*count >> 1) as u32;
             *count = start as i32;

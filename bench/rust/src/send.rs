@@ -31,8 +31,12 @@ impl Heaviest {
 
     #[inline(always)]
     pub fn see(&mut self, row: &Row, index: usize) {
-        let (weight, rank) = (weight(row), rank(row));
-        if weight >= self.weight && (weight > self.weight || rank < self.rank) {
+        let weight = weight(row);
+        if weight < self.weight {
+            return;
+        }
+        let rank = rank(row);
+        if weight > self.weight || rank < self.rank {
             *self = Heaviest {
                 weight,
                 rank,

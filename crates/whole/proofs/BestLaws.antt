@@ -26,6 +26,7 @@ rank-read r i d c x a b e =
     record {
       is = omega (arith, e, a .is, b .is);
       due = omega (arith, e, a .is, rank-due d c (b .most));
+      by = omega (arith, a .is, a .by);
       class = omega (arith, b .is, b .most);
     }
 

@@ -120,12 +120,14 @@ module _ {t cs : List ℕ} {h : Head} {x : Reach} (g : Given t cs h x) where
         })
 
 -- THE HEAVIEST IS PAST the first segment
-module _ {t cs : List ℕ} {h : Head} {x : Reach} {b : Best} {e : ℕ} (p : Past t cs h x b e) where
-  pub past-from : h .slot .0 ≤ b .rank / 4
-  past-from = omega (arith, p .past, p .segment .by, facts (p .given) .slot)
+module _ {t cs : List ℕ} {h : Head} {x : Reach} {b : Best} {e d : ℕ} (p : Past t cs h x b e) (v : d ≡ b .rank / 4) where
+  pub past-from : h .slot .0 ≤ d
+  past-from = omega (arith, v, p .past, p .segment .by, facts (p .given) .slot)
 
-  pub past-by : {y : Stretch} {a : ℕ} → a ≡ b .rank / 4 - h .slot .0 → Stretches cs (x .free) a y → e ≤ h .slot .0 + y .last
-  past-by d s = omega (arith, p .past, d, s .by, past-from)
+  pub past-by : {y : Stretch} {a : ℕ} → a ≡ d - h .slot .0 → Stretches cs (x .free) a y → e ≤ h .slot .0 + y .last
+  past-by q s =
+      let c : e < d = omega (arith, v, p .past) in
+      omega (arith, c, q, s .by, past-from)
 
 -- and the second pass is done
 module _ {t cs : List ℕ} {h : Head} {x : Reach} {b : Best} {e own : ℕ} {f : Found} (p : Past t cs h x b e) (l : Looks (round-in t) (h .used) e own f) where
@@ -192,13 +194,14 @@ module _ {t cs : List ℕ} {h : Head} {x : Reach} {b : Best} {e own : ℕ} {f : 
     due-is : {i : ℕ} → i ≡ b .row → at (round-in t) i .due ≡ b .rank / 4
     due-is q = ap (λ (v : ℕ). at (round-in t) v .due) q ∙ sym (best-row (p .given) (p .best) .due)
 
-    pub past-far : h .slot .0 + x .free ≤ b .rank / 4 → {i : ℕ} → i ≡ b .row → Picks-far (round-in t) (round-in t .slot + x .free) i
-    past-far d q = record { leading = past-leading q; far = omega (arith, d, due-is q, facts (p .given) .slot) }
+    pub past-far : {v : ℕ} → v ≡ b .rank / 4 → h .slot .0 + x .free ≤ v → {i : ℕ} → i ≡ b .row → Picks-far (round-in t) (round-in t .slot + x .free) i
+    past-far o d q = record { leading = past-leading q; far = omega (arith, o, d, due-is q, facts (p .given) .slot) }
 
-    pub past-kept : {y : Stretch} {a : ℕ} → h .slot .0 + a ≡ b .rank / 4 → Stretches cs (x .free) a y → own ≡ h .slot .0 + y .last → {i c m : ℕ} → i ≡ b .row →
+    pub past-kept : {y : Stretch} {a due : ℕ} → due ≡ b .rank / 4 → h .slot .0 + a ≡ due → Stretches cs (x .free) a y → own ≡ h .slot .0 + y .last → {i c m : ℕ} → i ≡ b .row →
         c ≡ h .slot .0 + y .first → m ≡ f .mark → Picks-kept (round-in t) (round-in t .slot + x .free) i c m
-    past-kept {y} {a} d s o {i} {c} {m} q v w =
+    past-kept {y} {a} {due} z g s o {i} {c} {m} q v w =
         let n = facts (p .given) in
+        let d : h .slot .0 + a ≡ b .rank / 4 = g ∙ z in
         let k = n .slot in
         let e1 : round-in t .slot + y .first ≡ c = omega (arith, v, k) in
         let e2 : round-in t .slot + y .last ≡ own = omega (arith, o, k) in

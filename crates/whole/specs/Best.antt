@@ -12,6 +12,7 @@ use Rattle.whole.specs.declared.best.Best.{Best}
 pub record Rank-at (r : Round) (i x : ℕ) : Type 0 where
   pub is : x ≡ rank-at r i
   pub due : x / 4 ≡ at r i .due
+  pub by : at r i .due ≤ r .last
   pub class : at r i .tail .class ≤ 3
 
 -- a row behind the best one in the table is heavier, or it isn't

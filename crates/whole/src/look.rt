@@ -1,5 +1,5 @@
 // The passes over the table.
-ghost use Prim.Native.Nat.{_≤_};
+ghost use Prim.Native.Nat.{_≤_, _<_};
 ghost use Rattle.rules.specs.Table.{round-in};
 ghost use Rattle.round.specs.Rows.{Ready};
 ghost use Rattle.whole.specs.Best.{Rank-at, Heaviest};

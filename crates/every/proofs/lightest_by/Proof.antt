@@ -25,14 +25,18 @@ loop-holds c = (search needs, lightest-start _ _)
 due-at-requires : tie.Need-due-at-requires Inv-loop μ-loop
 due-at-requires c κs = (c .before .before .before .pre, search needs)
 
+class-at-requires : tie.Need-class-at-requires Inv-loop μ-loop
+class-at-requires c κs = (c .before .before .before .before .pre, search needs)
+
 weight-at-requires : tie.Need-weight-at-requires Inv-loop μ-loop
-weight-at-requires c κs = (c .before .before .before .before .pre, search needs)
+weight-at-requires c κs = (c .before .before .before .before .before .pre, search needs)
 
 key-of-requires : tie.Need-key-of-requires Inv-loop μ-loop
 key-of-requires c κs = (
   c .weight-at .ensures .most,
-  c .before .due-at .ensures .small,
-  omega (arith, row (c .before .before), known _ _ (c .before .before .before .before .before .pre) .small),
+  c .before .before .due-at .ensures .small,
+  c .before .class-at .ensures .most,
+  omega (arith, row (c .before .before .before), known _ _ (c .before .before .before .before .before .before .pre) .small),
 )
 
 lighter-requires : tie.Need-lighter-requires Inv-loop μ-loop
@@ -47,8 +51,8 @@ loop-less c = search needs
 loop-again : tie.Need-loop-again Inv-loop μ-loop
 loop-again c = (
   search needs,
-  lightest-step _ _ _ _ _ _ _ _ (c .before .before .before .due-at .ensures) (c .before .before .weight-at .ensures) (c .before .key-of .ensures)
-      (c .lighter .ensures) (c .before .before .before .before .before .loop .inv .1),
+  lightest-step _ _ _ _ _ _ _ _ _ (c .before .before .before .before .due-at .ensures) (c .before .before .weight-at .ensures)
+      (c .before .before .before .class-at .ensures) (c .before .key-of .ensures) (c .lighter .ensures) (c .before .before .before .before .before .before .loop .inv .1),
 )
 
 returns : tie.Need-returns Inv-loop μ-loop
@@ -63,6 +67,7 @@ lightest-by-spec =
     μ-loop
     loop-holds
     due-at-requires
+    class-at-requires
     weight-at-requires
     key-of-requires
     lighter-requires

@@ -18,11 +18,11 @@ abbrev μ-loop : tie.MeasureT-loop
 due-at-requires : tie.Need-due-at-requires Inv-loop μ-loop
 due-at-requires c κs = search needs
 
-weight-at-requires : tie.Need-weight-at-requires Inv-loop μ-loop
-weight-at-requires c κs = search needs
+key-at-requires : tie.Need-key-at-requires Inv-loop μ-loop
+key-at-requires c κs = search needs
 
 loop-holds : tie.Need-loop-holds Inv-loop μ-loop
-loop-holds c = (search needs, lead-start _ _ _ (c .before .due-at .ensures) (c .weight-at .ensures))
+loop-holds c = (search needs, lead-start _ _ _ (c .before .due-at .ensures) (c .key-at .ensures))
 
 due-at-requires-2 : tie.Need-due-at-requires-2 Inv-loop μ-loop
 due-at-requires-2 c κs = search needs
@@ -30,8 +30,8 @@ due-at-requires-2 c κs = search needs
 add-i : tie.Need-add-i Inv-loop μ-loop
 add-i c = search needs
 
-weight-at-requires-2 : tie.Need-weight-at-requires-2 Inv-loop μ-loop
-weight-at-requires-2 c κs = search needs
+key-at-requires-2 : tie.Need-key-at-requires-2 Inv-loop μ-loop
+key-at-requires-2 c κs = search needs
 
 see-requires : tie.Need-see-requires Inv-loop μ-loop
 see-requires c κs = search needs
@@ -45,7 +45,7 @@ loop-again c =
     let loop = c .before .before .before .before .before .before .loop in
     let n = known _ _ (pre .0) in (
       search needs,
-      lead-sees _ (n .fine) _ (omega (arith, n .used)) _ (loop .inv .1) _ (c .before .before .before .before .due-at2 .ensures) _ (c .before .weight-at2 .ensures)
+      lead-sees _ (n .fine) (n .small) (n .cap) _ (omega (arith, n .used)) _ (loop .inv .1) _ (c .before .before .before .before .due-at2 .ensures) _ (c .before .key-at2 .ensures)
           (omega arith) _ (c .see .ensures),
     )
 
@@ -57,12 +57,15 @@ loop-again-2 c =
     let pre = c .before .before .before .before .before .before .before .before .pre in
     let loop = c .before .before .before .before .loop in
     let n = known _ _ (pre .0) in
-    (search needs, lead-passes _ (n .fine) _ (omega (arith, n .used)) _ (loop .inv .1) _ (c .before .before .due-at2 .ensures) (omega arith))
+    (search needs, lead-passes _ (n .fine) (n .small) (n .cap) _ (omega (arith, n .used)) _ (loop .inv .1) _ (c .before .before .due-at2 .ensures) (omega arith))
+
+row-of-requires : tie.Need-row-of-requires Inv-loop μ-loop
+row-of-requires c κs = search needs
 
 returns : tie.Need-returns Inv-loop μ-loop
 returns c =
-    let n = known _ _ (c .before .before .before .before .before .pre .0) in
-    lead-end _ _ _ _ (c .before .loop .inv .0) (c .loop-test .left) (n .used) (c .before .loop .inv .1)
+    let n = known _ _ (c .before .before .before .before .before .before .pre .0) in
+    lead-end _ (n .fine) (n .small) (n .cap) _ _ _ (c .before .before .loop .inv .0) (c .before .loop-test .left) (n .used) (c .before .before .loop .inv .1) _ (c .row-of .ensures)
 
 pub first-of-all-spec : {M : Type 1} → statement M
 first-of-all-spec =
@@ -71,14 +74,15 @@ first-of-all-spec =
     Inv-loop
     μ-loop
     due-at-requires
-    weight-at-requires
+    key-at-requires
     loop-holds
     due-at-requires-2
     add-i
-    weight-at-requires-2
+    key-at-requires-2
     see-requires
     loop-less
     loop-again
     loop-less-2
     loop-again-2
+    row-of-requires
     returns)

@@ -20,6 +20,9 @@ cast-end c = omega (arith, slots-fit (c .before .before .before .before .before 
 add-end : tie.Need-add-end
 add-end c = omega (arith, slots-fit (c .before .before .before .before .before .before .before .before .pre) (c .before .before .stretch-of .ensures) .0)
 
+rank-due-requires : tie.Need-rank-due-requires
+rank-due-requires c κs = search needs
+
 returns-2 : tie.Need-returns-2
 returns-2 c =
     let pre = c .before .before .before .before .before .before .before .before .before .before .pre in
@@ -51,6 +54,7 @@ choose-whole-spec =
     stretch-of-requires
     cast-end
     add-end
+    rank-due-requires
     returns-2
     choose-past-requires
     returns-3)

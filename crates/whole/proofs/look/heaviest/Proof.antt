@@ -24,8 +24,8 @@ weight-at-requires c κs = search needs
 add-i : tie.Need-add-i Inv-loop μ-loop
 add-i c = search needs
 
-due-at-requires : tie.Need-due-at-requires Inv-loop μ-loop
-due-at-requires c κs = search needs
+rank-at-requires : tie.Need-rank-at-requires Inv-loop μ-loop
+rank-at-requires c κs = search needs
 
 see-requires : tie.Need-see-requires Inv-loop μ-loop
 see-requires c κs = search needs
@@ -38,8 +38,8 @@ loop-again c =
     let pre = c .before .before .before .before .before .before .before .before .pre in
     let loop = c .before .before .before .before .before .before .loop in
     let weight-at = c .before .before .before .before .weight-at in
-    let due-at = c .before .due-at in
-    (search needs, best-sees _ _ _ _ (loop .inv .1) _ _ (weight-at .ensures) (due-at .ensures) (omega (arith, due-at .ensures .by, known _ _ pre .last)) _ (c .see .ensures))
+    let rank-at = c .before .rank-at in
+    (search needs, best-sees _ _ _ _ (loop .inv .1) _ _ (weight-at .ensures) (rank-at .ensures) (omega (arith, rank-at .ensures .by, known _ _ pre .last)) _ (c .see .ensures))
 
 loop-less-2 : tie.Need-loop-less-2 Inv-loop μ-loop
 loop-less-2 c = search needs
@@ -62,7 +62,7 @@ heaviest-spec =
     loop-holds
     weight-at-requires
     add-i
-    due-at-requires
+    rank-at-requires
     see-requires
     loop-less
     loop-again

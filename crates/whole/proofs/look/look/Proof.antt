@@ -23,6 +23,9 @@ due-at-requires c κs = search needs
 add-i : tie.Need-add-i Inv-loop μ-loop
 add-i c = search needs
 
+rank-at-requires : tie.Need-rank-at-requires Inv-loop μ-loop
+rank-at-requires c κs = search needs
+
 weight-at-requires : tie.Need-weight-at-requires Inv-loop μ-loop
 weight-at-requires c κs = search needs
 
@@ -34,12 +37,13 @@ loop-less c = search needs
 
 loop-again : tie.Need-loop-again Inv-loop μ-loop
 loop-again c =
-    let pre = c .before .before .before .before .before .before .before .pre in
-    let loop = c .before .before .before .before .before .loop in
-    let due-at = c .before .before .before .due-at in
+    let pre = c .before .before .before .before .before .before .before .before .pre in
+    let loop = c .before .before .before .before .before .before .loop in
+    let due-at = c .before .before .before .before .due-at in
+    let rank-at = c .before .before .rank-at in
     let weight-at = c .before .weight-at in
-    let if1 = c .before .before .if1 in
-    (search needs, look-notes _ _ _ _ _ (loop .inv .1) _ (due-at .ensures) (pre .1) _ (weight-at .ensures) (omega (arith, if1 .taken)) _ (c .note .ensures))
+    let if1 = c .before .before .before .if1 in
+    (search needs, look-notes _ _ _ _ _ (loop .inv .1) _ (due-at .ensures) (pre .1) _ _ (weight-at .ensures) (rank-at .ensures) (omega (arith, if1 .taken)) _ (c .note .ensures))
 
 loop-less-2 : tie.Need-loop-less-2 Inv-loop μ-loop
 loop-less-2 c = search needs
@@ -63,6 +67,7 @@ look-spec =
     loop-holds
     due-at-requires
     add-i
+    rank-at-requires
     weight-at-requires
     note-requires
     loop-less

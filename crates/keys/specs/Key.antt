@@ -9,6 +9,9 @@ use Rattle.round.specs.Rows.{at}
 abbrev pub rank : (due class : ℕ) → ℕ
 rank d c = d * 4 + c
 
+abbrev pub slot-of : (rank : ℕ) → ℕ
+slot-of x = x / 4
+
 -- Weight, due slot, class, and the row.
 unfoldable pub key : (weight due class row : ℕ) → ℕ
 key w d c i = (16777217 - w) * 16777216 + d * 4096 + c * 1024 + i

@@ -2,7 +2,7 @@
 use mathlib.Core.Path.{_≡_, sym, ap, _∙_}
 use mathlib.Core.Logic.{_⊎_, inl, inr}
 use mathlib.Core.Bool.{true, false}
-use Prim.Native.Nat.{ℕ, zero, suc, _+_, _*_, _-_, _/_, _≤_, _<_}
+use Prim.Native.Nat.{ℕ, zero, suc, _+_, _*_, _-_, _≤_, _<_}
 use native.Mathlib.Omega.{arith}
 use lib.Dec.{ltb}
 use lib.ListN.{length}
@@ -15,7 +15,7 @@ use Rattle.theory.specs.Full.{Fine}
 use Rattle.theory.specs.Order.{Not-over, heavier?}
 use Rattle.theory.specs.Keys.{getD-in, tickets-rise}
 use Rattle.round.specs.Rows.{Due-at, Weight-at, Class-at, at}
-use Rattle.keys.specs.Key.{key, rank, ranked, weight-of, lack-of, due-of, row-of, blank-key, key-at, May-lack, Lacks}
+use Rattle.keys.specs.Key.{key, rank, slot-of, ranked, weight-of, lack-of, due-of, row-of, blank-key, key-at, May-lack, Lacks}
 
 -- RANKS are compared by due slot, then by class; and a key is made of one
 pub rank-less : (d c e f : ℕ) → f ≤ 3 → rank d c < rank e f → (d < e) ⊎ ((d ≡ e) × (c < f))
@@ -31,7 +31,7 @@ rank-near d c e h = omega arith
 pub rank-far : (d c e : ℕ) → c ≤ 3 → rank e 0 ≤ rank d c → e ≤ d
 rank-far d c e h k = omega arith
 
-pub rank-due : (d c : ℕ) → c ≤ 3 → rank d c / 4 ≡ d
+pub rank-due : (d c : ℕ) → c ≤ 3 → slot-of (rank d c) ≡ d
 rank-due d c h = omega arith
 
 pub rank-fits : (d c : ℕ) → d ≤ 4095 → c ≤ 3 → rank d c ≤ 16383

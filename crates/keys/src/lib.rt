@@ -1,7 +1,7 @@
 // One number for a row, by which rows are compared, and the laws of that number: the only place that knows how a key is made.
 ghost use mathlib.Core.Path.{_≡_};
-ghost use Prim.Native.Nat.{_*_, _/_, _≤_, _<_, max, min};
-ghost use Rattle.keys.specs.Key.{key, rank, ranked, weight-of, lack-of, due-of, row-of, blank-key, May-lack, Lacks};
+ghost use Prim.Native.Nat.{_*_, _≤_, _<_, max, min};
+ghost use Rattle.keys.specs.Key.{key, rank, slot-of, ranked, weight-of, lack-of, due-of, row-of, blank-key, May-lack, Lacks};
 use sorts::Class;
 use sorts::Slot;
 use sorts::Weight;
@@ -20,7 +20,7 @@ pub fn rank_of(due: Slot, class: Class) -> u32
 }
 
 pub fn rank_due(rank: u32) -> u32
-    ensures { λ r. ⌜ r ≡ rank / 4 ⌝ }
+    ensures { λ r. ⌜ r ≡ slot-of rank ⌝ }
 {
     rank / 4
 }

@@ -3,7 +3,7 @@ use mathlib.Core.Path.{_≡_, refl, sym, ap, _∙_, subst}
 use mathlib.Core.Logic.{inl, inr}
 use mathlib.Core.Bool.{Bool, true, false}
 use mathlib.Core.List.{List}
-use Prim.Native.Nat.{ℕ, _+_, _-_, _/_, _≤_, _<_}
+use Prim.Native.Nat.{ℕ, _+_, _-_, _≤_, _<_}
 use native.Mathlib.Omega.{arith}
 use lib.ListN.{length}
 use Rattle.rules.specs.PlanM.{score}
@@ -18,6 +18,7 @@ use Rattle.theory.specs.Lead.{Leads, lead-far}
 use Rattle.round.specs.Rows.{at}
 use Rattle.round.proofs.ReadLaws.{Known, known}
 use Rattle.sorts.specs.declared.Round.{Round as Head}
+use Rattle.keys.specs.Key.{slot-of}
 use Rattle.buckets.specs.Stretch.{Full, Stretches}
 use Rattle.buckets.specs.declared.Reach.{Reach}
 use Rattle.buckets.specs.declared.stretch.Stretch.{Stretch}
@@ -100,7 +101,7 @@ module _ {t cs : List ℕ} {h : Head} {x : Reach} (g : Given t cs h x) where
         })
 
     -- it is due in the first segment
-    pub first-all : {y : Stretch} → Stretches cs (x .free) 0 y → b .rank / 4 ≤ h .slot .0 + y .last → {i : ℕ} → i ≡ b .row →
+    pub first-all : {y : Stretch} → Stretches cs (x .free) 0 y → slot-of (b .rank) ≤ h .slot .0 + y .last → {i : ℕ} → i ≡ b .row →
         Picks-first (round-in t) (round-in t .slot + x .free) i
     first-all {y} s d {i} q =
         let e = h .slot .0 + y .last in
@@ -120,7 +121,7 @@ module _ {t cs : List ℕ} {h : Head} {x : Reach} (g : Given t cs h x) where
         })
 
 -- THE HEAVIEST IS PAST the first segment
-module _ {t cs : List ℕ} {h : Head} {x : Reach} {b : Best} {e d : ℕ} (p : Past t cs h x b e) (v : d ≡ b .rank / 4) where
+module _ {t cs : List ℕ} {h : Head} {x : Reach} {b : Best} {e d : ℕ} (p : Past t cs h x b e) (v : d ≡ slot-of (b .rank)) where
   pub past-from : h .slot .0 ≤ d
   past-from = omega (arith, v, p .past, p .segment .by, facts (p .given) .slot)
 
@@ -191,17 +192,17 @@ module _ {t cs : List ℕ} {h : Head} {x : Reach} {b : Best} {e own : ℕ} {f : 
               (omega (arith, u, a .weight, found-row .weight));
         })
 
-    due-is : {i : ℕ} → i ≡ b .row → at (round-in t) i .due ≡ b .rank / 4
+    due-is : {i : ℕ} → i ≡ b .row → at (round-in t) i .due ≡ slot-of (b .rank)
     due-is q = ap (λ (v : ℕ). at (round-in t) v .due) q ∙ sym (best-row (p .given) (p .best) .due)
 
-    pub past-far : {v : ℕ} → v ≡ b .rank / 4 → h .slot .0 + x .free ≤ v → {i : ℕ} → i ≡ b .row → Picks-far (round-in t) (round-in t .slot + x .free) i
+    pub past-far : {v : ℕ} → v ≡ slot-of (b .rank) → h .slot .0 + x .free ≤ v → {i : ℕ} → i ≡ b .row → Picks-far (round-in t) (round-in t .slot + x .free) i
     past-far o d q = record { leading = past-leading q; far = omega (arith, o, d, due-is q, facts (p .given) .slot) }
 
-    pub past-kept : {y : Stretch} {a due : ℕ} → due ≡ b .rank / 4 → h .slot .0 + a ≡ due → Stretches cs (x .free) a y → own ≡ h .slot .0 + y .last → {i c m : ℕ} → i ≡ b .row →
+    pub past-kept : {y : Stretch} {a due : ℕ} → due ≡ slot-of (b .rank) → h .slot .0 + a ≡ due → Stretches cs (x .free) a y → own ≡ h .slot .0 + y .last → {i c m : ℕ} → i ≡ b .row →
         c ≡ h .slot .0 + y .first → m ≡ f .mark → Picks-kept (round-in t) (round-in t .slot + x .free) i c m
     past-kept {y} {a} {due} z g s o {i} {c} {m} q v w =
         let n = facts (p .given) in
-        let d : h .slot .0 + a ≡ b .rank / 4 = g ∙ z in
+        let d : h .slot .0 + a ≡ slot-of (b .rank) = g ∙ z in
         let k = n .slot in
         let e1 : round-in t .slot + y .first ≡ c = omega (arith, v, k) in
         let e2 : round-in t .slot + y .last ≡ own = omega (arith, o, k) in

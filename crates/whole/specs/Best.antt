@@ -1,17 +1,17 @@
 -- The heaviest of some rows, and the least weight.
 use mathlib.Core.Path.{_≡_}
 use mathlib.Core.Logic.{_⊎_}
-use Prim.Native.Nat.{ℕ, _/_, _≤_, _<_}
+use Prim.Native.Nat.{ℕ, _≤_, _<_}
 use Rattle.rules.specs.Limits.{most-weight}
 use Rattle.rules.specs.Rows.{Round}
 use Rattle.round.specs.Rows.{at}
-use Rattle.keys.specs.Key.{rank-at}
+use Rattle.keys.specs.Key.{slot-of, rank-at}
 use Rattle.whole.specs.declared.best.Best.{Best}
 
 -- a row's rank, as it is read: due slot, then class
 pub record Rank-at (r : Round) (i x : ℕ) : Type 0 where
   pub is : x ≡ rank-at r i
-  pub due : x / 4 ≡ at r i .due
+  pub due : slot-of x ≡ at r i .due
   pub by : at r i .due ≤ r .last
   pub class : at r i .tail .class ≤ 3
 
@@ -38,7 +38,7 @@ pub record Is-row (r : Round) (n e : ℕ) (b : Best) : Type 0 where
   pub below : b .row < n
   pub weight : b .weight ≡ at r (b .row) .weight
   pub rank : b .rank ≡ rank-at r (b .row)
-  pub due : b .rank / 4 ≡ at r (b .row) .due
+  pub due : slot-of (b .rank) ≡ at r (b .row) .due
   pub by : at r (b .row) .due ≤ e
 
 -- THE HEAVIEST of the first n rows that are due by slot e

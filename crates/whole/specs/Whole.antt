@@ -1,7 +1,7 @@
 -- Which row goes where no row is left out.
 use mathlib.Core.Path.{_≡_}
 use mathlib.Core.List.{List}
-use Prim.Native.Nat.{ℕ, _+_, _/_, _≤_, _<_}
+use Prim.Native.Nat.{ℕ, _+_, _≤_, _<_}
 use lib.ListN.{length}
 use Rattle.rules.specs.Rows.{Round}
 use Rattle.rules.specs.Table.{round-in}
@@ -10,6 +10,7 @@ use Rattle.theory.specs.Segments.{Segment}
 use Rattle.round.specs.Rows.{Ready, at}
 use Rattle.round.specs.Buckets.{Counted}
 use Rattle.sorts.specs.declared.Round.{Round as Head}
+use Rattle.keys.specs.Key.{slot-of}
 use Rattle.buckets.specs.Reach.{Reaches}
 use Rattle.buckets.specs.declared.Reach.{Reach}
 use Rattle.whole.specs.Best.{Heaviest}
@@ -31,7 +32,7 @@ pub record Past (t cs : List ℕ) (h : Head) (x : Reach) (b : Best) (e : ℕ) : 
   pub best : Heaviest (round-in t) (h .used) (h .last .0) b
   pub near : e < round-in t .slot + x .free
   pub segment : Segment (round-in t) (round-in t .rows) (round-in t .slot) e
-  pub past : e < b .rank / 4
+  pub past : e < slot-of (b .rank)
 
 -- row i leads all rows
 pub record Leading (r : Round) (i : ℕ) : Type 0 where

@@ -52,7 +52,7 @@ loop-again : tie.Need-loop-again Inv-loop μ-loop
 loop-again c = (
   search needs,
   lightest-step _ _ _ _ _ _ _ _ _ (c .before .before .before .before .due-at .ensures) (c .before .before .weight-at .ensures)
-      (c .before .before .before .class-at .ensures) (c .before .key-of .ensures) (c .lighter .ensures) (c .before .before .before .before .before .before .loop .inv .1),
+      (c .before .before .before .class-at .ensures) (search needs) (c .lighter .ensures) (c .before .before .before .before .before .before .loop .inv .1),
 )
 
 returns : tie.Need-returns Inv-loop μ-loop

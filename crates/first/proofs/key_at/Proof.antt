@@ -20,7 +20,7 @@ key-of-requires c κs =
 
 returns : tie.Need-returns
 returns c =
-    key-read _ _ _ _ _ _ (c .before .before .before .before .pre .2) (c .before .before .weight-at .ensures) (c .before .class-at .ensures) (c .key-of .ensures)
+    key-read _ _ _ _ _ _ (c .before .before .before .before .pre .2) (c .before .before .weight-at .ensures) (search needs) (c .key-of .ensures)
 
 pub key-at-spec : {M : Type 1} → statement M
 key-at-spec = tie.close (tie.spec weight-at-requires class-at-requires key-of-requires returns)

@@ -14,7 +14,7 @@ rank-of-requires : tie.Need-rank-of-requires
 rank-of-requires c κs = search needs
 
 returns : tie.Need-returns
-returns c = rank-read _ _ _ _ _ (c .before .before .due-at .ensures) (c .before .class-at .ensures) (c .rank-of .ensures)
+returns c = rank-read _ _ _ _ _ (c .before .before .due-at .ensures) (search needs) (c .rank-of .ensures)
 
 pub rank-at-spec : {M : Type 1} → statement M
 rank-at-spec = tie.close (tie.spec due-at-requires class-at-requires rank-of-requires returns)

@@ -66,10 +66,11 @@ fn look(rows: &[Row], first_end: u32, own_end: u32) -> Found {
         }
         let weight = weight(row);
         found.mark = found.mark.min(weight);
-        if due <= first_end {
-            found.lightest = found.lightest.min(weight);
-            found.first.see(row, index);
+        if due > first_end {
+            continue;
         }
+        found.lightest = found.lightest.min(weight);
+        found.first.see(row, index);
     }
     found
 }

@@ -35,15 +35,14 @@ behind-weight r j b (inr y) = omega (arith, y .0)
 pub fine-at : (r : Round) → Fine r → (i : ℕ) → i < length (r .rows) → Row-fine r (at r i)
 fine-at r f i h = all-in (Row-fine r) (at r i) (r .rows) (f .fine) (getD-in (r .rows) (blank 0) i h)
 
-pub some-row : (r : Round) → Fine r → (n e : ℕ) (b : Best) → n ≡ length (r .rows) → Heaviest r n e b → (j : ℕ) → j < n → at r j .due ≤ e → Is-row r n e b
-some-row r f n e b q g j h d =
-    g .some (omega (arith, behind-weight r j b (g .most j h d), fine-at r f j (omega (arith, h, q)) .some))
+pub some-row : (r : Round) → Fine r → (e : ℕ) (b : Best) → Heaviest r 0 e b → (j : ℕ) → j < length (r .rows) → at r j .due ≤ e → Is-row r 0 e b
+some-row r f e b g j h d = g .some (omega (arith, behind-weight r j b (g .most j (omega arith) h d), fine-at r f j h .some))
 
-pub none-heavier : (r : Round) → Fine r → (n e : ℕ) (b : Best) → n ≡ length (r .rows) → Heaviest r n e b → Is-row r n e b → (q : Row) → In q (r .rows) →
+pub none-heavier : (r : Round) → Fine r → (e : ℕ) (b : Best) → Heaviest r 0 e b → Is-row r 0 e b → (q : Row) → In q (r .rows) →
     q .due ≤ e → heavier q (at r (b .row)) ≡ false
-none-heavier r f n e b m g s =
+none-heavier r f e b g s =
     each-row (λ q. q .due ≤ e → heavier q (at r (b .row)) ≡ false) (blank 0) (r .rows)
-    (λ j l u. not-over-heavier (at r j) (at r (b .row)) (over j l (g .most j (omega (arith, l, m)) u)))
+    (λ j l u. not-over-heavier (at r j) (at r (b .row)) (over j l (g .most j (omega arith) l u)))
   where
     ticket-by : (j : ℕ) → j < length (r .rows) → b .row ≤ j → at r (b .row) .ticket ≤ at r j .ticket
     ticket-by j l h = elim (eqb? (b .row) j) [
@@ -55,7 +54,7 @@ none-heavier r f n e b m g s =
     class-by j l = fine-at r f j l .class
 
     best-class : at r (b .row) .tail .class ≤ 3
-    best-class = class-by (b .row) (omega (arith, s .below, m))
+    best-class = class-by (b .row) (s .below)
 
     over : (j : ℕ) → j < length (r .rows) → Behind r j b → Not-over (at r j) (at r (b .row))
     over j l (inl y) = inl (omega (arith, s .weight))
@@ -69,24 +68,24 @@ none-heavier r f n e b m g s =
         (omega (arith, v .0, s .rank)) in
         inr (omega (arith, y, s .weight), inr (z .0, inr (z .1, ticket-by j l (v .1))))
 
-pub some-least : (r : Round) → Fine r → (n e m : ℕ) → n ≡ length (r .rows) → Least r n e m → (j : ℕ) → j < n → at r j .due ≤ e → Lightest-by r e m
-some-least r f n e m q g j h d = elim (ltb? m 16777216) [
+pub some-least : (r : Round) → Fine r → (e m : ℕ) → Least r 0 e m → (j : ℕ) → j < length (r .rows) → at r j .due ≤ e → Lightest-by r e m
+some-least r f e m g j h d = elim (ltb? m 16777216) [
   | inl a ↦
       let w = g .some (a .1) in
       record {
         row = w .row;
-        below = omega (arith, w .below, q);
+        below = w .below;
         by = w .by;
-        least = λ i l u. omega (arith, w .is, g .least i (omega (arith, l, q)) u);
+        least = λ i l u. omega (arith, w .is, g .least i (omega arith) l u);
         weight = w .is;
       }
   | inr a ↦
-      let y : at r j .weight ≡ m = omega (arith, a .1, g .least j h d, fine-at r f j (omega (arith, h, q)) .most) in
+      let y : at r j .weight ≡ m = omega (arith, a .1, g .least j (omega arith) h d, fine-at r f j h .most) in
       record {
         row = j;
-        below = omega (arith, h, q);
+        below = h;
         by = d;
-        least = λ i l u. omega (arith, y, g .least i (omega (arith, l, q)) u);
+        least = λ i l u. omega (arith, y, g .least i (omega arith) l u);
         weight = y;
       }
 ]

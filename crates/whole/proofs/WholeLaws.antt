@@ -69,22 +69,22 @@ module _ {t cs : List ℕ} {h : Head} {x : Reach} (g : Given t cs h x) where
       )
 
   -- THE HEAVIEST OF ALL
-  module _ {b : Best} (w : Heaviest (round-in t) (h .used) (h .last .0) b) where
-    pub best-row : Is-row (round-in t) (h .used) (h .last .0) b
+  module _ {b : Best} (w : Heaviest (round-in t) 0 (h .last .0) b) where
+    pub best-row : Is-row (round-in t) 0 (h .last .0) b
     best-row =
-        some-row (round-in t) (facts .fine) (h .used) (h .last .0) b (facts .used) w 0 (g .some)
+        some-row (round-in t) (facts .fine) (h .last .0) b w 0 (omega (arith, g .some, facts .used))
         (omega (arith, fine-at (round-in t) (facts .fine) 0 (omega (arith, g .some, facts .used)) .due-by, facts .last))
 
     pub best-in : In (at (round-in t) (b .row)) (round-in t .rows)
-    best-in = getD-in (round-in t .rows) (blank 0) (b .row) (omega (arith, best-row .below, facts .used))
+    best-in = getD-in (round-in t .rows) (blank 0) (b .row) (best-row .below)
 
     pub best-over : (q : Row) → In q (round-in t .rows) → heavier q (at (round-in t) (b .row)) ≡ false
     best-over q i =
-        none-heavier (round-in t) (facts .fine) (h .used) (h .last .0) b (facts .used) w best-row q i
+        none-heavier (round-in t) (facts .fine) (h .last .0) b w best-row q i
         (omega (arith, of-rows-fine (round-in t) (facts .fine) (round-in t .rows) rows q i .due-by, facts .last))
 
     best-below : b .row < length (round-in t .rows)
-    best-below = omega (arith, best-row .below, facts .used)
+    best-below = best-row .below
 
     -- no slot is full
     pub far-all : x .free ≡ 0 → {i : ℕ} → i ≡ b .row → Picks-far (round-in t) (round-in t .slot + x .free) i
@@ -131,28 +131,28 @@ module _ {t cs : List ℕ} {h : Head} {x : Reach} {b : Best} {e d : ℕ} (p : Pa
       omega (arith, c, q, s .by, past-from)
 
 -- and the second pass is done
-module _ {t cs : List ℕ} {h : Head} {x : Reach} {b : Best} {e own : ℕ} {f : Found} (p : Past t cs h x b e) (l : Looks (round-in t) (h .used) e own f) where
+module _ {t cs : List ℕ} {h : Head} {x : Reach} {b : Best} {e own : ℕ} {f : Found} (p : Past t cs h x b e) (l : Looks (round-in t) 0 e own f) where
   -- the first segment has a row
-  first-has : (j : ℕ) × (j < h .used) × (at (round-in t) j .due ≤ e)
+  first-has : (j : ℕ) × (j < length (round-in t .rows)) × (at (round-in t) j .due ≤ e)
   first-has =
       let n = facts (p .given) in
       let y = segment-has-row (round-in t) (n .fine) (n .time) (round-in t .rows) (rows (p .given)) (round-in t .slot + x .free) (p .given .reaches .near)
       (round-in t .slot) e (p .near) (p .segment) in
       let q = index-of (blank 0) (y .0) (round-in t .rows) (y .1) in
-      (q .0, omega (arith, q .1, n .used), omega (arith, y .3, ap (λ (v : Row). v .due) (q .2)))
+      (q .0, q .1, omega (arith, y .3, ap (λ (v : Row). v .due) (q .2)))
 
-  pub found-row : Is-row (round-in t) (h .used) e (f .first)
+  pub found-row : Is-row (round-in t) 0 e (f .first)
   found-row =
       let n = facts (p .given) in
-      some-row (round-in t) (n .fine) (h .used) e (f .first) (n .used) (l .first) (first-has .0) (first-has .1) (first-has .2)
+      some-row (round-in t) (n .fine) e (f .first) (l .first) (first-has .0) (first-has .1) (first-has .2)
 
   found-below : f .first .row < length (round-in t .rows)
-  found-below = omega (arith, found-row .below, facts (p .given) .used)
+  found-below = found-row .below
 
   found-least : Lightest-by (round-in t) e (f .lightest)
   found-least =
       let n = facts (p .given) in
-      some-least (round-in t) (n .fine) (h .used) e (f .lightest) (n .used) (l .lightest) (first-has .0) (first-has .1) (first-has .2)
+      some-least (round-in t) (n .fine) e (f .lightest) (l .lightest) (first-has .0) (first-has .1) (first-has .2)
 
   -- the first segment's row goes
   pub past-first : score (b .weight) 0 ≤ score (f .first .weight) (f .lightest) → {i : ℕ} → i ≡ f .first .row →
@@ -167,7 +167,7 @@ module _ {t cs : List ℕ} {h : Head} {x : Reach} {b : Best} {e own : ℕ} {f : 
           leads = other-leads (round-in t) (n .fine) (n .time) (rows (p .given)) (round-in t .slot + x .free) (p .given .reaches .near) e (p .near) (p .segment)
               (at (round-in t) (b .row)) (at (round-in t) (f .first .row)) (f .lightest) (best-in (p .given) (p .best)) (omega (arith, a .due, p .past))
               (best-over (p .given) (p .best)) (getD-in (round-in t .rows) (blank 0) (f .first .row) found-below) d
-              (none-heavier (round-in t) (n .fine) (h .used) e (f .first) (n .used) (l .first) found-row) found-least
+              (none-heavier (round-in t) (n .fine) e (f .first) (l .first) found-row) found-least
               (omega (arith, u, a .weight, found-row .weight));
         };
         last = e;
@@ -184,11 +184,11 @@ module _ {t cs : List ℕ} {h : Head} {x : Reach} {b : Best} {e own : ℕ} {f : 
         let a = best-row (p .given) (p .best) in
         let d : at (round-in t) (f .first .row) .due ≤ e = found-row .by in
         subst (λ (v : ℕ). Leading (round-in t) v) (sym q) (record {
-          below = omega (arith, a .below, n .used);
+          below = a .below;
           leads = past-leads (round-in t) (n .fine) (n .time) (rows (p .given)) (round-in t .slot + x .free) (p .given .reaches .near) e (p .near) (p .segment)
               (at (round-in t) (b .row)) (at (round-in t) (f .first .row)) (f .lightest) (best-in (p .given) (p .best)) (omega (arith, a .due, p .past))
               (best-over (p .given) (p .best)) (getD-in (round-in t .rows) (blank 0) (f .first .row) found-below) d
-              (none-heavier (round-in t) (n .fine) (h .used) e (f .first) (n .used) (l .first) found-row) found-least
+              (none-heavier (round-in t) (n .fine) e (f .first) (l .first) found-row) found-least
               (omega (arith, u, a .weight, found-row .weight));
         })
 
@@ -220,6 +220,6 @@ module _ {t cs : List ℕ} {h : Head} {x : Reach} {b : Best} {e own : ℕ} {f : 
           segment = seg;
           from = omega (arith, due-is q, d, s .from, v);
           by = omega (arith, due-is q, d, s .by, o);
-          mark = subst (λ (v : ℕ). Lightest-by (round-in t) own v) (sym w) (some-least (round-in t) (n .fine) (h .used) own (f .mark) (n .used) (l .mark)
+          mark = subst (λ (v : ℕ). Lightest-by (round-in t) own v) (sym w) (some-least (round-in t) (n .fine) own (f .mark) (l .mark)
               (first-has .0) (first-has .1) (omega (arith, first-has .2, p .past, d, s .by, o)));
         }

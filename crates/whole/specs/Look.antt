@@ -25,7 +25,7 @@ pub record Noted-past (f : Found) (w d e : ℕ) (x : Found) : Type 0 where
 abbrev pub Notes : Found → (weight due rank row end : ℕ) → Found → Type 0
 Notes f w d y i e x = Noted-first f w d y i e x ⊎ Noted-past f w d e x
 
--- OF THE FIRST n ROWS
+-- OF THE ROWS FROM n ON
 pub record Looks (r : Round) (n end own : ℕ) (f : Found) : Type 0 where
   pub first : Heaviest r n end (f .first)
   pub lightest : Least r n end (f .lightest)

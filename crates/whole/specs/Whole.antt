@@ -29,7 +29,7 @@ pub record Given (t cs : List ℕ) (h : Head) (x : Reach) : Type 0 where
 -- the heaviest row b is due past the first segment, which ends at slot e
 pub record Past (t cs : List ℕ) (h : Head) (x : Reach) (b : Best) (e : ℕ) : Type 0 where
   pub given : Given t cs h x
-  pub best : Heaviest (round-in t) (h .used) (h .last .0) b
+  pub best : Heaviest (round-in t) 0 (h .last .0) b
   pub near : e < round-in t .slot + x .free
   pub segment : Segment (round-in t) (round-in t .rows) (round-in t .slot) e
   pub past : e < slot-of (b .rank)

@@ -10,7 +10,7 @@ pub struct Best {
     pub row: usize,
 }
 
-// A row behind the best one in the table is compared.
+// A row before the best one in the table is compared.
 pub fn see(best: Best, weight: u32, rank: u32, row: usize) -> Best
     ensures { λ r. ⌜ Sees best weight rank row r ⌝ }
 {
@@ -18,7 +18,7 @@ pub fn see(best: Best, weight: u32, rank: u32, row: usize) -> Best
         return best;
     }
     if weight == best.weight {
-        if best.rank <= rank {
+        if best.rank < rank {
             return best;
         }
     }

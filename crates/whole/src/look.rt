@@ -1,4 +1,4 @@
-// The passes over the table.
+// The passes over the table, from its last row to its first: an instruction a row less than the other way.
 ghost use Prim.Native.Nat.{_≤_, _<_};
 ghost use Rattle.rules.specs.Table.{round-in};
 ghost use Rattle.round.specs.Rows.{Ready};
@@ -27,21 +27,19 @@ fn rank_at(table: &[u8], round: Round, row: usize) -> u32
 // The heaviest of all rows. A rank is read only where it can count.
 pub fn heaviest(table: &[u8], round: Round) -> Best
     requires { ⌜ Ready (now table) round ⌝ }
-    ensures { λ r. ⌜ Heaviest (round-in (now (table .entry))) (round .used) (round .last .0) r ⌝ }
+    ensures { λ r. ⌜ Heaviest (round-in (now (table .entry))) 0 (round .last .0) r ⌝ }
 {
-    let used = round.used;
     let mut best = Best {
         weight: 0,
         rank: 0,
         row: 0,
     };
-    let mut i: usize = 0;
-    while i < used {
-        let row = i;
-        let weight = weight_at(table, round, row);
-        i += 1;
+    let mut i = round.used;
+    while 0 < i {
+        i -= 1;
+        let weight = weight_at(table, round, i);
         if best.weight <= weight {
-            best = see(best, weight, rank_at(table, round, row), row);
+            best = see(best, weight, rank_at(table, round, i), i);
         }
     }
     best
@@ -76,9 +74,8 @@ fn note(found: Found, weight: u32, due: u32, rank: u32, row: usize, end: u32) ->
 
 pub fn look(table: &[u8], round: Round, end: u32, own: u32) -> Found
     requires { ⌜ Ready (now table) round × (end ≤ own) ⌝ }
-    ensures { λ r. ⌜ Looks (round-in (now (table .entry))) (round .used) end own r ⌝ }
+    ensures { λ r. ⌜ Looks (round-in (now (table .entry))) 0 end own r ⌝ }
 {
-    let used = round.used;
     let mut found = Found {
         first: Best {
             weight: 0,
@@ -88,14 +85,13 @@ pub fn look(table: &[u8], round: Round, end: u32, own: u32) -> Found
         lightest: Round::WEIGHT.0,
         mark: Round::WEIGHT.0,
     };
-    let mut i: usize = 0;
-    while i < used {
-        let row = i;
-        let due = due_at(table, round, row);
-        i += 1;
+    let mut i = round.used;
+    while 0 < i {
+        i -= 1;
+        let due = due_at(table, round, i);
         if due <= own {
-            let rank = rank_at(table, round, row);
-            found = note(found, weight_at(table, round, row), due, rank, row, end);
+            let rank = rank_at(table, round, i);
+            found = note(found, weight_at(table, round, i), due, rank, i, end);
         }
     }
     found

@@ -1,5 +1,5 @@
 -- `whole::look::heaviest` meets its contract: the loop is `Heaviest`.
-use Prim.Native.Nat.{_-_, _≤_}
+use Prim.Native.Nat.{_≤_}
 use borrow.Author.Needs.{needs}
 use native.Mathlib.Omega.{arith}
 use Rattle.rules.specs.Table.{round-in}
@@ -10,19 +10,19 @@ use Rattle.whole.proofs.look.heaviest.Statement.{statement}
 use Rattle.whole.proofs.look.heaviest.Tie as tie
 
 abbrev Inv-loop : tie.InvT-loop
-Inv-loop table round used best₀ i₀ best i = (i ≤ used) × Heaviest (round-in table) i (round .last .0) best
+Inv-loop table round best₀ i₀ best i = (i ≤ round .used) × Heaviest (round-in table) i (round .last .0) best
 
 abbrev μ-loop : tie.MeasureT-loop
-μ-loop table round used best₀ i₀ best i = used - i
+μ-loop table round best₀ i₀ best i = i
 
 loop-holds : tie.Need-loop-holds Inv-loop μ-loop
-loop-holds c = (search needs, best-start _ _)
+loop-holds c = (search needs, best-start _ _ _ (omega (arith, known _ _ (c .before .pre) .used)))
+
+sub-i : tie.Need-sub-i Inv-loop μ-loop
+sub-i c = search needs
 
 weight-at-requires : tie.Need-weight-at-requires Inv-loop μ-loop
 weight-at-requires c κs = search needs
-
-add-i : tie.Need-add-i Inv-loop μ-loop
-add-i c = search needs
 
 rank-at-requires : tie.Need-rank-at-requires Inv-loop μ-loop
 rank-at-requires c κs = search needs
@@ -39,7 +39,11 @@ loop-again c =
     let loop = c .before .before .before .before .before .before .loop in
     let weight-at = c .before .before .before .before .weight-at in
     let rank-at = c .before .rank-at in
-    (search needs, best-sees _ _ _ _ (loop .inv .1) _ _ (weight-at .ensures) (rank-at .ensures) (omega (arith, rank-at .ensures .by, known _ _ pre .last)) _ (c .see .ensures))
+    let n = known _ _ pre in (
+      search needs,
+      best-sees _ _ _ _ (omega arith) _ (loop .inv .1) (omega (arith, n .used)) _ _ (weight-at .ensures) (rank-at .ensures)
+          (omega (arith, rank-at .ensures .by, n .last)) _ (c .see .ensures),
+    )
 
 loop-less-2 : tie.Need-loop-less-2 Inv-loop μ-loop
 loop-less-2 c = search needs
@@ -48,10 +52,10 @@ loop-again-2 : tie.Need-loop-again-2 Inv-loop μ-loop
 loop-again-2 c =
     let loop = c .before .before .before .before .loop in
     let weight-at = c .before .before .weight-at in
-    (search needs, best-lighter _ _ _ _ (loop .inv .1) _ (weight-at .ensures) (omega (arith, c .if1 .left)))
+    (search needs, best-lighter _ _ _ _ (omega arith) _ (loop .inv .1) _ (weight-at .ensures) (omega (arith, c .if1 .left)))
 
 returns : tie.Need-returns Inv-loop μ-loop
-returns c = best-end _ _ _ _ _ (c .before .loop .inv .0) (c .loop-test .left) (c .before .loop .inv .1)
+returns c = best-end _ _ _ _ (search needs) (c .before .loop .inv .1)
 
 pub heaviest-spec : {M : Type 1} → statement M
 heaviest-spec =
@@ -60,8 +64,8 @@ heaviest-spec =
     Inv-loop
     μ-loop
     loop-holds
+    sub-i
     weight-at-requires
-    add-i
     rank-at-requires
     see-requires
     loop-less

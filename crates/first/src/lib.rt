@@ -1,4 +1,4 @@
-// The plan's canonical first, which a sealed round sends: of the rows due earliest the heaviest, that of the least key
+// The plan's canonical first, which a sealed round sends: of the rows due earliest the heaviest, which has the least key.
 ghost use mathlib.Core.Path.{_≡_};
 ghost use Prim.Native.Nat.{_≤_, _<_};
 ghost use Rattle.rules.specs.Table.{round-in};

@@ -1,5 +1,6 @@
 /* Rounds by hand through the archive: document 01's P1 to P10, further ones, sealed ones and ones with classes, call by call. After each call the reply, the rows left,
  * the marks of the slots ahead and the substitutes of all tickets are compared with what is written here; nothing here is computed by the library.
+ * Of those with classes the numbers are the second implementation's; what the class decides in them was checked by hand.
  */
 #include "lirvedd.h"
 #include "table.h"

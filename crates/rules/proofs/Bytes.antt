@@ -1,4 +1,4 @@
--- THE LAYOUT, byte for byte: one table with a value above 255 in every field wider than a byte; and words of eight bytes.
+-- THE LAYOUT, byte for byte: a table with a value above 255 in every field wider than a byte but the rows in use; those in a head; words of eight bytes.
 use mathlib.Core.Path.{_≡_, refl}
 use mathlib.Core.List.{List, [], _∷_, _++_, map}
 use Prim.Native.Nat.{ℕ, _*_, _-_}
@@ -10,26 +10,39 @@ use Rattle.rules.specs.Calls.{first, act, deed, round-refusal, leaves, t
 use Rattle.rules.specs.Conditions.{class-in}
 use Rattle.rules.proofs.Played.{takes-of, seals, plain, waits}
 
--- slot 0102, last slot 0304, next ticket 00060608, sealed, one frame of class 2 and one kept blank in 259 rows (hexadecimal)
-abbrev pub vector-round : Round
-vector-round = round 258 772 394760 259 (row 66051 515 16777216 (frame-tail 2) ∷ row 394759 772 197121 blank-tail ∷ []) sealed-tail
+-- slot 0102, last slot 0304, next ticket 00060608, sealed, one frame of class 2 and one kept blank in so many rows (hexadecimal)
+abbrev pub vector-round : (rows : ℕ) → Round
+vector-round n = round 258 772 394760 n (row 66051 515 16777216 (frame-tail 2) ∷ row 394759 772 197121 blank-tail ∷ []) sealed-tail
 
--- its bytes, whatever the head's byte 10 is, the frame's byte 11, the kept blank's, and the frame's bytes 12 and 23
-abbrev pub vector-bytes : (sealed class kept-class twelve last : ℕ) → List ℕ
-vector-bytes b c k z e =
+-- its bytes, with the rows behind, whatever the head's byte 10 is, the frame's byte 11, the kept blank's, and the frame's bytes 12 and 23
+abbrev pub vector-rows : (behind sealed class kept-class twelve last : ℕ) → List ℕ
+vector-rows n b c k z e =
     -- current slot, last slot, next ticket, rows in use, sealed, zeros
     2 ∷ 1 ∷ 4 ∷ 3 ∷ 8 ∷ 6 ∷ 6 ∷ 0 ∷ 2 ∷ 0 ∷ b ∷ 0 ∷ 0 ∷ 0 ∷ 0 ∷ 0 ∷
     -- ticket, due slot, weight, kind, class, zeros
     3 ∷ 2 ∷ 1 ∷ 0 ∷ 3 ∷ 2 ∷ 0 ∷ 0 ∷ 0 ∷ 1 ∷ 0 ∷ c ∷ z ∷ 0 ∷ 0 ∷ 0 ∷ 0 ∷ 0 ∷ 0 ∷ 0 ∷ 0 ∷ 0 ∷ 0 ∷ e ∷
     7 ∷ 6 ∷ 6 ∷ 0 ∷ 4 ∷ 3 ∷ 1 ∷ 2 ∷ 3 ∷ 0 ∷ 1 ∷ k ∷ 0 ∷ 0 ∷ 0 ∷ 0 ∷ 0 ∷ 0 ∷ 0 ∷ 0 ∷ 0 ∷ 0 ∷ 0 ∷ 0 ∷
-    replicate (24 * 257) 0
+    replicate (24 * n) 0
+
+-- in four rows
+abbrev pub vector-bytes : (sealed class kept-class twelve last : ℕ) → List ℕ
+vector-bytes b c k z e = vector-rows 2 b c k z e
 
 abbrev pub vector-with : (sealed : ℕ) → List ℕ
 vector-with b = vector-bytes b 2 3 0 0
 
-pub vector-written : table vector-round ≡ vector-with 1
+pub vector-written : table (vector-round 4) ≡ vector-with 1
 unfolding row round low put row-bytes rows-bytes head-bytes table
 vector-written = refl
+
+-- and in 259, more than a byte counts: sealed, so read and written
+abbrev pub vector-long : (sealed : ℕ) → List ℕ
+vector-long b = vector-rows 257 b 2 3 0 0
+
+pub vector-long-sealed : left seals (vector-long 0) ≡ vector-long 1
+unfolding row round low value field put row-bytes rows-bytes head-bytes table rows-in rows-of round-in length-good every rows-good round-good same
+    table-refusal first sealed act deed round-refusal leaves table-first refusal left
+vector-long-sealed = refl
 
 -- SEALING sets byte 10 and no other, and a sealed table stays as it is
 pub vector-sealed : map (left seals) (vector-with 0 ∷ vector-with 1 ∷ []) ≡ vector-with 1 ∷ vector-with 1 ∷ []

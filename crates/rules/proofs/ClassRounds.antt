@@ -30,7 +30,7 @@ abbrev pub class-rounds : List Hand
 class-rounds =
     -- of equal weight and due slot the smaller class is in the plan, whatever its ticket
     record {
-      start = found;
+      start = found 5;
       turns =
           turn (opens 0) done [] (0 ∷ []) ∷
           turn (takes-of 3 0 5) (ticket 1) (waits-of 3 1 0 5 ∷ []) (5 ∷ []) ∷
@@ -47,12 +47,12 @@ class-rounds =
     } ∷
     -- and of equal class the smaller ticket
     record {
-      start = table (plain 0 0 4 8 (waits-of 2 1 0 5 ∷ waits-of 1 2 0 5 ∷ waits-of 1 3 0 5 ∷ []));
+      start = table (plain 0 0 4 4 (waits-of 2 1 0 5 ∷ waits-of 1 2 0 5 ∷ waits-of 1 3 0 5 ∷ []));
       turns = listing (2 ∷ []) (ticket 2 ∷ []) ∷ turn sends (step (ordinary (frame 2))) [] [] ∷ [];
     } ∷
     -- class before ticket in the canonical order, the listing, the first segment's substitute, and the pick among equals
     record {
-      start = found;
+      start = found 5;
       turns =
           turn (opens 2) done [] (0 ∷ 0 ∷ 0 ∷ []) ∷
           turn (takes-of 2 2 5) (ticket 1) (waits-of 2 1 2 5 ∷ []) (0 ∷ 0 ∷ 0 ∷ []) ∷
@@ -71,7 +71,7 @@ class-rounds =
     } ∷
     -- sealed: of those due alike and equally heavy the smaller class goes first, where PlanM would leap
     record {
-      start = table (plain 0 2 4 8 (waits-of 2 1 1 4 ∷ waits-of 1 2 1 4 ∷ waits-of 3 3 2 20 ∷ []));
+      start = table (plain 0 2 4 4 (waits-of 2 1 1 4 ∷ waits-of 1 2 1 4 ∷ waits-of 3 3 2 20 ∷ []));
       turns =
           listing (2 ∷ 1 ∷ 3 ∷ []) (ticket 1 ∷ ticket 1 ∷ blank-due 2 ∷ []) ∷
           turn seals closed (waits-of 2 1 1 4 ∷ waits-of 1 2 1 4 ∷ waits-of 3 3 2 20 ∷ []) (4 ∷ 4 ∷ 4 ∷ []) ∷
@@ -82,7 +82,7 @@ class-rounds =
     } ∷
     -- the substitute outside the plan is the one of smaller class; raised in a leap it keeps its class
     record {
-      start = table (plain 0 1 5 8 (waits-of 3 1 0 4 ∷ waits-of 3 2 1 3 ∷ waits-of 1 3 1 3 ∷ waits-of 2 4 1 9 ∷ []));
+      start = table (plain 0 1 5 5 (waits-of 3 1 0 4 ∷ waits-of 3 2 1 3 ∷ waits-of 1 3 1 3 ∷ waits-of 2 4 1 9 ∷ []));
       turns =
           listing (1 ∷ 4 ∷ []) (ticket 1 ∷ ticket 3 ∷ []) ∷
           turn totals (amount 13) (waits-of 3 1 0 4 ∷ waits-of 3 2 1 3 ∷ waits-of 1 3 1 3 ∷ waits-of 2 4 1 9 ∷ []) (4 ∷ 4 ∷ []) ∷
@@ -92,7 +92,7 @@ class-rounds =
     } ∷
     -- the smaller class is shifted; it and the raised substitute keep their classes
     record {
-      start = table (plain 0 3 6 8 to-shift);
+      start = table (plain 0 3 6 6 to-shift);
       turns =
           listing (1 ∷ 2 ∷ 4 ∷ 3 ∷ []) (ticket 1 ∷ ticket 5 ∷ ticket 5 ∷ ticket 5 ∷ []) ∷
           turn totals (amount 33) to-shift (5 ∷ 5 ∷ 4 ∷ 4 ∷ []) ∷
@@ -102,7 +102,7 @@ class-rounds =
     } ∷
     -- P2 with classes: the kept blank has class 3, not that of the frame whose row it has; a frame of class 3 is behind it, one of class 2 before it
     record {
-      start = found;
+      start = found 4;
       turns =
           turn (opens 1) done [] (0 ∷ 0 ∷ []) ∷
           turn (takes-of 1 0 4) (ticket 1) (waits-of 1 1 0 4 ∷ []) (4 ∷ 0 ∷ []) ∷
@@ -118,7 +118,7 @@ class-rounds =
     } ∷
     -- the due slot before the class: in the plan is the earlier due of class 3, not the second of class 0
     record {
-      start = table (plain 0 1 4 8 (waits-of 3 1 0 5 ∷ waits 2 1 5 ∷ waits 3 1 5 ∷ []));
+      start = table (plain 0 1 4 4 (waits-of 3 1 0 5 ∷ waits 2 1 5 ∷ waits 3 1 5 ∷ []));
       turns =
           listing (1 ∷ 2 ∷ []) (ticket 1 ∷ ticket 3 ∷ []) ∷
           turn sends (step (ordinary (frame 1))) (waits 2 1 5 ∷ waits 3 1 5 ∷ []) (5 ∷ []) ∷
@@ -126,7 +126,7 @@ class-rounds =
     } ∷
     -- so too a kept blank that is due before frames of class 0
     record {
-      start = table (plain 0 1 4 8 (waits 1 1 5 ∷ keeps 2 0 5 ∷ waits 3 1 5 ∷ []));
+      start = table (plain 0 1 4 4 (waits 1 1 5 ∷ keeps 2 0 5 ∷ waits 3 1 5 ∷ []));
       turns =
           listing (2 ∷ 1 ∷ []) (ticket 2 ∷ ticket 3 ∷ []) ∷
           turn sends (step (ordinary (kept-blank 2))) (waits 1 1 5 ∷ waits 3 1 5 ∷ []) (5 ∷ []) ∷
@@ -134,11 +134,11 @@ class-rounds =
     } ∷
     -- the weight before the class, in the plan and in the canonical order
     record {
-      start = table (plain 0 0 3 8 (waits 1 0 5 ∷ waits-of 3 2 0 6 ∷ []));
+      start = table (plain 0 0 3 3 (waits 1 0 5 ∷ waits-of 3 2 0 6 ∷ []));
       turns = listing (2 ∷ []) (ticket 2 ∷ []) ∷ turn sends (step (ordinary (frame 2))) [] [] ∷ [];
     } ∷
     record {
-      start = table (plain 0 1 3 8 (waits 1 1 5 ∷ waits-of 3 2 1 6 ∷ []));
+      start = table (plain 0 1 3 3 (waits 1 1 5 ∷ waits-of 3 2 1 6 ∷ []));
       turns =
           listing (2 ∷ 1 ∷ []) (ticket 1 ∷ ticket 1 ∷ []) ∷
           turn sends (step (ordinary (frame 2))) (waits 1 1 5 ∷ []) (5 ∷ []) ∷
@@ -146,10 +146,10 @@ class-rounds =
     } ∷
     -- 14 is for a class above 3, after 2, 3, 5, 13, 6 and 7 and before 8 and 9, and leaves every byte
     record { start = replicate 41 7; turns = refuses (takes-of 4 9 0) 2 true ∷ [] } ∷
-    record { start = found; turns = refuses (takes-of 4 9 0) 3 true ∷ [] } ∷
-    record { start = table (plain 3 2 9 8 []); turns = refuses (takes-of 4 9 0) 5 true ∷ refuses (takes-of 4 2 1) 5 true ∷ [] } ∷
-    record { start = table (plain-sealed 3 2 9 8 []); turns = refuses (takes-of 4 2 1) 5 true ∷ [] } ∷
-    record { start = table (plain-sealed 1 2 2 8 (waits 1 2 5 ∷ [])); turns = refuses (takes-of 4 2 1) 13 true ∷ refuses (takes-of 3 2 1) 13 true ∷ [] } ∷
+    record { start = found 1; turns = refuses (takes-of 4 9 0) 3 true ∷ [] } ∷
+    record { start = table (plain 3 2 9 1 []); turns = refuses (takes-of 4 9 0) 5 true ∷ refuses (takes-of 4 2 1) 5 true ∷ [] } ∷
+    record { start = table (plain-sealed 3 2 9 1 []); turns = refuses (takes-of 4 2 1) 5 true ∷ [] } ∷
+    record { start = table (plain-sealed 1 2 2 2 (waits 1 2 5 ∷ [])); turns = refuses (takes-of 4 2 1) 13 true ∷ refuses (takes-of 3 2 1) 13 true ∷ [] } ∷
     record {
       start = table (plain 1 2 16777216 1 (waits 1 2 5 ∷ []));
       turns =
@@ -164,10 +164,10 @@ class-rounds =
           [];
     } ∷
     record { start = table (plain 1 2 16777215 1 (waits 1 2 5 ∷ [])); turns = refuses (takes-of 4 1 1) 14 true ∷ refuses (takes-of 3 1 1) 9 true ∷ [] } ∷
-    record { start = table (plain 1 2 16777216 8 (waits 1 2 5 ∷ [])); turns = refuses (takes-of 4 1 1) 14 true ∷ refuses (takes-of 3 1 1) 8 true ∷ [] } ∷
+    record { start = table (plain 1 2 16777216 2 (waits 1 2 5 ∷ [])); turns = refuses (takes-of 4 1 1) 14 true ∷ refuses (takes-of 3 1 1) 8 true ∷ [] } ∷
     -- every class above 3, also one that a byte cannot hold; 3 and below are taken
     record {
-      start = table (plain 1 2 2 8 (waits 1 2 5 ∷ []));
+      start = table (plain 1 2 2 4 (waits 1 2 5 ∷ []));
       turns =
           refuses (takes-of 4 1 1) 14 true ∷
           refuses (takes-of 5 1 1) 14 true ∷
@@ -184,7 +184,7 @@ class-rounds =
     } ∷
     -- a frame's class above 3 is unsound: every call gets 3, the listing too; opening clears it, and class 3 is taken
     record {
-      start = table (plain 0 1 2 8 (waits-of 4 1 1 5 ∷ []));
+      start = table (plain 0 1 2 2 (waits-of 4 1 1 5 ∷ []));
       turns =
           refuses (takes 0 5) 3 true ∷
           refuses (takes-of 4 0 5) 3 true ∷
@@ -198,11 +198,11 @@ class-rounds =
           turn (takes-of 3 0 5) (ticket 1) (waits-of 3 1 0 5 ∷ []) (5 ∷ 0 ∷ []) ∷
           [];
     } ∷
-    record { start = table (plain 0 1 2 8 (waits-of 255 1 1 5 ∷ [])); turns = refuses (takes 0 5) 3 true ∷ refuses sends 3 true ∷ [] } ∷
-    record { start = table (plain 0 1 2 8 (waits-of 3 1 1 5 ∷ [])); turns = turn totals (amount 5) (waits-of 3 1 1 5 ∷ []) (0 ∷ 0 ∷ []) ∷ [] } ∷
+    record { start = table (plain 0 1 2 2 (waits-of 255 1 1 5 ∷ [])); turns = refuses (takes 0 5) 3 true ∷ refuses sends 3 true ∷ [] } ∷
+    record { start = table (plain 0 1 2 2 (waits-of 3 1 1 5 ∷ [])); turns = turn totals (amount 5) (waits-of 3 1 1 5 ∷ []) (0 ∷ 0 ∷ []) ∷ [] } ∷
     -- a kept blank of another class than 3 is unsound, and opening clears it too
     record {
-      start = table (plain 0 1 2 8 (keeps-of 0 1 1 5 ∷ []));
+      start = table (plain 0 1 2 2 (keeps-of 0 1 1 5 ∷ []));
       turns =
           refuses (takes 0 5) 3 true ∷
           refuses sends 3 true ∷
@@ -212,12 +212,12 @@ class-rounds =
           turn (takes-of 2 0 5) (ticket 1) (waits-of 2 1 0 5 ∷ []) (5 ∷ []) ∷
           [];
     } ∷
-    record { start = table (plain 0 1 2 8 (keeps-of 2 1 1 5 ∷ [])); turns = refuses totals 3 true ∷ [] } ∷
-    record { start = table (plain 0 1 2 8 (keeps-of 4 1 1 5 ∷ [])); turns = refuses totals 3 true ∷ [] } ∷
-    record { start = table (plain 0 1 2 8 (keeps-of 3 1 1 5 ∷ [])); turns = turn totals (amount 5) (keeps 1 1 5 ∷ []) (0 ∷ 0 ∷ []) ∷ [] } ∷
+    record { start = table (plain 0 1 2 2 (keeps-of 2 1 1 5 ∷ [])); turns = refuses totals 3 true ∷ [] } ∷
+    record { start = table (plain 0 1 2 2 (keeps-of 4 1 1 5 ∷ [])); turns = refuses totals 3 true ∷ [] } ∷
+    record { start = table (plain 0 1 2 2 (keeps-of 3 1 1 5 ∷ [])); turns = turn totals (amount 5) (keeps 1 1 5 ∷ []) (0 ∷ 0 ∷ []) ∷ [] } ∷
     -- the second row is judged like the first
-    record { start = table (plain 0 1 3 8 (waits 1 1 5 ∷ waits-of 4 2 1 5 ∷ [])); turns = refuses totals 3 true ∷ [] } ∷
-    record { start = table (plain 0 1 3 8 (waits 1 1 5 ∷ keeps-of 1 2 1 5 ∷ [])); turns = refuses totals 3 true ∷ [] } ∷
+    record { start = table (plain 0 1 3 3 (waits 1 1 5 ∷ waits-of 4 2 1 5 ∷ [])); turns = refuses totals 3 true ∷ [] } ∷
+    record { start = table (plain 0 1 3 3 (waits 1 1 5 ∷ keeps-of 1 2 1 5 ∷ [])); turns = refuses totals 3 true ∷ [] } ∷
     []
 
 -- THE FACT: played by the definitions, each is as written
@@ -278,11 +278,11 @@ orders-by-hand = refl
 
 -- THE OLD ORDER's PLAN: of these rounds it holds other rows than the plan, with the same total and the same marks (Classes.antt)
 abbrev pub one-slot : Round
-one-slot = plain 0 0 4 8 (waits-of 3 1 0 5 ∷ waits-of 1 2 0 5 ∷ waits-of 0 3 0 4 ∷ [])
+one-slot = plain 0 0 4 4 (waits-of 3 1 0 5 ∷ waits-of 1 2 0 5 ∷ waits-of 0 3 0 4 ∷ [])
 
 abbrev pub three-slots : Round
 three-slots =
-    plain 0 2 7 8 (waits-of 3 1 1 5 ∷ waits-of 2 2 2 3 ∷ waits-of 2 3 1 5 ∷ waits-of 1 4 1 5 ∷ waits-of 3 5 0 6 ∷ waits 6 2 3 ∷ [])
+    plain 0 2 7 7 (waits-of 3 1 1 5 ∷ waits-of 2 2 2 3 ∷ waits-of 2 3 1 5 ∷ waits-of 1 4 1 5 ∷ waits-of 3 5 0 6 ∷ waits 6 2 3 ∷ [])
 
 abbrev pub tickets-by : (before : Row → Row → Bool) → Round → List ℕ
 tickets-by f r = tickets-of (sorted canonical (rows-only (plan-by f r)))

@@ -22,7 +22,7 @@ abbrev pub further-rounds : List Hand
 further-rounds =
     -- shifts begin at the end of p's segment, not at its due slot: none here, though a member is due later in the segment
     record {
-      start = found;
+      start = found 4;
       turns =
           turn (opens 4) done [] (0 ∷ 0 ∷ 0 ∷ 0 ∷ 0 ∷ []) ∷
           turn (takes 3 1) (ticket 1) (waits 1 3 1 ∷ []) (0 ∷ 0 ∷ 0 ∷ 0 ∷ 0 ∷ []) ∷
@@ -34,7 +34,7 @@ further-rounds =
     } ∷
     -- a kept blank goes out before its due slot, a frame of its class waiting, and leaves its row
     record {
-      start = table (plain 0 1 3 8 (keeps 1 1 5 ∷ waits-of 3 2 1 5 ∷ []));
+      start = table (plain 0 1 3 3 (keeps 1 1 5 ∷ waits-of 3 2 1 5 ∷ []));
       turns =
           listing (1 ∷ 2 ∷ []) (ticket 2 ∷ ticket 2 ∷ []) ∷
           turn sends (step (ordinary (kept-blank 1))) (waits-of 3 2 1 5 ∷ []) (5 ∷ []) ∷
@@ -42,7 +42,7 @@ further-rounds =
     } ∷
     -- three shifts, each raised to the mark of its new slot, a kept blank among them
     record {
-      start = table (plain 0 4 7 8 (waits 1 0 5 ∷ waits 2 1 20 ∷ waits 3 2 4 ∷ keeps 4 3 3 ∷ waits 5 4 2 ∷ waits 6 4 1 ∷ []));
+      start = table (plain 0 4 7 7 (waits 1 0 5 ∷ waits 2 1 20 ∷ waits 3 2 4 ∷ keeps 4 3 3 ∷ waits 5 4 2 ∷ waits 6 4 1 ∷ []));
       turns =
           listing (1 ∷ 2 ∷ 3 ∷ 4 ∷ 5 ∷ []) (ticket 1 ∷ ticket 6 ∷ ticket 6 ∷ ticket 6 ∷ ticket 6 ∷ []) ∷
           turn sends (step (leap (frame 2))) (waits 3 1 5 ∷ keeps 4 2 4 ∷ waits 5 3 3 ∷ waits 6 4 2 ∷ []) (5 ∷ 4 ∷ 3 ∷ 2 ∷ []) ∷
@@ -50,7 +50,7 @@ further-rounds =
     } ∷
     -- a kept blank waits and counts in the total, until a heavier frame takes its place
     record {
-      start = found;
+      start = found 4;
       turns =
           turn (opens 1) done [] (0 ∷ 0 ∷ []) ∷
           turn (takes 0 4) (ticket 1) (waits 1 0 4 ∷ []) (4 ∷ 0 ∷ []) ∷
@@ -67,7 +67,7 @@ further-rounds =
     } ∷
     -- r is due in a tight slot: shifts end there, so there are none; a mark of 1 keeps the blank
     record {
-      start = found;
+      start = found 4;
       turns =
           turn (opens 2) done [] (0 ∷ 0 ∷ 0 ∷ []) ∷
           turn (takes 0 1) (ticket 1) (waits 1 0 1 ∷ []) (1 ∷ 0 ∷ 0 ∷ []) ∷
@@ -80,7 +80,7 @@ further-rounds =
     } ∷
     -- marks asked, each slot its own, with 7 before the current slot and after the last, and 5 past it
     record {
-      start = table (plain 0 2 5 8 p4-rows);
+      start = table (plain 0 2 5 5 p4-rows);
       turns =
           turn (marks 0) (amount 4) p4-rows (4 ∷ 4 ∷ 4 ∷ []) ∷
           turn (marks 1) (amount 4) p4-rows (4 ∷ 4 ∷ 4 ∷ []) ∷
@@ -101,7 +101,7 @@ further-rounds =
     } ∷
     -- frames and a kept blank of equal weight: the frames, whose class is smaller, though one has the larger ticket
     record {
-      start = table (plain 0 1 4 8 (waits 1 1 5 ∷ keeps 2 1 5 ∷ waits 3 1 5 ∷ []));
+      start = table (plain 0 1 4 4 (waits 1 1 5 ∷ keeps 2 1 5 ∷ waits 3 1 5 ∷ []));
       turns =
           listing (1 ∷ 3 ∷ []) (ticket 3 ∷ ticket 3 ∷ []) ∷
           turn totals (amount 10) (waits 1 1 5 ∷ keeps 2 1 5 ∷ waits 3 1 5 ∷ []) (5 ∷ 5 ∷ []) ∷
@@ -111,7 +111,7 @@ further-rounds =
     } ∷
     -- the frame before two kept blanks, of which the smaller ticket stays in the plan
     record {
-      start = table (plain 0 1 4 8 (keeps 1 1 5 ∷ waits 2 1 5 ∷ keeps 3 1 5 ∷ []));
+      start = table (plain 0 1 4 4 (keeps 1 1 5 ∷ waits 2 1 5 ∷ keeps 3 1 5 ∷ []));
       turns =
           listing (2 ∷ 1 ∷ []) (ticket 1 ∷ ticket 1 ∷ []) ∷
           turn totals (amount 10) (keeps 1 1 5 ∷ waits 2 1 5 ∷ keeps 3 1 5 ∷ []) (5 ∷ 5 ∷ []) ∷
@@ -121,7 +121,7 @@ further-rounds =
     } ∷
     -- of equal class too: the smaller ticket, here the frame's
     record {
-      start = table (plain 0 1 4 8 (waits-of 3 1 1 5 ∷ keeps 2 1 5 ∷ waits-of 3 3 1 5 ∷ []));
+      start = table (plain 0 1 4 4 (waits-of 3 1 1 5 ∷ keeps 2 1 5 ∷ waits-of 3 3 1 5 ∷ []));
       turns =
           listing (1 ∷ 2 ∷ []) (ticket 2 ∷ ticket 2 ∷ []) ∷
           turn totals (amount 10) (waits-of 3 1 1 5 ∷ keeps 2 1 5 ∷ waits-of 3 3 1 5 ∷ []) (5 ∷ 5 ∷ []) ∷
@@ -131,7 +131,7 @@ further-rounds =
     } ∷
     -- and here the kept blank's
     record {
-      start = table (plain 0 1 4 8 (keeps 1 1 5 ∷ waits-of 3 2 1 5 ∷ keeps 3 1 5 ∷ []));
+      start = table (plain 0 1 4 4 (keeps 1 1 5 ∷ waits-of 3 2 1 5 ∷ keeps 3 1 5 ∷ []));
       turns =
           listing (1 ∷ 2 ∷ []) (ticket 2 ∷ ticket 2 ∷ []) ∷
           turn totals (amount 10) (keeps 1 1 5 ∷ waits-of 3 2 1 5 ∷ keeps 3 1 5 ∷ []) (5 ∷ 5 ∷ []) ∷
@@ -141,7 +141,7 @@ further-rounds =
     } ∷
     -- a kept blank is the lightest of the first segment, and so the substitute there
     record {
-      start = table (plain 0 3 5 8 (waits 1 1 9 ∷ keeps 2 1 3 ∷ waits 3 3 8 ∷ waits 4 3 7 ∷ []));
+      start = table (plain 0 3 5 5 (waits 1 1 9 ∷ keeps 2 1 3 ∷ waits 3 3 8 ∷ waits 4 3 7 ∷ []));
       turns =
           listing (1 ∷ 2 ∷ 3 ∷ 4 ∷ []) (ticket 2 ∷ ticket 2 ∷ blank-due 2 ∷ blank-due 2 ∷ []) ∷
           turn totals (amount 27) (waits 1 1 9 ∷ keeps 2 1 3 ∷ waits 3 3 8 ∷ waits 4 3 7 ∷ []) (3 ∷ 3 ∷ 3 ∷ 3 ∷ []) ∷
@@ -151,7 +151,7 @@ further-rounds =
     } ∷
     -- substitutes that tie in weight and due slot: the smaller ticket
     record {
-      start = found;
+      start = found 7;
       turns =
           turn (opens 3) done [] (0 ∷ 0 ∷ 0 ∷ 0 ∷ []) ∷
           turn (takes 0 9) (ticket 1) (waits 1 0 9 ∷ []) (9 ∷ 0 ∷ 0 ∷ 0 ∷ []) ∷
@@ -166,7 +166,7 @@ further-rounds =
     } ∷
     -- a refused opening inside a list leaves the round
     record {
-      start = found;
+      start = found 3;
       turns =
           turn (opens 1) done [] (0 ∷ 0 ∷ []) ∷
           turn (takes 0 4) (ticket 1) (waits 1 0 4 ∷ []) (4 ∷ 0 ∷ []) ∷
@@ -180,7 +180,7 @@ further-rounds =
     } ∷
     -- the plan listed with room to spare, with just enough and with one too few; entries past the count stay
     record {
-      start = found;
+      start = found 5;
       turns =
           turn (opens 2) done [] (0 ∷ 0 ∷ 0 ∷ []) ∷
           lists 2 (amount 0) (old 1 ∷ old 0 ∷ []) ∷
@@ -195,7 +195,7 @@ further-rounds =
     } ∷
     -- a kept blank is listed, a row outside the plan is not
     record {
-      start = table (plain 0 2 5 8 (waits 1 0 4 ∷ waits 2 1 20 ∷ keeps 3 2 9 ∷ waits 4 2 2 ∷ []));
+      start = table (plain 0 2 5 5 (waits 1 0 4 ∷ waits 2 1 20 ∷ keeps 3 2 9 ∷ waits 4 2 2 ∷ []));
       turns =
           lists 4 (amount 3) (waits 1 0 4 ∷ waits 2 1 20 ∷ keeps 3 2 9 ∷ old 0 ∷ []) ∷
           lists 2 (refused 12) (old 1 ∷ old 0 ∷ []) ∷
@@ -203,7 +203,7 @@ further-rounds =
     } ∷
     -- substitutes asked: 11 outside the plan; 10 of a ticket in no row: 0, the next one, one gone, one sent
     record {
-      start = table (plain 0 2 5 8 p4-rows);
+      start = table (plain 0 2 5 5 p4-rows);
       turns =
           substituting 1 (ticket 1) ∷
           substituting 2 (ticket 4) ∷
@@ -220,7 +220,7 @@ further-rounds =
     } ∷
     -- the last ticket is given, and then 8
     record {
-      start = table (plain 0 0 16777215 8 []);
+      start = table (plain 0 0 16777215 2 []);
       turns =
           turn (takes 0 5) (ticket 16777215) (waits 16777215 0 5 ∷ []) (5 ∷ []) ∷
           turn (takes 0 5) (refused 8) (waits 16777215 0 5 ∷ []) (5 ∷ []) ∷
@@ -228,7 +228,7 @@ further-rounds =
     } ∷
     -- a next ticket past that is unsound: every call gets 3, the listing too
     record {
-      start = table (plain 0 0 16777217 8 []);
+      start = table (plain 0 0 16777217 1 []);
       turns =
           turn (takes 0 5) (refused 3) [] (0 ∷ []) ∷
           turn sends (refused 3) [] (0 ∷ []) ∷
@@ -240,10 +240,10 @@ further-rounds =
     -- each number by its condition, in its order, and every byte as it was: 2, 3, 5, 6, 7, 8 and 9, and 4; 13 below
     record { start = replicate 41 7; turns = refuses (opens 4096) 2 true ∷ refuses (takes 9 0) 2 true ∷ refuses sends 2 true ∷ refuses seals 2 true ∷ [] } ∷
     record { start = replicate 41 7; turns = refuses (marks 9) 2 true ∷ refuses totals 2 true ∷ substituting 9 (refused 2) ∷ lists 0 (refused 2) [] ∷ [] } ∷
-    record { start = found; turns = refuses (opens 4096) 4 true ∷ refuses (takes 9 0) 3 true ∷ refuses sends 3 true ∷ refuses seals 3 true ∷ [] } ∷
-    record { start = found; turns = refuses (marks 9) 3 true ∷ refuses totals 3 true ∷ substituting 9 (refused 3) ∷ [] } ∷
-    record { start = table (plain 3 2 9 8 []); turns = refuses (takes 9 0) 5 true ∷ refuses sends 5 true ∷ refuses seals 5 true ∷ [] } ∷
-    record { start = table (plain 3 2 9 8 []); turns = refuses (marks 9) 5 true ∷ refuses totals 5 true ∷ substituting 9 (refused 5) ∷ [] } ∷
+    record { start = found 1; turns = refuses (opens 4096) 4 true ∷ refuses (takes 9 0) 3 true ∷ refuses sends 3 true ∷ refuses seals 3 true ∷ [] } ∷
+    record { start = found 1; turns = refuses (marks 9) 3 true ∷ refuses totals 3 true ∷ substituting 9 (refused 3) ∷ [] } ∷
+    record { start = table (plain 3 2 9 1 []); turns = refuses (takes 9 0) 5 true ∷ refuses sends 5 true ∷ refuses seals 5 true ∷ [] } ∷
+    record { start = table (plain 3 2 9 1 []); turns = refuses (marks 9) 5 true ∷ refuses totals 5 true ∷ substituting 9 (refused 5) ∷ [] } ∷
     record {
       start = table (plain 1 2 16777216 1 (waits 1 2 5 ∷ []));
       turns =
@@ -261,7 +261,7 @@ further-rounds =
     -- sealed: 2 and 5 come before 13, and 13 before 6, 7, 8 and 9, each alone and together; only a taking gets it
     record { start = replicate 41 1; turns = refuses (takes 9 0) 2 true ∷ [] } ∷
     record {
-      start = table (plain-sealed 3 2 9 8 []);
+      start = table (plain-sealed 3 2 9 1 []);
       turns =
           refuses (takes 9 0) 5 true ∷
           refuses (takes 2 1) 5 true ∷
@@ -280,10 +280,10 @@ further-rounds =
           refuses (opens 4096) 4 true ∷
           [];
     } ∷
-    record { start = table (plain-sealed 1 2 16777216 8 (waits 1 2 5 ∷ [])); turns = refuses (takes 1 1) 13 true ∷ [] } ∷
+    record { start = table (plain-sealed 1 2 16777216 2 (waits 1 2 5 ∷ [])); turns = refuses (takes 1 1) 13 true ∷ [] } ∷
     record { start = table (plain-sealed 1 2 16777215 1 (waits 1 2 5 ∷ [])); turns = refuses (takes 1 1) 13 true ∷ [] } ∷
     record {
-      start = table (plain-sealed 1 2 2 8 (waits 1 2 5 ∷ []));
+      start = table (plain-sealed 1 2 2 2 (waits 1 2 5 ∷ []));
       turns =
           refuses (takes 1 0) 13 true ∷
           refuses (takes 1 16777217) 13 true ∷

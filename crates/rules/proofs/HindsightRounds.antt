@@ -189,7 +189,7 @@ rounds = p1 ∷ p2 ∷ p2-among ∷ p4 ∷ between ∷ late ∷ climbing ∷ p2-
 
 -- what the bytes' replies tell of a round
 abbrev pub told-of : Played-out → List Told
-told-of x = story (x .calls) (replies (x .calls) (left (opens (x .last)) found))
+told-of x = story (x .calls) (replies (x .calls) (left (opens (x .last)) (found 5)))
 
 -- THE FACTS, of each: what is told
 pub told-by-hand : map told-of rounds ≡ map (λ (x : Played-out). x .tells) rounds
@@ -269,7 +269,7 @@ pub no-room : (climbing .could + 1) * (climbing .could + 1) ≤ (climbing .could
 no-room h = omega arith
 
 -- the second is past its last slot afterwards
-pub p2-past : Past (run (p2 .calls) (left (opens (p2 .last)) found))
+pub p2-past : Past (run (p2 .calls) (left (opens (p2 .last)) (found 3)))
 unfolding row blank round slots-left heavier canonical into sorted due-by fits-from feasible kept blanks-from plan total-weight total tight tight-from
     tight-after segment-from segment-start first-end least-weight mark-in mark same-row in-plan lightest-by heaviest-outside substitute beats-golden
     golden-more sends-before best-from best first-from canonical-first opened taken sealed changed without heaviest-between shifted replaced leapt

@@ -1,14 +1,15 @@
 -- How a round by hand is written, and how the definitions play it on bytes.
-use mathlib.Core.Bool.{Bool}
+use mathlib.Core.Bool.{Bool, cond}
 use mathlib.Core.List.{List, [], _∷_, map}
 use Prim.Native.Nat.{ℕ, zero, suc, _+_, _*_}
+use lib.Dec.{eqb}
 use lib.ListN.{replicate}
 use Rattle.rules.specs.Limits.{head-size, row-size}
 use Rattle.rules.specs.Rows.{Row, Round, row, round, until, framed, slots-left, frame-tail, blank-tail, unsealed-tail, sealed-tail}
 use Rattle.rules.specs.Plan.{mark, listed}
 use Rattle.rules.specs.Table.{round-in, same}
-use Rattle.rules.specs.Calls.{taking, sending, sealing, marking, totalling, Call, opening, acting, asking, Reply, number-of, answer, left}
-use Rattle.rules.specs.Looking.{substitute-answer, list-answer, list-left, the-plan, shows}
+use Rattle.rules.specs.Calls.{taking, sending, sealing, marking, totalling, Call, opening, acting, asking, Reply, number-of, answer, left, refused, round-refusal, says, next-round}
+use Rattle.rules.specs.Looking.{with-ticket, stand-in, substitute-answer, list-answer, list-left, the-plan, shows}
 
 -- the calls by their arguments
 abbrev pub opens : (last : ℕ) → Call
@@ -76,9 +77,9 @@ pub record Hand : Type 0 where
   pub start : List ℕ
   pub turns : List Turn
 
--- a table of 8 rows with something else in it
-abbrev pub found : List ℕ
-found = replicate (head-size + row-size * 8) 7
+-- a table of so many rows with something else in it; a round's is mostly one row longer than it needs
+abbrev pub found : (rows : ℕ) → List ℕ
+found k = replicate (head-size + row-size * k) 7
 
 abbrev pub marks-from : (left s : ℕ) → Round → List ℕ
 marks-from zero s r = []
@@ -107,3 +108,30 @@ replayed t (head s l n b ∷ ts) =
 abbrev pub played : List Hand → List Hand
 played [] = []
 played (h ∷ hs) = record { start = h .start; turns = replayed (h .start) (h .turns) } ∷ played hs
+
+-- A ROUND BY HAND ON THE MODEL (Calls.antt), which knows no bytes: a round and turns on it
+pub record Model-hand : Type 0 where
+  pub start : Round
+  pub turns : List Turn
+
+-- a round with something else in it
+abbrev pub spent : (room : ℕ) → Round
+spent k = plain-sealed 7 7 7 k (keeps 6 7 7 ∷ [])
+
+abbrev pub model-answer : Call → Round → Reply
+model-answer c r = cond (eqb (round-refusal c r) 0) (says c r) (refused (round-refusal c r))
+
+-- the same calls by the definitions; a turn that is about bytes has no place in it
+abbrev pub model-replayed : Round → List Turn → List Turn
+model-replayed r [] = []
+model-replayed r (turn c a xs ms ∷ ts) = let z = next-round c r in turn c (model-answer c r) (z .rows) (marks-of z) ∷ model-replayed z ts
+model-replayed r (listing ks ss ∷ ts) =
+    let is = tickets-of (listed r) in listing is (map (λ (k : ℕ). stand-in r (with-ticket k (r .rows))) is) ∷ model-replayed r ts
+model-replayed r (substituting k a ∷ ts) = []
+model-replayed r (lists n a es ∷ ts) = []
+model-replayed r (refuses c n b ∷ ts) = []
+model-replayed r (head s l n b ∷ ts) = []
+
+abbrev pub modelled : List Model-hand → List Model-hand
+modelled [] = []
+modelled (h ∷ hs) = record { start = h .start; turns = model-replayed (h .start) (h .turns) } ∷ modelled hs

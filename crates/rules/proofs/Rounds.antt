@@ -1,20 +1,21 @@
--- Document 01's rounds by hand, P1 to P10, and further rounds as one table, and the one fact that the definitions play each as written.
+-- Document 01's rounds by hand, P1 to P10, and some further rounds as one table, and the one fact that the definitions play each as written;
+-- then further rounds on the model, without bytes: Shapes.antt says that a call on a table is the model's on the round in it.
 use mathlib.Core.Path.{_≡_, refl}
 use mathlib.Core.List.{List, [], _∷_}
 use Rattle.rules.specs.Rows.{row, blank, round, slots-left, heavier, canonical, into, sorted, rows-only}
 use Rattle.rules.specs.Plan.{due-by, fits-from, feasible, kept, blanks-from, plan, total-weight, total, tight, tight-from, tight-after, segment-from, segment-start, first-end, least-weight, mark-in, mark, same-row, in-plan, lightest-by, heaviest-outside, substitute, beats-golden, golden-more, sends-before, best-from, best, first-from, canonical-first, listed}
 use Rattle.rules.specs.Steps.{opened, taken, sealed, changed, without, heaviest-between, shifted, replaced, leapt, turn-of, still-due, is-ordinary, sent}
 use Rattle.rules.specs.Table.{low, value, field, put, row-bytes, rows-bytes, head-bytes, table, rows-in, rows-of, round-in, length-good, every, rows-good, round-good, same, table-refusal}
-use Rattle.rules.specs.Calls.{silence, frame, kept-blank, ordinary, leap, refused, done, ticket, step, amount, blank-due, first, act, question, deed, round-refusal, out-of, says, leaves, table-first, refusal, answer, left}
+use Rattle.rules.specs.Calls.{silence, frame, kept-blank, ordinary, leap, refused, done, ticket, step, amount, blank-due, first, act, question, deed, round-refusal, out-of, says, leaves, table-first, refusal, answer, left, next-round}
 use Rattle.rules.specs.Looking.{with-ticket, stand-in, substitute-answer}
-use Rattle.rules.proofs.Played.{opens, takes, sends, totals, plain, waits, keeps, turn, listing, Hand, found, played}
+use Rattle.rules.proofs.Played.{opens, takes, sends, totals, plain, waits, keeps, turn, listing, Hand, found, played, spent, Model-hand, modelled}
 
 -- THE TABLE
 abbrev pub rounds : List Hand
 rounds =
     -- P1: ticket 1 goes, ordinary
     record {
-      start = found;
+      start = found 3;
       turns =
           turn (opens 1) done [] (0 ∷ 0 ∷ []) ∷
           turn (takes 0 4) (ticket 1) (waits 1 0 4 ∷ []) (4 ∷ 0 ∷ []) ∷
@@ -26,7 +27,7 @@ rounds =
     } ∷
     -- P2: ticket 2 leaps and leaves a kept blank
     record {
-      start = found;
+      start = found 3;
       turns =
           turn (opens 1) done [] (0 ∷ 0 ∷ []) ∷
           turn (takes 0 4) (ticket 1) (waits 1 0 4 ∷ []) (4 ∷ 0 ∷ []) ∷
@@ -38,7 +39,7 @@ rounds =
     } ∷
     -- P3: marks 1, 0, 0, 0, 0; ticket 2 leaps; nothing waits after
     record {
-      start = found;
+      start = found 3;
       turns =
           turn (opens 4) done [] (0 ∷ 0 ∷ 0 ∷ 0 ∷ 0 ∷ []) ∷
           turn (takes 0 1) (ticket 1) (waits 1 0 1 ∷ []) (1 ∷ 0 ∷ 0 ∷ 0 ∷ 0 ∷ []) ∷
@@ -50,7 +51,7 @@ rounds =
     } ∷
     -- P4: ticket 2 leaps; the mark of slot 1 rises from 4 to 5, slot 2 keeps 4
     record {
-      start = found;
+      start = found 5;
       turns =
           turn (opens 2) done [] (0 ∷ 0 ∷ 0 ∷ []) ∷
           turn (takes 0 4) (ticket 1) (waits 1 0 4 ∷ []) (4 ∷ 0 ∷ 0 ∷ []) ∷
@@ -64,7 +65,7 @@ rounds =
     } ∷
     -- P5: of equals the canonical first
     record {
-      start = found;
+      start = found 3;
       turns =
           turn (opens 1) done [] (0 ∷ 0 ∷ []) ∷
           turn (takes 1 5) (ticket 1) (waits 1 1 5 ∷ []) (0 ∷ 0 ∷ []) ∷
@@ -76,7 +77,7 @@ rounds =
     } ∷
     -- P6: the plan stays
     record {
-      start = found;
+      start = found 3;
       turns =
           turn (opens 0) done [] (0 ∷ []) ∷
           turn (takes 0 5) (ticket 1) (waits 1 0 5 ∷ []) (5 ∷ []) ∷
@@ -90,7 +91,7 @@ rounds =
     } ∷
     -- P7: the total rises by 1
     record {
-      start = found;
+      start = found 3;
       turns =
           turn (opens 0) done [] (0 ∷ []) ∷
           turn (takes 0 5) (ticket 1) (waits 1 0 5 ∷ []) (5 ∷ []) ∷
@@ -103,7 +104,7 @@ rounds =
     } ∷
     -- P8: just above the golden ratio
     record {
-      start = found;
+      start = found 3;
       turns =
           turn (opens 1) done [] (0 ∷ 0 ∷ []) ∷
           turn (takes 0 2178309) (ticket 1) (waits 1 0 2178309 ∷ []) (2178309 ∷ 0 ∷ []) ∷
@@ -115,7 +116,7 @@ rounds =
     } ∷
     -- P9: just below it
     record {
-      start = found;
+      start = found 3;
       turns =
           turn (opens 1) done [] (0 ∷ 0 ∷ []) ∷
           turn (takes 0 3524578) (ticket 1) (waits 1 0 3524578 ∷ []) (3524578 ∷ 0 ∷ []) ∷
@@ -127,7 +128,7 @@ rounds =
     } ∷
     -- P10: a round just opened sends silence, ordinary (Opened-silent says it of every round)
     record {
-      start = found;
+      start = found 1;
       turns =
           turn (opens 3) done [] (0 ∷ 0 ∷ 0 ∷ 0 ∷ []) ∷
           turn totals (amount 0) [] (0 ∷ 0 ∷ 0 ∷ 0 ∷ []) ∷
@@ -137,7 +138,7 @@ rounds =
     } ∷
     -- document 01's sample
     record {
-      start = found;
+      start = found 3;
       turns =
           turn (opens 1) done [] (0 ∷ 0 ∷ []) ∷
           turn (takes 0 4) (ticket 1) (waits 1 0 4 ∷ []) (4 ∷ 0 ∷ []) ∷
@@ -149,7 +150,7 @@ rounds =
     } ∷
     -- limits of a weight
     record {
-      start = found;
+      start = found 2;
       turns =
           turn (opens 0) done [] (0 ∷ []) ∷
           turn (takes 0 16777216) (ticket 1) (waits 1 0 16777216 ∷ []) (16777216 ∷ []) ∷
@@ -162,7 +163,7 @@ rounds =
     } ∷
     -- every substitute is of the right segment
     record {
-      start = found;
+      start = found 8;
       turns =
           turn (opens 4) done [] (0 ∷ 0 ∷ 0 ∷ 0 ∷ 0 ∷ []) ∷
           turn (takes 4 2) (ticket 1) (waits 1 4 2 ∷ []) (0 ∷ 0 ∷ 0 ∷ 0 ∷ 0 ∷ []) ∷
@@ -180,9 +181,59 @@ rounds =
           ∷ []) (2 ∷ 2 ∷ 2 ∷ 2 ∷ []) ∷
           [];
     } ∷
+    -- of equal heaviest the earlier due is shifted
+    record {
+      start = found 8;
+      turns =
+          turn (opens 4) done [] (0 ∷ 0 ∷ 0 ∷ 0 ∷ 0 ∷ []) ∷
+          turn (takes 0 3) (ticket 1) (waits 1 0 3 ∷ []) (3 ∷ 0 ∷ 0 ∷ 0 ∷ 0 ∷ []) ∷
+          turn (takes 4 20) (ticket 2) (waits 1 0 3 ∷ waits 2 4 20 ∷ []) (3 ∷ 0 ∷ 0 ∷ 0 ∷ 0 ∷ []) ∷
+          turn (takes 1 4) (ticket 3) (waits 1 0 3 ∷ waits 2 4 20 ∷ waits 3 1 4 ∷ []) (3 ∷ 3 ∷ 0 ∷ 0 ∷ 0 ∷ []) ∷
+          turn (takes 1 4) (ticket 4) (waits 1 0 3 ∷ waits 2 4 20 ∷ waits 3 1 4 ∷ waits 4 1 4 ∷ []) (4 ∷ 4 ∷ 0 ∷ 0 ∷ 0 ∷ []) ∷
+          turn (takes 4 2) (ticket 5) (waits 1 0 3 ∷ waits 2 4 20 ∷ waits 3 1 4 ∷ waits 4 1 4 ∷ waits 5 4 2 ∷ []) (4 ∷ 4 ∷ 0 ∷ 0 ∷ 0 ∷ []) ∷
+          turn (takes 4 3) (ticket 6) (waits 1 0 3 ∷ waits 2 4 20 ∷ waits 3 1 4 ∷ waits 4 1 4 ∷ waits 5 4 2 ∷ waits 6 4 3 ∷ []) (4 ∷ 4 ∷ 2 ∷ 2 ∷ 2 ∷ []) ∷
+          turn (takes 4 20) (ticket 7) (waits 1 0 3 ∷ waits 2 4 20 ∷ waits 3 1 4 ∷ waits 4 1 4 ∷ waits 5 4 2 ∷ waits 6 4 3 ∷ waits 7 4 20 ∷ []) (4
+          ∷ 4 ∷ 3 ∷ 3 ∷ 3 ∷ []) ∷
+          turn (takes 2 20) (ticket 8) (waits 1 0 3 ∷ waits 2 4 20 ∷ waits 3 1 4 ∷ waits 4 1 4 ∷ waits 5 4 2 ∷ waits 6 4 3 ∷ waits 7 4 20
+          ∷ waits 8 2 20 ∷ []) (4 ∷ 4 ∷ 4 ∷ 4 ∷ 4 ∷ []) ∷
+          listing (3 ∷ 4 ∷ 8 ∷ 2 ∷ 7 ∷ []) (ticket 4 ∷ ticket 4 ∷ ticket 6 ∷ ticket 6 ∷ ticket 6 ∷ []) ∷
+          turn sends (step (leap (frame 8))) (waits 2 2 20 ∷ waits 3 1 4 ∷ waits 4 1 4 ∷ waits 5 4 2 ∷ waits 6 4 4 ∷ waits 7 4 20 ∷ []) (4 ∷ 4 ∷ 4 ∷ 4 ∷ []) ∷
+          [];
+    } ∷
+    -- a kept blank among the rows of a table that no calls make
+    record {
+      start = table (plain 0 2 5 5 (waits 1 0 4 ∷ waits 2 1 20 ∷ keeps 3 2 9 ∷ waits 4 2 2 ∷ []));
+      turns =
+          listing (1 ∷ 2 ∷ 3 ∷ []) (ticket 1 ∷ ticket 4 ∷ ticket 4 ∷ []) ∷
+          turn sends (step (leap (frame 2))) (keeps 3 1 9 ∷ waits 4 2 4 ∷ []) (9 ∷ 4 ∷ []) ∷
+          [];
+    } ∷
+    -- a kept blank leaps
+    record {
+      start = table (plain 0 1 3 3 (waits 1 0 4 ∷ keeps 2 1 11 ∷ []));
+      turns =
+          listing (1 ∷ 2 ∷ []) (ticket 1 ∷ blank-due 1 ∷ []) ∷
+          turn sends (step (leap (kept-blank 2))) (keeps 2 1 4 ∷ []) (4 ∷ []) ∷
+          [];
+    } ∷
+    []
+
+-- THE FACT: played by the definitions, each is as written
+pub rounds-by-hand : played rounds ≡ rounds
+unfolding row blank round slots-left heavier canonical into sorted rows-only due-by fits-from feasible kept blanks-from plan total-weight total tight
+    tight-from tight-after segment-from segment-start first-end least-weight mark-in mark same-row in-plan lightest-by heaviest-outside substitute
+    beats-golden golden-more sends-before best-from best first-from canonical-first listed opened taken sealed changed without heaviest-between
+    shifted replaced leapt turn-of still-due is-ordinary sent low value field put row-bytes rows-bytes head-bytes table rows-in rows-of round-in
+    length-good every rows-good round-good same table-refusal first act question deed round-refusal out-of says leaves table-first refusal answer left
+    with-ticket stand-in substitute-answer
+rounds-by-hand = refl
+
+-- FURTHER ROUNDS on the model, which knows no bytes, played in the same way
+abbrev pub model-rounds : List Model-hand
+model-rounds =
     -- send, take, send: a kept blank goes out
     record {
-      start = found;
+      start = spent 5;
       turns =
           turn (opens 3) done [] (0 ∷ 0 ∷ 0 ∷ 0 ∷ []) ∷
           turn (takes 3 20) (ticket 1) (waits 1 3 20 ∷ []) (0 ∷ 0 ∷ 0 ∷ 0 ∷ []) ∷
@@ -197,7 +248,7 @@ rounds =
     } ∷
     -- two shifts and a raised substitute
     record {
-      start = found;
+      start = spent 7;
       turns =
           turn (opens 4) done [] (0 ∷ 0 ∷ 0 ∷ 0 ∷ 0 ∷ []) ∷
           turn (takes 0 3) (ticket 1) (waits 1 0 3 ∷ []) (3 ∷ 0 ∷ 0 ∷ 0 ∷ 0 ∷ []) ∷
@@ -212,7 +263,7 @@ rounds =
     } ∷
     -- one segment: every substitute is its lightest
     record {
-      start = found;
+      start = spent 5;
       turns =
           turn (opens 3) done [] (0 ∷ 0 ∷ 0 ∷ 0 ∷ []) ∷
           turn (takes 3 9) (ticket 1) (waits 1 3 9 ∷ []) (0 ∷ 0 ∷ 0 ∷ 0 ∷ []) ∷
@@ -225,7 +276,7 @@ rounds =
     } ∷
     -- a shift below a mark
     record {
-      start = found;
+      start = spent 8;
       turns =
           turn (opens 4) done [] (0 ∷ 0 ∷ 0 ∷ 0 ∷ 0 ∷ []) ∷
           turn (takes 3 2) (ticket 1) (waits 1 3 2 ∷ []) (0 ∷ 0 ∷ 0 ∷ 0 ∷ 0 ∷ []) ∷
@@ -242,7 +293,7 @@ rounds =
     } ∷
     -- send, take, send: two leaps
     record {
-      start = found;
+      start = spent 8;
       turns =
           turn (opens 3) done [] (0 ∷ 0 ∷ 0 ∷ 0 ∷ []) ∷
           turn (takes 2 3) (ticket 1) (waits 1 2 3 ∷ []) (0 ∷ 0 ∷ 0 ∷ 0 ∷ []) ∷
@@ -260,7 +311,7 @@ rounds =
     } ∷
     -- a shifted row keeps its own larger weight
     record {
-      start = found;
+      start = spent 7;
       turns =
           turn (opens 3) done [] (0 ∷ 0 ∷ 0 ∷ 0 ∷ []) ∷
           turn (takes 1 20) (ticket 1) (waits 1 1 20 ∷ []) (0 ∷ 0 ∷ 0 ∷ 0 ∷ []) ∷
@@ -273,28 +324,9 @@ rounds =
           turn sends (step (leap (frame 1))) (waits 2 2 5 ∷ waits 3 3 5 ∷ waits 5 1 20 ∷ waits 6 2 1 ∷ []) (20 ∷ 5 ∷ 5 ∷ []) ∷
           [];
     } ∷
-    -- of equal heaviest the earlier due is shifted
-    record {
-      start = found;
-      turns =
-          turn (opens 4) done [] (0 ∷ 0 ∷ 0 ∷ 0 ∷ 0 ∷ []) ∷
-          turn (takes 0 3) (ticket 1) (waits 1 0 3 ∷ []) (3 ∷ 0 ∷ 0 ∷ 0 ∷ 0 ∷ []) ∷
-          turn (takes 4 20) (ticket 2) (waits 1 0 3 ∷ waits 2 4 20 ∷ []) (3 ∷ 0 ∷ 0 ∷ 0 ∷ 0 ∷ []) ∷
-          turn (takes 1 4) (ticket 3) (waits 1 0 3 ∷ waits 2 4 20 ∷ waits 3 1 4 ∷ []) (3 ∷ 3 ∷ 0 ∷ 0 ∷ 0 ∷ []) ∷
-          turn (takes 1 4) (ticket 4) (waits 1 0 3 ∷ waits 2 4 20 ∷ waits 3 1 4 ∷ waits 4 1 4 ∷ []) (4 ∷ 4 ∷ 0 ∷ 0 ∷ 0 ∷ []) ∷
-          turn (takes 4 2) (ticket 5) (waits 1 0 3 ∷ waits 2 4 20 ∷ waits 3 1 4 ∷ waits 4 1 4 ∷ waits 5 4 2 ∷ []) (4 ∷ 4 ∷ 0 ∷ 0 ∷ 0 ∷ []) ∷
-          turn (takes 4 3) (ticket 6) (waits 1 0 3 ∷ waits 2 4 20 ∷ waits 3 1 4 ∷ waits 4 1 4 ∷ waits 5 4 2 ∷ waits 6 4 3 ∷ []) (4 ∷ 4 ∷ 2 ∷ 2 ∷ 2 ∷ []) ∷
-          turn (takes 4 20) (ticket 7) (waits 1 0 3 ∷ waits 2 4 20 ∷ waits 3 1 4 ∷ waits 4 1 4 ∷ waits 5 4 2 ∷ waits 6 4 3 ∷ waits 7 4 20 ∷ []) (4
-          ∷ 4 ∷ 3 ∷ 3 ∷ 3 ∷ []) ∷
-          turn (takes 2 20) (ticket 8) (waits 1 0 3 ∷ waits 2 4 20 ∷ waits 3 1 4 ∷ waits 4 1 4 ∷ waits 5 4 2 ∷ waits 6 4 3 ∷ waits 7 4 20
-          ∷ waits 8 2 20 ∷ []) (4 ∷ 4 ∷ 4 ∷ 4 ∷ 4 ∷ []) ∷
-          listing (3 ∷ 4 ∷ 8 ∷ 2 ∷ 7 ∷ []) (ticket 4 ∷ ticket 4 ∷ ticket 6 ∷ ticket 6 ∷ ticket 6 ∷ []) ∷
-          turn sends (step (leap (frame 8))) (waits 2 2 20 ∷ waits 3 1 4 ∷ waits 4 1 4 ∷ waits 5 4 2 ∷ waits 6 4 4 ∷ waits 7 4 20 ∷ []) (4 ∷ 4 ∷ 4 ∷ 4 ∷ []) ∷
-          [];
-    } ∷
     -- marks before the slot: a fresh one after the first shift would be 3
     record {
-      start = found;
+      start = spent 6;
       turns =
           turn (opens 3) done [] (0 ∷ 0 ∷ 0 ∷ 0 ∷ []) ∷
           turn (takes 2 20) (ticket 1) (waits 1 2 20 ∷ []) (0 ∷ 0 ∷ 0 ∷ 0 ∷ []) ∷
@@ -308,7 +340,7 @@ rounds =
     } ∷
     -- and for the substitute it would be 1
     record {
-      start = found;
+      start = spent 5;
       turns =
           turn (opens 2) done [] (0 ∷ 0 ∷ 0 ∷ []) ∷
           turn (takes 1 20) (ticket 1) (waits 1 1 20 ∷ []) (0 ∷ 0 ∷ 0 ∷ []) ∷
@@ -321,7 +353,7 @@ rounds =
     } ∷
     -- a blank in the first segment
     record {
-      start = found;
+      start = spent 4;
       turns =
           turn (opens 3) done [] (0 ∷ 0 ∷ 0 ∷ 0 ∷ []) ∷
           turn (takes 1 11) (ticket 1) (waits 1 1 11 ∷ []) (0 ∷ 0 ∷ 0 ∷ 0 ∷ []) ∷
@@ -333,7 +365,7 @@ rounds =
     } ∷
     -- an idle slot leaps
     record {
-      start = found;
+      start = spent 3;
       turns =
           turn (opens 3) done [] (0 ∷ 0 ∷ 0 ∷ 0 ∷ []) ∷
           turn (takes 3 9) (ticket 1) (waits 1 3 9 ∷ []) (0 ∷ 0 ∷ 0 ∷ 0 ∷ []) ∷
@@ -342,30 +374,11 @@ rounds =
           turn sends (step (leap (frame 1))) (waits 2 3 5 ∷ []) (0 ∷ 0 ∷ 0 ∷ []) ∷
           [];
     } ∷
-    -- a kept blank among the rows of a table that no calls make
-    record {
-      start = table (plain 0 2 5 8 (waits 1 0 4 ∷ waits 2 1 20 ∷ keeps 3 2 9 ∷ waits 4 2 2 ∷ []));
-      turns =
-          listing (1 ∷ 2 ∷ 3 ∷ []) (ticket 1 ∷ ticket 4 ∷ ticket 4 ∷ []) ∷
-          turn sends (step (leap (frame 2))) (keeps 3 1 9 ∷ waits 4 2 4 ∷ []) (9 ∷ 4 ∷ []) ∷
-          [];
-    } ∷
-    -- a kept blank leaps
-    record {
-      start = table (plain 0 1 3 8 (waits 1 0 4 ∷ keeps 2 1 11 ∷ []));
-      turns =
-          listing (1 ∷ 2 ∷ []) (ticket 1 ∷ blank-due 1 ∷ []) ∷
-          turn sends (step (leap (kept-blank 2))) (keeps 2 1 4 ∷ []) (4 ∷ []) ∷
-          [];
-    } ∷
     []
 
--- THE FACT: played by the definitions, each is as written
-pub rounds-by-hand : played rounds ≡ rounds
+pub model-rounds-by-hand : modelled model-rounds ≡ model-rounds
 unfolding row blank round slots-left heavier canonical into sorted rows-only due-by fits-from feasible kept blanks-from plan total-weight total tight
     tight-from tight-after segment-from segment-start first-end least-weight mark-in mark same-row in-plan lightest-by heaviest-outside substitute
     beats-golden golden-more sends-before best-from best first-from canonical-first listed opened taken sealed changed without heaviest-between
-    shifted replaced leapt turn-of still-due is-ordinary sent low value field put row-bytes rows-bytes head-bytes table rows-in rows-of round-in
-    length-good every rows-good round-good same table-refusal first act question deed round-refusal out-of says leaves table-first refusal answer left
-    with-ticket stand-in substitute-answer
-rounds-by-hand = refl
+    shifted replaced leapt turn-of still-due is-ordinary sent act question deed round-refusal out-of says leaves with-ticket stand-in next-round
+model-rounds-by-hand = refl

@@ -19,7 +19,7 @@ abbrev pub sealed-rounds : List Hand
 sealed-rounds =
     -- P2 sealed: the plan goes in canonical order where PlanM would leap; a taking gets 13, and 5 past the last slot, where sealing gets it too
     record {
-      start = found;
+      start = found 3;
       turns =
           turn (opens 1) done [] (0 ∷ 0 ∷ []) ∷
           turn (takes 0 4) (ticket 1) (waits 1 0 4 ∷ []) (4 ∷ 0 ∷ []) ∷
@@ -40,7 +40,7 @@ sealed-rounds =
     } ∷
     -- a blank is the canonical first, so silence goes first; sealing twice is sealing once
     record {
-      start = found;
+      start = found 3;
       turns =
           turn (opens 2) done [] (0 ∷ 0 ∷ 0 ∷ []) ∷
           turn (takes 1 5) (ticket 1) (waits 1 1 5 ∷ []) (0 ∷ 0 ∷ 0 ∷ []) ∷
@@ -58,7 +58,7 @@ sealed-rounds =
     } ∷
     -- silence between two frames: each goes in its due slot, though PlanM would leap in slot 1
     record {
-      start = found;
+      start = found 3;
       turns =
           turn (opens 2) done [] (0 ∷ 0 ∷ 0 ∷ []) ∷
           turn (takes 2 7) (ticket 1) (waits 1 2 7 ∷ []) (0 ∷ 0 ∷ 0 ∷ []) ∷
@@ -71,7 +71,7 @@ sealed-rounds =
     } ∷
     -- sealed after a leap, with a kept blank waiting; a refused opening leaves the seal, an accepted one ends it, and PlanM leaps again
     record {
-      start = found;
+      start = found 5;
       turns =
           turn (opens 3) done [] (0 ∷ 0 ∷ 0 ∷ 0 ∷ []) ∷
           turn (takes 3 20) (ticket 1) (waits 1 3 20 ∷ []) (0 ∷ 0 ∷ 0 ∷ 0 ∷ []) ∷
@@ -96,7 +96,7 @@ sealed-rounds =
     } ∷
     -- rows outside the plan stay behind, one of them due before all that go; 13 where 6 and 7 would hold, and 5 before it
     record {
-      start = found;
+      start = found 5;
       turns =
           turn (opens 1) done [] (0 ∷ 0 ∷ []) ∷
           turn (takes 0 4) (ticket 1) (waits 1 0 4 ∷ []) (4 ∷ 0 ∷ []) ∷
@@ -115,7 +115,7 @@ sealed-rounds =
     } ∷
     -- the seal outlasts a sending: in slot 1 PlanM would leap, and a taking still gets 13; marks rise and never fall
     record {
-      start = found;
+      start = found 4;
       turns =
           turn (opens 2) done [] (0 ∷ 0 ∷ 0 ∷ []) ∷
           turn (takes 0 4) (ticket 1) (waits 1 0 4 ∷ []) (4 ∷ 0 ∷ 0 ∷ []) ∷
@@ -132,7 +132,7 @@ sealed-rounds =
     } ∷
     -- in one segment the earlier due goes first, where PlanM would send the heaviest; then the heavier of those due alike
     record {
-      start = found;
+      start = found 4;
       turns =
           turn (opens 2) done [] (0 ∷ 0 ∷ 0 ∷ []) ∷
           turn (takes 2 4) (ticket 1) (waits 1 2 4 ∷ []) (0 ∷ 0 ∷ 0 ∷ []) ∷
@@ -148,7 +148,7 @@ sealed-rounds =
     } ∷
     -- due alike: the heavier first, and of equal weight the smaller ticket
     record {
-      start = found;
+      start = found 4;
       turns =
           turn (opens 2) done [] (0 ∷ 0 ∷ 0 ∷ []) ∷
           turn (takes 2 5) (ticket 1) (waits 1 2 5 ∷ []) (0 ∷ 0 ∷ 0 ∷ []) ∷
@@ -164,7 +164,7 @@ sealed-rounds =
     -- a kept blank has its turn like a frame: first by its due slot, or last, where PlanM would leap in both; behind frames of a smaller class,
     -- and by its ticket among frames of class 3
     record {
-      start = table (plain-sealed 0 1 3 8 (keeps 1 0 4 ∷ waits 2 1 11 ∷ []));
+      start = table (plain-sealed 0 1 3 3 (keeps 1 0 4 ∷ waits 2 1 11 ∷ []));
       turns =
           listing (1 ∷ 2 ∷ []) (ticket 1 ∷ blank-due 1 ∷ []) ∷
           turn sends (step (ordinary (kept-blank 1))) (waits 2 1 11 ∷ []) (11 ∷ []) ∷
@@ -172,7 +172,7 @@ sealed-rounds =
           [];
     } ∷
     record {
-      start = table (plain-sealed 0 1 3 8 (waits 1 0 4 ∷ keeps 2 1 11 ∷ []));
+      start = table (plain-sealed 0 1 3 3 (waits 1 0 4 ∷ keeps 2 1 11 ∷ []));
       turns =
           listing (1 ∷ 2 ∷ []) (ticket 1 ∷ blank-due 1 ∷ []) ∷
           turn sends (step (ordinary (frame 1))) (keeps 2 1 11 ∷ []) (11 ∷ []) ∷
@@ -180,7 +180,7 @@ sealed-rounds =
           [];
     } ∷
     record {
-      start = table (plain-sealed 0 1 4 8 (keeps 1 1 5 ∷ waits 2 1 5 ∷ keeps 3 1 5 ∷ []));
+      start = table (plain-sealed 0 1 4 4 (keeps 1 1 5 ∷ waits 2 1 5 ∷ keeps 3 1 5 ∷ []));
       turns =
           turn totals (amount 10) (keeps 1 1 5 ∷ waits 2 1 5 ∷ keeps 3 1 5 ∷ []) (5 ∷ 5 ∷ []) ∷
           turn sends (step (ordinary (frame 2))) (keeps 1 1 5 ∷ keeps 3 1 5 ∷ []) (5 ∷ []) ∷
@@ -188,7 +188,7 @@ sealed-rounds =
           [];
     } ∷
     record {
-      start = table (plain-sealed 0 1 4 8 (waits 1 1 5 ∷ keeps 2 1 5 ∷ waits 3 1 5 ∷ []));
+      start = table (plain-sealed 0 1 4 4 (waits 1 1 5 ∷ keeps 2 1 5 ∷ waits 3 1 5 ∷ []));
       turns =
           turn totals (amount 10) (waits 1 1 5 ∷ keeps 2 1 5 ∷ waits 3 1 5 ∷ []) (5 ∷ 5 ∷ []) ∷
           turn sends (step (ordinary (frame 1))) (keeps 2 1 5 ∷ waits 3 1 5 ∷ []) (5 ∷ []) ∷
@@ -196,7 +196,7 @@ sealed-rounds =
           [];
     } ∷
     record {
-      start = table (plain-sealed 0 1 4 8 (keeps 1 1 5 ∷ waits-of 3 2 1 5 ∷ keeps 3 1 5 ∷ []));
+      start = table (plain-sealed 0 1 4 4 (keeps 1 1 5 ∷ waits-of 3 2 1 5 ∷ keeps 3 1 5 ∷ []));
       turns =
           turn totals (amount 10) (keeps 1 1 5 ∷ waits-of 3 2 1 5 ∷ keeps 3 1 5 ∷ []) (5 ∷ 5 ∷ []) ∷
           turn sends (step (ordinary (kept-blank 1))) (waits-of 3 2 1 5 ∷ keeps 3 1 5 ∷ []) (5 ∷ []) ∷
@@ -204,7 +204,7 @@ sealed-rounds =
           [];
     } ∷
     record {
-      start = table (plain-sealed 0 1 4 8 (waits-of 3 1 1 5 ∷ keeps 2 1 5 ∷ waits-of 3 3 1 5 ∷ []));
+      start = table (plain-sealed 0 1 4 4 (waits-of 3 1 1 5 ∷ keeps 2 1 5 ∷ waits-of 3 3 1 5 ∷ []));
       turns =
           turn totals (amount 10) (waits-of 3 1 1 5 ∷ keeps 2 1 5 ∷ waits-of 3 3 1 5 ∷ []) (5 ∷ 5 ∷ []) ∷
           turn sends (step (ordinary (frame 1))) (keeps 2 1 5 ∷ waits-of 3 3 1 5 ∷ []) (5 ∷ []) ∷
@@ -213,7 +213,7 @@ sealed-rounds =
     } ∷
     -- a round without a row is sealed, in its last slot once more, and gets 5 past it
     record {
-      start = found;
+      start = found 1;
       turns =
           turn (opens 1) done [] (0 ∷ 0 ∷ []) ∷
           turn seals closed [] (0 ∷ 0 ∷ []) ∷
@@ -228,7 +228,7 @@ sealed-rounds =
     } ∷
     -- a refused sealing seals nothing: of an unsealed round past its last slot the head stays
     record {
-      start = found;
+      start = found 1;
       turns =
           turn (opens 0) done [] (0 ∷ []) ∷
           turn sends (step (ordinary silence)) [] [] ∷
@@ -237,11 +237,11 @@ sealed-rounds =
           [];
     } ∷
     -- sealing is accepted, so its number is 0; it writes a byte of an unsealed table, and none of a sealed one
-    record { start = table (plain 0 1 2 8 (waits 1 1 5 ∷ [])); turns = refuses seals 0 false ∷ [] } ∷
-    record { start = table (plain-sealed 0 1 2 8 (waits 1 1 5 ∷ [])); turns = refuses seals 0 true ∷ [] } ∷
+    record { start = table (plain 0 1 2 2 (waits 1 1 5 ∷ [])); turns = refuses seals 0 false ∷ [] } ∷
+    record { start = table (plain-sealed 0 1 2 2 (waits 1 1 5 ∷ [])); turns = refuses seals 0 true ∷ [] } ∷
     -- a 2 in byte 10 is unsound: every call gets 3, the listing too, and opening clears it
     record {
-      start = table (round 0 1 2 8 (waits 1 1 5 ∷ []) (record { sealed = 2 }));
+      start = table (round 0 1 2 2 (waits 1 1 5 ∷ []) (record { sealed = 2 }));
       turns =
           head 0 1 2 2 ∷
           refuses (takes 0 5) 3 true ∷
@@ -288,7 +288,7 @@ p2-before = takes 0 4 ∷ takes 1 11 ∷ []
 abbrev pub p2-behind : List Call
 p2-behind = sends ∷ sends ∷ []
 
-pub p2-sealed-by : Sealed-by 8 (until 1) found (takes 0 4 ∷ takes 1 11 ∷ seals ∷ sends ∷ sends ∷ takes 1 3 ∷ []) p2-before p2-behind
+pub p2-sealed-by : Sealed-by 3 (until 1) (found 3) (takes 0 4 ∷ takes 1 11 ∷ seals ∷ sends ∷ sends ∷ takes 1 3 ∷ []) p2-before p2-behind
 unfolding row blank round slots-left heavier canonical into sorted due-by fits-from feasible kept blanks-from plan tight tight-from tight-after
     segment-from segment-start first-end least-weight mark-in same-row in-plan lightest-by heaviest-outside substitute beats-golden golden-more
     sends-before best-from best first-from canonical-first opened taken sealed changed without heaviest-between shifted replaced leapt turn-of
@@ -296,7 +296,7 @@ unfolding row blank round slots-left heavier canonical into sorted due-by fits-f
     round-good same table-refusal first act deed round-refusal out-of says leaves table-first refusal answer left run No-opening
 p2-sealed-by = record { behind = takes 1 3 ∷ []; among = refl; accepted = refl; unopened = tt }
 
-pub p2-went-out : Went-out 8 (until 1) found (p2-before ++ (seals ∷ [])) p2-behind (waits 2 1 11)
+pub p2-went-out : Went-out 3 (until 1) (found 3) (p2-before ++ (seals ∷ [])) p2-behind (waits 2 1 11)
 unfolding row blank round slots-left heavier canonical into sorted due-by fits-from feasible kept blanks-from plan tight tight-from tight-after
     segment-from segment-start first-end least-weight mark-in same-row in-plan lightest-by heaviest-outside substitute beats-golden golden-more
     sends-before best-from best first-from canonical-first opened taken sealed changed without heaviest-between shifted replaced leapt turn-of

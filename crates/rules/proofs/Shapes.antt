@@ -12,7 +12,7 @@ use Rattle.rules.specs.Rows.{Frame, Setup, Row, Round, row, blank, round
 use Rattle.rules.specs.Plan.{plan, plan-by, total-weight, total, first-end, mark-in, mark, best, canonical-first}
 use Rattle.rules.specs.Steps.{opened, taken, sealed, turn-of, goes, sent, is-ordinary}
 use Rattle.rules.specs.Table.{low, field, put, row-bytes, rows-bytes, head-bytes, table, rows-in, rows-of, round-in, every, rows-good, round-good}
-use Rattle.rules.specs.Calls.{taking, sending, sealing, marking, totalling, Call, opening, acting, asking, act, question, deed, done, closed, ticket, step, amount, ordinary, leap, out-of, round-refusal, says, leaves}
+use Rattle.rules.specs.Calls.{taking, sending, sealing, marking, totalling, Call, opening, acting, asking, act, question, deed, done, closed, ticket, step, amount, ordinary, leap, out-of, round-refusal, says, leaves, refused, refusal, answer, left, next-round}
 use Rattle.rules.specs.Classes.{old-total, old-mark}
 use Rattle.rules.specs.Conditions.{Length-bad, Unsound, Past, Weight-bad, Slot-bad, No-row, Not-planned, next-in, used-in, sealed-in, when, accepted, act-conditions, question-conditions, conditions, refusal-given, substitute-given}
 
@@ -169,6 +169,19 @@ pub totalling-is : (r : Round) →
     × (leaves (asking totalling) r ≡ r)
 unfolding round-refusal says leaves deed question
 totalling-is r = (refl, refl, refl)
+
+-- ON A TABLE, of whatever bytes: the model's reply and round where nothing is refused, else the number, and the same bytes; and the model by itself
+pub answer-is : (c : Call) (t : List ℕ) → answer c t ≡ cond (eqb (refusal c t) 0) (says c (round-in t)) (refused (refusal c t))
+unfolding answer
+answer-is c t = refl
+
+pub left-is : (c : Call) (t : List ℕ) → left c t ≡ cond (eqb (refusal c t) 0) (table (leaves c (round-in t))) t
+unfolding left
+left-is c t = refl
+
+pub next-round-is : (c : Call) (r : Round) → next-round c r ≡ cond (eqb (round-refusal c r) 0) (leaves c r) r
+unfolding next-round
+next-round-is c r = refl
 
 -- CONDITIONS in the same order
 abbrev pub if-sound : List ℕ → (later : ℕ → Type 0) → ℕ → Type 0

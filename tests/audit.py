@@ -17,7 +17,7 @@ from pathlib import Path
 TOP = Path(__file__).resolve().parent.parent
 DEMANDS = "crates/rules/specs/Demands.antt"
 # The crates whose functions are for callers, and how a name says that there is a `requires`.
-PUBLIC = ("opening", "taking", "sending", "sealing", "marking", "totalling", "substituting", "listing", "station", "lines", "writer", "replying", "turns", "answering", "serving")
+PUBLIC = ("opening", "taking", "sending", "sealing", "marking", "totalling", "substituting", "listing", "station", "forms", "lines", "writer", "replying", "turns", "answering", "serving")
 NEEDY = "_in_room"
 PATH = r"(?:crates|tests|docs|include|examples|bench)/[\w./-]*\w"
 NAMED = re.compile(rf"((?:(?:`[^`]+`|\"[^\"]+\")(?:, )?)+) in ({PATH})((?:[^;`|]*?,? and in {PATH})*)")

@@ -26,10 +26,11 @@ replies::Out::KeptBlank(<Ticket>)
 replies::Marked::At(<Weight>)
 replies::Substituted::Row(<Ticket>)
 replies::Substituted::Blank(<Slot>)
-row::seen::Seen { ticket: <Ticket>, ahead: 0, weights: 0, plain: 0 }
-row::seen::see_row(bytes, <Slot>, row::seen::Seen { ticket: Ticket(0), ahead: 0, weights: 0, plain: 0 })
-row::seen::row_follows(<Ticket>, row::seen::Seen { ticket: Ticket(0), ahead: 0, weights: 0, plain: 0 }, 0)
-row::seen::rows_pass(row::seen::Seen { ticket: Ticket(0), ahead: 0, weights: 0, plain: 0 }, <Ticket>)
+seen::Seen { ticket: <Ticket>, ahead: 0, weights: 0, plain: 0 }
+row::judge::see_row(bytes, <Slot>, seen::Seen { ticket: Ticket(0), ahead: 0, weights: 0, plain: 0 })
+seen::row_follows(<Ticket>, seen::Seen { ticket: Ticket(0), ahead: 0, weights: 0, plain: 0 }, 0)
+seen::numbers_pass(seen::Seen { ticket: Ticket(0), ahead: 0, weights: 0, plain: 0 }, <Ticket>)
+kinds::all_pass(bytes, 0, <Ticket>, seen::Seen { ticket: Ticket(0), ahead: 0, weights: 0, plain: 0 })
 row::write::write_row(table, 16, <Ticket>, <Slot>, <Weight>, <Class>)
 row::entry::Numbers { ticket: <Ticket>, due: <Slot>, weight: <Weight> }
 row::write::write_shift(table, 0, <Slot>, <Weight>)
@@ -58,9 +59,9 @@ taking::take_frame(<Slot>, <Weight>, <Class>, table)
 marking::mark_of(<Slot>, bytes)
 substituting::substitute_of(<Ticket>, bytes)
 listing::Entry { ticket: <Ticket>, due: <Slot>, weight: <Weight> }
-lines::Command::Open(<Slot>)
-lines::Command::Take(<Slot>, <Weight>)
-lines::Command::Classed(<Slot>, <Weight>, <Class>)
+forms::Command::Open(<Slot>)
+forms::Command::Take(<Slot>, <Weight>)
+forms::Command::Classed(<Slot>, <Weight>, <Class>)
 replying::write_ticket_in_room(<Ticket>, table)
 replying::write_step_in_room(0, 0, <Ticket>, table)
 EOF

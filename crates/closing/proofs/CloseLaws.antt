@@ -25,7 +25,7 @@ use Rattle.theory.specs.Clauses.{rows-count}
 use Rattle.theory.specs.Sane.{sound}
 use Rattle.theory.specs.Keys.{getD-in, tickets-less}
 use Rattle.theory.specs.Close.{stays, closed, kept-of, kept-most, closing-start, kept-more, kept-still, closing-skip, closing-copy, closing-paste, closing-rows, rows-split, rows-long}
-use Rattle.round.specs.Head.{Head-of}
+use Rattle.head.specs.Head.{Head-of}
 use Rattle.sorts.specs.declared.Round.{Round as Head}
 use Rattle.round.proofs.ReadLaws.{at-held}
 use Rattle.runs.proofs.CopyLaws.{paste-next}

@@ -13,7 +13,7 @@ use Rattle.theory.specs.Back.{zero-byte, head-of, length-head-of, table-is}
 use Rattle.theory.specs.Sane.{sound}
 use Rattle.theory.specs.Close.{closed, after-slot, closing-rows, length-closed}
 use Rattle.theory.specs.Write.{head-sets, zeros-join}
-use Rattle.round.specs.Head.{Head-of}
+use Rattle.head.specs.Head.{Head-of}
 use Rattle.sorts.specs.declared.Round.{Round as Head}
 use Rattle.closing.specs.Close.{Closed-rows, closed-up}
 use Rattle.closing.proofs.HeadLaws.{head-slot, head-used, table-room}

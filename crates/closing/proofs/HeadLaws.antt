@@ -11,7 +11,7 @@ use Rattle.rules.specs.Table.{round-in, table-refusal}
 use Rattle.theory.specs.Back.{length-table}
 use Rattle.theory.specs.Clauses.{rows-count}
 use Rattle.theory.specs.Sane.{sound}
-use Rattle.round.specs.Head.{Head-of}
+use Rattle.head.specs.Head.{Head-of}
 use Rattle.sorts.specs.declared.Round.{Round as Head}
 
 module _ {t : List ℕ} {h : Head} (d : Head-of t h) where

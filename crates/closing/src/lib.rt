@@ -7,7 +7,7 @@ ghost use lib.Dec.{leb};
 ghost use lib.ListN.{length};
 ghost use Rattle.rules.specs.Conditions.{row-at, due-in};
 ghost use Rattle.rules.specs.Table.{table-refusal};
-ghost use Rattle.round.specs.Head.{Head-of};
+ghost use Rattle.head.specs.Head.{Head-of};
 ghost use Rattle.closing.specs.Close.{Due-now, Due-beside, gone-ticket, Next-due, Search, Next-leaving, Left-behind, Closed-rows, closed-up};
 use numbers::write2;
 use row::entry::due_in;

@@ -23,6 +23,17 @@ split P n a b j h = elim (eqb? j n) [
   | inr e ↦ let k = e .1 in a j (omega arith)
 ]
 
+-- there is one row alone
+pub first-alone : (r : Round) → length (r .rows) ≡ 1 → Is-first r (r .rows) 0
+first-alone r e =
+    let l : 0 < length (r .rows) = omega (arith, e) in
+    let self = split (λ j. Not-before (at r j) (at r 0)) 0 (λ j h. absurd (omega (arith, h))) (not-before-self (at r 0)) in
+    record {
+      below = l;
+      inside = getD-in (r .rows) (blank 0) 0 l;
+      first = each-row (λ y. Not-before y (at r 0)) (blank 0) (r .rows) (λ j u. self j (omega (arith, u, e)));
+    }
+
 pub lead-start : (r : Round) (d k : ℕ) → Due-at r 0 d → k ≡ key-at r 0 → Leads r 1 (first-of d k)
 lead-start r d k a e =
     record {

@@ -1,3 +1,2 @@
 pub mod AllLaws
-pub mod PlannedLaws
 pub mod SendLaws

@@ -1,14 +1,11 @@
-// The plan's canonical first, which a sealed round sends: of the rows due earliest the one of the least key, which is the heaviest.
+// The plan's canonical first, which a sealed round sends, where no row is left out: of the rows due earliest the one of the least key.
 ghost use mathlib.Core.Path.{_≡_};
 ghost use Prim.Native.Nat.{_≤_, _<_};
 ghost use Rattle.rules.specs.Table.{round-in};
 ghost use Rattle.round.specs.Rows.{Ready, Due-at};
 ghost use Rattle.keys.specs.Key.{key-at};
 ghost use Rattle.first.specs.First.{Sees, Is-first};
-ghost use Rattle.first.specs.Planned.{Lent, First-says, Some-flagged, First-flagged};
-use keys::due_of;
 use keys::key_of;
-use keys::lesser;
 use keys::row_of;
 use round::read::class_at;
 use round::read::due_at;
@@ -46,12 +43,15 @@ fn key_at(table: &[u8], round: Round, due: u32, row: usize) -> u64
     key_of(Weight(weight), Slot(due), Class(class), row)
 }
 
-// Where no row is left out. A key is made only where the due slot can win.
+// A key is made only where the due slot can win, and of a single row none.
 pub fn first_of_all(table: &[u8], round: Round) -> usize
     requires { ⌜ Ready (now table) round × (1 ≤ round .used) ⌝ }
     ensures { λ r. ⌜ Is-first (round-in (now (table .entry))) (round-in (now (table .entry)) .rows) r ⌝ }
 {
     let used = round.used;
+    if used == 1 {
+        return 0;
+    }
     let start = due_at(table, round, 0);
     let mut first = First {
         due: start,
@@ -67,38 +67,4 @@ pub fn first_of_all(table: &[u8], round: Round) -> usize
         }
     }
     row_of(first.key)
-}
-
-// The place of the first key with a flag; there is one.
-fn first_flagged(keys: &[u64], flags: &[u8]) -> usize
-    requires { ⌜ Some-flagged (now keys) (now flags) ⌝ }
-    ensures { λ r. ⌜ First-flagged (now (keys .entry)) (now (flags .entry)) r ⌝ }
-{
-    let mut i: usize = 0;
-    while flags[row_of(keys[i])] != 1 {
-        i += 1;
-    }
-    i
-}
-
-// Where some are: the near rows' keys stand in due order, and of one due slot the least key is the heaviest row's.
-pub fn first_planned(keys: &[u64], flags: &[u8], many: usize) -> usize
-    requires { ⌜ Lent (now keys) (now flags) many ⌝ }
-    ensures { λ r. ⌜ First-says (now (keys .entry)) (now (flags .entry)) many r ⌝ }
-{
-    let mut i = first_flagged(keys, flags);
-    let mut first = keys[i];
-    let due = due_of(first);
-    i += 1;
-    while i < many {
-        let key = keys[i];
-        i += 1;
-        if due < due_of(key) {
-            return row_of(first);
-        }
-        if flags[row_of(key)] == 1 {
-            first = lesser(first, key);
-        }
-    }
-    row_of(first)
 }

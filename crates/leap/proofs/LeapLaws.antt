@@ -27,7 +27,7 @@ use Rattle.theory.specs.Whole.{Sends, length-moves}
 use Rattle.picture.specs.Picture.{Spans}
 use Rattle.picture.specs.LeapSends.{blank-sends, row-sends}
 use Rattle.sorts.specs.declared.Round.{Round as Head}
-use Rattle.round.specs.Head.{Head-of}
+use Rattle.head.specs.Head.{Head-of}
 use Rattle.round.specs.Rows.{at}
 use Rattle.round.proofs.ReadLaws.{Known, known}
 use Rattle.keys.specs.KeyLaws.{row-fine, due-is, row-is}

@@ -13,9 +13,10 @@ use Rattle.rules.specs.Lines.{number-from, all-digits, count-digits, number-at,
 use Rattle.theory.specs.Tests.{either, eqb?}
 use Rattle.theory.specs.Digits.{all-digits-join, all-digits-part}
 use Rattle.theory.specs.Numerals.{length-numbers, count-more, count-least, number-in}
-use Rattle.lines.specs.declared.forms.Form.{Form}
+use Rattle.forms.specs.declared.Form.{Form}
 use Rattle.lines.specs.declared.reader.Numbers.{Numbers}
-use Rattle.lines.specs.Forms.{most-numbers, widths-in, Small, Collects}
+use Rattle.forms.specs.Forms.{most-numbers, widths-in, Small}
+use Rattle.lines.specs.Numbers.{Collects}
 use Rattle.lines.proofs.ReadLines.{Says, part-of}
 
 -- the first i numbers are read: clean, their values in the array, 0 past them

@@ -1,5 +1,3 @@
-pub mod Cases
-pub mod FormLaws
 pub mod ReadLines
 pub mod Collecting
 pub mod Places

@@ -9,10 +9,10 @@ use denote.Ref.{RefT}
 use Rattle.rules.specs.Lines as rules
 use Rattle.rules.specs.Lines.{form-of, front-size, command, read, payload-place, payload}
 use Rattle.theory.specs.Reader.{payload-behind, payload-bare, payload-broken, place-within}
-use Rattle.lines.specs.declared.Command.{Command}
-use Rattle.lines.specs.declared.Reading.{Reading}
-use Rattle.lines.specs.declared.Reading.the-variants.{Is, Broken}
-use Rattle.lines.specs.Cases.{of-command, of-reading}
+use Rattle.forms.specs.declared.Command.{Command}
+use Rattle.forms.specs.declared.Reading.{Reading}
+use Rattle.forms.specs.declared.Reading.the-variants.{Is, Broken}
+use Rattle.forms.specs.Cases.{of-command, of-reading}
 use Rattle.lines.specs.Part.{Payload-placed, Payload-part}
 
 -- THE PLACE, by what the line is read as

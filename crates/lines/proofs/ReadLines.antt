@@ -12,7 +12,6 @@ use borrow.Author.Tests.{le-leb, lt-leb}
 use Rattle.rules.specs.Limits.{short-digits}
 use Rattle.rules.specs.Lines.{number-from, all-digits, count-digits, number-at, numbers-at, form-numbered, front-size, payload-fits, has-length}
 use Rattle.rules.specs.Lines.{line-end, Reading, broken, body, command-of, read-digits, read}
-use Rattle.rules.specs.Lines as rules
 use Rattle.theory.specs.Tests.{either}
 use Rattle.theory.specs.Digits.{all-digits-join, all-digits-part}
 use Rattle.theory.specs.Lines.{from-long, body-end, read-ended}
@@ -20,8 +19,9 @@ use Rattle.theory.specs.Broken.{length-body, read-not}
 use Rattle.digits.specs.declared.Spelt.{Spelt}
 use Rattle.digits.specs.declared.Spelt.the-variants.{Number, Nothing}
 use Rattle.digits.specs.Spelling.{spelt}
-use Rattle.lines.specs.declared.forms.Form.{Form}
-use Rattle.lines.specs.Forms.{widths-in, Has-form}
+use Rattle.forms.specs.declared.Form.{Form}
+use Rattle.forms.specs.Forms.{widths-in, Has-form}
+use Rattle.forms.proofs.FormLaws.{front-count}
 
 -- WHAT SPELLING TELLS
 pub record Says (ds : List ℕ) (v : ℕ) : Type 0 where
@@ -82,11 +82,6 @@ begun k line h e s = record { long = h; ends = e; clean = s .clean; says = s .nu
 
 clean-on : (n m : ℕ) (l : List ℕ) → all-digits (take n l) ≡ true → all-digits (take m (drop n l)) ≡ true → all-digits (take (n + m) l) ≡ true
 clean-on n m l e f = rw (take-add n m l) (all-digits-join (take n l) (take m (drop n l)) e f)
-
--- the digits before the payload are the line's number and its numbers
-pub front-count : {f : rules.Form} {r : Form} → Has-form f r → r .front ≡ short-digits + count-digits (widths-in r)
-unfolding front-size
-front-count h = h .front ∙ ap (λ (ns : List ℕ). short-digits + count-digits ns) (sym (h .widths))
 
 module _ {k : ℕ} {line : List ℕ} (b : Begun k line) where
   kind-body : number-at 0 short-digits (body line) ≡ k

@@ -2,10 +2,10 @@
 ghost use mathlib.Core.Path.{_≡_};
 ghost use Rattle.lines.specs.Part.{Payload-part, Payload-placed};
 use crate::Place;
-use crate::Reading;
-use crate::forms::form_of;
-use crate::forms::line_number;
 use crate::read_command;
+use forms::Reading;
+use forms::form_of;
+use forms::line_number;
 
 // From start up to end; 0 and 0 with no payload digits, and of a line that is refused.
 pub fn payload_place(line: &[u8]) -> Place

@@ -4,19 +4,20 @@ ghost use Prim.Native.Nat.{_+_, _≤_};
 ghost use lib.ListN.{length};
 ghost use Rattle.rules.specs.Limits.{short-digits};
 ghost use Rattle.rules.specs.Lines.{count-digits, read};
-ghost use Rattle.lines.specs.Cases.{of-reading};
-ghost use Rattle.lines.specs.Forms.{Collects, Small, widths-in};
-use crate::Reading;
-use crate::forms::Form;
-use crate::forms::MOST_NUMBERS;
-use crate::forms::command_of;
-use crate::forms::form_of;
+ghost use Rattle.forms.specs.Cases.{of-reading};
+ghost use Rattle.forms.specs.Forms.{Small, widths-in};
+ghost use Rattle.lines.specs.Numbers.{Collects};
 use digits::LINE_END;
 use digits::SHORT_DIGITS;
 use digits::Spelt;
 use digits::digits_only;
 use digits::number;
 use digits::payload_fits;
+use forms::Form;
+use forms::MOST_NUMBERS;
+use forms::Reading;
+use forms::command_of;
+use forms::form_of;
 
 // A command, or refusal 1.
 pub fn read_command(line: &[u8]) -> Reading

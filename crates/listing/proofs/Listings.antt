@@ -10,7 +10,7 @@ use Rattle.rules.specs.Table.{round-in, table-refusal}
 use Rattle.rules.specs.Calls.{first, first-of}
 use Rattle.rules.specs.Looking.{View, the-plan, shows, list-refusal, list-answer, list-left}
 use Rattle.sorts.specs.declared.Round.{Round}
-use Rattle.round.specs.Head.{Head-of}
+use Rattle.head.specs.Head.{Head-of}
 use Rattle.round.specs.Rows.{Ready}
 use Rattle.round.proofs.ReadLaws.{Known, known, at-is, reads-within}
 use Rattle.order.specs.declared.Order.{Order}

@@ -13,7 +13,7 @@ use Rattle.rules.specs.Calls.{opening, deed, done, says, leaves, Says}
 use Rattle.theory.specs.Clauses.{length-long}
 use Rattle.theory.specs.Outcomes.{says-accepted, opening-number}
 use Rattle.rules.specs.Calls.{first-of, open-tests}
-use Rattle.round.specs.Numbers.{head-numbers}
+use Rattle.head.specs.Numbers.{head-numbers}
 use Rattle.round.proofs.TableLaws.{opened-table}
 
 module _ (x : Setup) (t : List ℕ) (good : length-good (length t) ≡ true) where

@@ -10,7 +10,7 @@ use lib.ListN.{length, take, replicate, length-replicate}
 use Rattle.rules.specs.Table.{round-in, table-refusal, rows-of}
 use Rattle.theory.specs.Clauses.{length-long}
 use Rattle.sorts.specs.declared.Round.{Round as Head}
-use Rattle.round.specs.Head.{Head-of}
+use Rattle.head.specs.Head.{Head-of}
 use Rattle.round.specs.Judge.{Scan-asks}
 use Rattle.round.specs.Rows.{Ready, at}
 use Rattle.round.specs.Buckets.{Counted}

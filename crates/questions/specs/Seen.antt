@@ -4,7 +4,7 @@ use mathlib.Core.List.{List}
 use Prim.Native.Nat.{ℕ, _≤_}
 use Rattle.rules.specs.Table.{round-in, table-refusal}
 use Rattle.sorts.specs.declared.Round.{Round as Head}
-use Rattle.round.specs.Head.{Head-of}
+use Rattle.head.specs.Head.{Head-of}
 use Rattle.round.specs.Rows.{Ready}
 use Rattle.round.specs.Buckets.{Counted}
 use Rattle.buckets.specs.Reach.{Reaches}

@@ -1,4 +1,4 @@
--- Reply lines written: from the filled buffer, and a line by its numbers.
+-- Reply lines written: from the filled buffer, a line by another name for it, and a line by its numbers.
 use mathlib.Core.Path.{_≡_, refl}
 use mathlib.Core.List.{List}
 use Prim.Native.Nat.{ℕ}
@@ -10,6 +10,9 @@ use Rattle.replying.specs.Replying.{Replies, bare-text, step-text, out-n
 
 pub replied : {xs zs b : List ℕ} {r : ℕ} → Filled xs zs b → r ≡ length xs → Replies xs zs b r
 replied f e = record { long = e; left = f .stand }
+
+pub said-by : {line text before after : List ℕ} {r : ℕ} → Replies line before after r → line ≡ text → Replies text before after r
+said-by p e = rw e at p
 
 -- an opening's line and a sealing's, by their numbers
 pub done-said : bare-text 0 ≡ reply-text done

@@ -13,7 +13,7 @@ use Rattle.theory.specs.Outcomes.{act-judges, question-judges, by-round}
 use Rattle.sorts.specs.declared.Round.{Round}
 use Rattle.rules.specs.Calls.{first-of, take-tests, send-tests, seal-tests, mark-tests}
 use Rattle.sorts.specs.Tail.{tail-of}
-use Rattle.round.specs.Head.{Head-of}
+use Rattle.head.specs.Head.{Head-of}
 
 abbrev pub taking-number : Round → Frame → ℕ
 taking-number h f = first-of (take-tests (h .slot .0) (h .last .0) (h .next .0) (h .used) (h .room) (tail-of h) f)

@@ -17,7 +17,7 @@ use Rattle.theory.specs.Judged.{judged-refusal}
 use Rattle.theory.specs.Checks.{refusal-two}
 use Rattle.sorts.specs.declared.Round.{Round as Head}
 use Rattle.round.specs.declared.sound.Judged.the-variants.{Sound}
-use Rattle.round.specs.Head.{Head-of}
+use Rattle.head.specs.Head.{Head-of}
 use Rattle.round.specs.Scan.{Rows-lent, all-judged, Rows-say}
 use Rattle.round.specs.Judge.{Refuses, Judge-says, Scan-asks, Scan-says}
 

@@ -1,6 +1,4 @@
-pub mod HeadLaws
 pub mod JudgeLaws
-pub mod WriteLaws
 pub mod TableLaws
 pub mod ByHead
 pub mod ReadLaws

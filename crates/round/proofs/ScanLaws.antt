@@ -18,22 +18,17 @@ use Rattle.theory.specs.Count.{bucket}
 use Rattle.theory.specs.Fields.{field-drop, field-take}
 use Rattle.theory.specs.Judge.{zeros, row-judged, rows-judged}
 use Rattle.sorts.specs.declared.Round.{Round as Head}
-use Rattle.row.specs.declared.seen.Seen.{Seen}
-use Rattle.row.specs.Seen.{Sees, fair, kind-good}
+use Rattle.seen.specs.declared.Seen.{Seen}
+use Rattle.seen.specs.Fair.{fair}
+use Rattle.row.specs.Judge.{Sees, kind-good}
 use Rattle.round.specs.Rows.{at, top-of, place}
-use Rattle.round.specs.Scan.{Rows-lent, all-judged, Rows-say, kinds-good, Frames-seen}
-use Rattle.zeros.proofs.ZeroLaws.{and-assoc}
-use Rattle.row.proofs.RowLaws.{row-parts, in-time, frame-good}
+use Rattle.round.specs.Buckets.{Lent-counts}
+use Rattle.kinds.specs.Kinds.{kinds-good, Frames-seen, passing}
+use Rattle.round.specs.Scan.{Rows-lent, all-judged, Rows-say}
+use Rattle.row.proofs.RowLaws.{row-parts, in-time, frame-good, and-on}
+use Rattle.kinds.proofs.KindLaws.{lent, lent-is, kinds-next}
 use Rattle.round.proofs.ReadLaws.{at-held}
-use Rattle.round.proofs.CountLaws.{Counting, count-bound, count-more, counting-end, round-is}
-
-and-on : (x : Bool) → x && true ≡ x
-and-on true = refl
-and-on false = refl
-
-and-off : (x : Bool) → x && false ≡ false
-and-off true = refl
-and-off false = refl
+use Rattle.round.proofs.CountLaws.{Counting, count-bound, count-more, counting-start, counting-end, round-is}
 
 pub record Bucket-at (r : Round) (i c : ℕ) : Type 0 where
   pub is : c ≡ place r i
@@ -57,10 +52,18 @@ late-row s l n b xs h =
     (leb 1 (field 6 4 xs) && (leb (field 6 4 xs) most-weight && (leb (field 10 1 xs) 1 && (leb (field 11 1 xs) most-class && ((eqb (field 10 1 xs) 0 || eqb (field 11 1 xs) most-class) && true)))))
     (zeros (drop 12 xs)) (λ e. lt-leb d l (omega (arith, leb-true s d e, h)))
 
-pub none-left : (s l n b u : ℕ) (bs : List ℕ) → l < s → eqb u 0 ≡ rows-judged u s l n b bs
+-- no row is good whatever the slots, and no slot left is not whatever the rows
+pub no-row : (t : List ℕ) (h : Head) → h .used ≡ 0 → true ≡ all-judged t h
 unfolding rows-judged
-none-left s l n b zero bs h = refl
-none-left s l n b (suc u) bs h = ne-eqb (suc u) 0 (λ e. omega (arith, e)) ∙ sym (rw (late-row s l n b (take row-size bs) h))
+no-row t h e = rw e
+
+late-rows : (s l n b u : ℕ) (bs : List ℕ) → l < s → (u ≡ 0 → ⊥) → false ≡ rows-judged u s l n b bs
+unfolding rows-judged
+late-rows s l n b zero bs h k = absurd (k refl)
+late-rows s l n b (suc u) bs h k = sym (rw (late-row s l n b (take row-size bs) h))
+
+pub all-late : (t : List ℕ) (h : Head) → h .last .0 < h .slot .0 → (h .used ≡ 0 → ⊥) → false ≡ all-judged t h
+all-late t h = late-rows (h .slot .0) (h .last .0) (h .next .0) 0 (h .used) _
 
 -- JUDGED SO FAR: what is asked of all rows is what is left to ask of those before i, and what is asked of the others
 pub record Judging (t : List ℕ) (h : Head) (i : ℕ) (s : Seen) : Type 0 where
@@ -88,42 +91,8 @@ rows-step s l n b t u i h =
     let f : row-at (i + 1) ≡ row-at i + row-size = omega arith in
     rw (e, f, ← drop-drop row-size (row-at i) t)
 
-pub kinds-next : (t : List ℕ) (i : ℕ) → kinds-good t (i + 1) ≡ kinds-good t i && kind-good (take row-size (drop (row-at i) t))
-unfolding kinds-good
-kinds-next t i = rw (add-one i)
-
--- ROW i as the code lends it
-abbrev pub lent : (t : List ℕ) (a : ℕ) → List ℕ
-lent t a = take (a + row-size - a) (drop a t)
-
-lent-is : (t : List ℕ) (a i : ℕ) → a ≡ row-at i → lent t a ≡ take row-size (drop (row-at i) t)
-lent-is t a i e =
-    let f : a + row-size - a ≡ row-size = omega arith in
-    rw (f, e)
-
 pub lent-long : (t : List ℕ) (h : Head) (a i : ℕ) → Rows-lent t h → a ≡ row-at i → i < h .used → length (lent t a) ≡ row-size
 lent-long t h a i k e o = simp (length-take, length-drop) (omega (arith, k .within, e, o))
-
--- THE KINDS, asked from the last row back
-pub record Kinds-left (t : List ℕ) (u k : ℕ) : Type 0 where
-  pub by : k ≤ u
-  pub rest : kinds-good t u ≡ kinds-good t k
-
-module _ (t : List ℕ) (u k a : ℕ) (x : Bool) (some : 0 < k) (e : a ≡ row-at (k - 1)) (d : x ≡ kind-good (lent t a)) (j : Kinds-left t u k) where
-  kinds-step : kinds-good t u ≡ kinds-good t (k - 1) && x
-  kinds-step =
-      let f : k ≡ k - 1 + 1 = omega (arith, some) in
-      j .rest ∙ ap (kinds-good t) f ∙ kinds-next t (k - 1) ∙ ap (λ (y : Bool). kinds-good t (k - 1) && y) (sym (d ∙ ap kind-good (lent-is t a (k - 1) e)))
-
-  pub kinds-on : x ≡ true → Kinds-left t u (k - 1)
-  kinds-on p = record { by = omega (arith, j .by); rest = kinds-step ∙ rw p (and-on (kinds-good t (k - 1))) }
-
-  pub kinds-off : x ≡ false → false ≡ kinds-good t u
-  kinds-off p = sym (kinds-step ∙ rw p (and-off (kinds-good t (k - 1))))
-
-pub kinds-all : (t : List ℕ) (u k : ℕ) → k ≤ 0 → Kinds-left t u k → true ≡ kinds-good t u
-unfolding kinds-good
-kinds-all t u k h j = let e : k ≡ 0 = omega (arith, h) in sym (j .rest ∙ rw e)
 
 pub fewer-left : (u i : ℕ) → i < u → u - (i + 1) < u - i
 fewer-left u i o = omega (arith, o)
@@ -185,25 +154,11 @@ module _ (t : List ℕ) (h : Head) (k : Rows-lent t h) (time : h .slot .0 ≤ h 
       let ahead : s .ahead ≡ at (round-in t) i .due - round-in t .slot = u ∙ rw (due-there, n .slot) in
       record { is = g ∙ ap₂ min ahead last-bucket; by = at-most (s .ahead) top c (top-of (round-in t)) g last-bucket }
 
--- ASKED ONCE of all rows: all but the kinds, then the kinds
-abbrev pub passing : List ℕ → Head → Seen → Bool
-passing t h s = ltb (s .ticket .0) (h .next .0) && (fair s && kinds-good t (h .used))
-
-module _ (t : List ℕ) (h : Head) (s : Seen) (x : Bool) (e : x ≡ ltb (s .ticket .0) (h .next .0) && fair s) where
-  passed : x && kinds-good t (h .used) ≡ passing t h s
-  passed = ap (λ (n : Bool). n && kinds-good t (h .used)) e ∙ and-assoc (ltb (s .ticket .0) (h .next .0)) (fair s) (kinds-good t (h .used))
-
-  pub pass-off : x ≡ false → false ≡ passing t h s
-  pass-off f = ap (λ (n : Bool). n && kinds-good t (h .used)) (sym f) ∙ passed
-
-  pub pass-on : (y : Bool) → x ≡ true → y ≡ kinds-good t (h .used) → y ≡ passing t h s
-  pass-on y f g = g ∙ ap (λ (n : Bool). n && kinds-good t (h .used)) (sym f) ∙ passed
-
 -- all rows are asked about once i is at the last
 pub frames-end : (t : List ℕ) (h : Head) (i : ℕ) (s : Seen) → Judging t h i s → h .used ≤ i → Frames-seen t (h .used) s
 frames-end t h i s j o = let e : i ≡ h .used = omega (arith, j .by, o) in rw (← e) (j .frames)
 
-pub judging-end : (t : List ℕ) (h : Head) (i : ℕ) (s : Seen) (x : Bool) → Judging t h i s → h .used ≤ i → x ≡ passing t h s → x ≡ all-judged t h
+pub judging-end : (t : List ℕ) (h : Head) (i : ℕ) (s : Seen) (x : Bool) → Judging t h i s → h .used ≤ i → x ≡ passing t (h .used) (h .next .0) s → x ≡ all-judged t h
 unfolding rows-judged
 judging-end t h i s x j o e =
     let f : h .used - i ≡ 0 = omega (arith, o) in
@@ -234,14 +189,17 @@ scanned-room t h i s cs c k w z =
     )
 
 -- WHAT IS SAID of all rows
-pub say-none : (t : List ℕ) (h : Head) (cs : List ℕ) (x : Bool) → h .last .0 < h .slot .0 → x ≡ eqb (h .used) 0 → Rows-say t h cs x
-say-none t h cs x l e =
-    record { judged = e ∙ none-left (h .slot .0) (h .last .0) (h .next .0) 0 (h .used) _ l; counted = λ _ g. absurd (omega (arith, l, g)) }
+pub say-none : (t : List ℕ) (h : Head) (cs : List ℕ) → Rows-lent t h → Lent-counts t cs → h .used ≡ 0 → Rows-say t h cs true
+say-none t h cs k l e =
+    record {
+      judged = no-row t h e;
+      counted = λ _ _. counting-end t h 0 cs k (omega arith) (omega (arith, e)) (counting-start t h cs k l);
+    }
 
 pub say-off : (t : List ℕ) (h : Head) (cs : List ℕ) → false ≡ all-judged t h → Rows-say t h cs false
 say-off t h cs e = record { judged = e; counted = λ f _. absurd (false≢true f) }
 
-pub say-all : (t : List ℕ) (h : Head) (i : ℕ) (s : Seen) (cs : List ℕ) (x : Bool) → Rows-lent t h → h .used ≤ i → x ≡ passing t h s →
+pub say-all : (t : List ℕ) (h : Head) (i : ℕ) (s : Seen) (cs : List ℕ) (x : Bool) → Rows-lent t h → h .used ≤ i → x ≡ passing t (h .used) (h .next .0) s →
     Scanned t h i s cs → Rows-say t h cs x
 say-all t h i s cs x k o e z =
     record { judged = judging-end t h i s x (z .judging) o e; counted = λ _ _. counting-end t h i cs k (z .judging .by) o (z .counting) }

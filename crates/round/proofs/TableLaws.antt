@@ -19,10 +19,10 @@ use Rattle.theory.specs.Sender.{table-parts}
 use Rattle.theory.specs.Clauses.{rows-count}
 use Rattle.sorts.specs.declared.Round.{Round}
 use Rattle.sorts.specs.Tail.{tail-of}
-use Rattle.round.specs.Head.{Head-of}
+use Rattle.head.specs.Head.{Head-of}
 use Rattle.row.specs.Numbers.{row-numbers}
-use Rattle.round.specs.Numbers.{head-numbers}
-use Rattle.round.proofs.WriteLaws.{head-over}
+use Rattle.head.specs.Numbers.{head-numbers}
+use Rattle.head.proofs.WriteLaws.{head-over}
 use Rattle.round.proofs.JudgeLaws.{good-long}
 
 abbrev zeros : ℕ

@@ -7,7 +7,7 @@ use lib.ListN.{length}
 use Rattle.rules.specs.Table.{round-in, length-good, table-refusal}
 use Rattle.round.specs.declared.sound.Judged.{Judged}
 use Rattle.round.specs.declared.sound.Judged.the-variants.{Sound, Refused}
-use Rattle.round.specs.Head.{Head-of}
+use Rattle.head.specs.Head.{Head-of}
 use Rattle.round.specs.Buckets.{Counted, Lent-counts}
 
 -- the first refusal that applies

@@ -1,5 +1,3 @@
-pub mod Head
-pub mod Numbers
 pub mod Rows
 pub mod Buckets
 pub mod Scan

@@ -7,7 +7,7 @@ use Rattle.rules.specs.Limits.{most-last, most-weight, most-class}
 use Rattle.rules.specs.Rows.{Row, Round, blank}
 use Rattle.rules.specs.Table.{table-refusal}
 use Rattle.theory.specs.Count.{bucket}
-use Rattle.round.specs.Head.{Head-of}
+use Rattle.head.specs.Head.{Head-of}
 use Rattle.sorts.specs.declared.Round.{Round as Head}
 
 -- what every call here asks for: a sound table with its head, and a slot left

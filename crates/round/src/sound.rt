@@ -1,9 +1,9 @@
 // The judge of a whole table, and the scan: the same, with the rows counted by bucket.
 ghost use Rattle.round.specs.Judge.{Judge-says, Scan-asks, Scan-says};
-use crate::head::head_is_sound;
-use crate::head::read_head;
 use crate::rows::rows_are_counted;
 use crate::rows::rows_are_sound;
+use head::head_is_sound;
+use head::read_head;
 use limits::length_is_good;
 use row::row_at;
 use sorts::Round;

@@ -19,8 +19,9 @@ use Rattle.theory.specs.Tests.{ltb?, leb?, eqb?}
 use Rattle.theory.specs.Judge.{zeros, row-judged}
 use Rattle.theory.specs.Fields.{zeros-at}
 use Rattle.numbers.proofs.NumberLaws.{field-suc, field1}
-use Rattle.row.specs.declared.seen.Seen.{Seen}
-use Rattle.row.specs.Seen.{Differs, Sees, fair, kind-good}
+use Rattle.seen.specs.declared.Seen.{Seen}
+use Rattle.seen.specs.Fair.{fair}
+use Rattle.row.specs.Judge.{Differs, Sees, kind-good}
 use Rattle.zeros.proofs.ZeroLaws.{word-in-two, zeros-rest}
 
 -- eight bytes are below 1,024 as a number when the second is at most 3 and those behind it are zero
@@ -126,11 +127,11 @@ in-time s l d a h m k =
     ]
 
 -- THE JUDGE of a row: tests asked at once, and tests asked of all rows
-and-off : (x : Bool) → x && false ≡ false
+pub and-off : (x : Bool) → x && false ≡ false
 and-off true = refl
 and-off false = refl
 
-and-on : (x : Bool) → x && true ≡ x
+pub and-on : (x : Bool) → x && true ≡ x
 and-on true = refl
 and-on false = refl
 
@@ -184,11 +185,3 @@ kind-read xs x h e =
     let j : 10 + 1 ≤ length xs = omega (arith, h) in
     let k : 11 + 1 ≤ length xs = omega (arith, h) in
     rw (field1 xs 10, field1 xs 11) e
-
--- and tests it
-pub kept-test : (k c : ℕ) → (k ≡ 0 → ⊥) → eqb k 1 && eqb c most-class ≡ leb k 1 && (eqb k 0 || eqb c most-class)
-kept-test k c n =
-    elim (eqb? k 1) [
-      | inl e ↦ rw (e .1)
-      | inr e ↦ rw (e .0, lt-leb k 1 (omega (arith, n, e .1)))
-    ]

@@ -1,4 +1,4 @@
-pub mod Seen
+pub mod Judge
 pub mod Entry
 pub mod Numbers
 pub mod Written

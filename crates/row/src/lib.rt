@@ -4,7 +4,7 @@ ghost use Prim.Native.Nat.{_≤_};
 ghost use Rattle.rules.specs.Limits.{most-rows};
 ghost use Rattle.rules.specs.Conditions.{row-at};
 
-pub mod seen; // seen.rt: the judge of one row
+pub mod judge; // judge.rt: the judge of one row
 pub mod entry; // entry.rt: a row's numbers read
 pub mod write; // write.rt: a row's numbers written
 

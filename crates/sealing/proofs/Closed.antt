@@ -9,9 +9,9 @@ use Rattle.rules.specs.Table.{table-refusal}
 use Rattle.rules.specs.Calls.{sealing, acting, act, deed, refused, closed, says, leaves, Says}
 use Rattle.theory.specs.Outcomes.{says-refused, says-accepted}
 use Rattle.sorts.specs.declared.Round.{Round}
-use Rattle.round.specs.Head.{Head-of}
+use Rattle.head.specs.Head.{Head-of}
 use Rattle.round.proofs.ByHead.{sealing-number, sealing-by}
-use Rattle.round.proofs.HeadLaws.{sound-head}
+use Rattle.head.proofs.HeadLaws.{sound-head}
 use Rattle.round.proofs.TableLaws.{sealed-table}
 
 module _ (t : List ℕ) (h : Round) (sound : table-refusal t ≡ 0) (head : Head-of t h) where

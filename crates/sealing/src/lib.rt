@@ -2,7 +2,7 @@
 ghost use mathlib.Core.Path.{_≡_};
 ghost use Rattle.rules.specs.Table.{table-refusal};
 ghost use Rattle.rules.specs.Calls.{sealing, acting, Says};
-ghost use Rattle.round.specs.Head.{Head-of};
+ghost use Rattle.head.specs.Head.{Head-of};
 ghost use Rattle.replies.specs.Replies.{of-sealed};
 use checks::sending_refusal;
 use replies::Sealed;

@@ -14,11 +14,11 @@ use Rattle.theory.specs.Outcomes.{says-accepted}
 use Rattle.sorts.specs.declared.Round.{Round}
 use Rattle.sorts.specs.Tail.{tail-of}
 use Rattle.checks.proofs.Accepted.{take-accepted}
-use Rattle.round.specs.Head.{Head-of}
+use Rattle.head.specs.Head.{Head-of}
 use Rattle.row.specs.Numbers.{row-numbers}
-use Rattle.round.specs.Numbers.{head-numbers}
+use Rattle.head.specs.Numbers.{head-numbers}
 use Rattle.round.proofs.ByHead.{taking-number, taking-by}
-use Rattle.round.proofs.HeadLaws.{sound-head}
+use Rattle.head.proofs.HeadLaws.{sound-head}
 use Rattle.round.proofs.TableLaws.{taken-table}
 
 module _ (t : List ℕ) (h : Round) (sound : table-refusal t ≡ 0) (head : Head-of t h) (f : Frame) where

@@ -4,7 +4,7 @@ ghost use Prim.Native.Nat.{_≤_};
 ghost use lib.ListN.{length};
 use crate::Request;
 use crate::small;
-use lines::Command;
+use forms::Command;
 use numbers::write4;
 use writer::Written;
 use writer::write_line;

@@ -18,7 +18,7 @@ use Rattle.theory.specs.Change.{changed-sum, rising-first}
 use Rattle.theory.specs.Members.{Rows-of-plan}
 use Rattle.theory.specs.Chain.{Linked, shifted-to-end, moves, link-end}
 use Rattle.theory.specs.Leaping.{moved-ticket}
-use Rattle.round.specs.Head.{Head-of}
+use Rattle.head.specs.Head.{Head-of}
 use Rattle.sorts.specs.declared.Round.{Round as Head}
 use Rattle.round.specs.Rows.{at}
 use Rattle.round.proofs.ReadLaws.{at-held}

@@ -17,7 +17,7 @@ use Rattle.theory.specs.Members.{planned-rows}
 use Rattle.theory.specs.Sane.{sound}
 use Rattle.theory.specs.Whole.{Sends, sends-silence}
 use Rattle.sorts.specs.declared.Round.{Round as Head}
-use Rattle.round.specs.Head.{Head-of}
+use Rattle.head.specs.Head.{Head-of}
 use Rattle.round.specs.Rows.{Ready, at}
 use Rattle.round.proofs.ReadLaws.{known, reads-within}
 use Rattle.closing.specs.Close.{Due-now, gone-ticket, closed-up}

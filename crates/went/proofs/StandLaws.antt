@@ -26,7 +26,7 @@ use Rattle.theory.specs.Chain.{Linked, shifted-to-end, moves, link-end}
 use Rattle.theory.specs.Close.{closed, after-slot}
 use Rattle.theory.specs.Whole.{Sends, sends-answer}
 use Rattle.theory.specs.Sender.{sending-leaves}
-use Rattle.round.specs.Head.{Head-of}
+use Rattle.head.specs.Head.{Head-of}
 use Rattle.sorts.specs.declared.Round.{Round as Head}
 use Rattle.round.proofs.ReadLaws.{known}
 use Rattle.round.specs.Rows.{Ready}

@@ -23,9 +23,9 @@ use Rattle.theory.specs.Segments.{Segment, first-segment, segment-beats, segmen
 use Rattle.theory.specs.Lead.{Leads}
 use Rattle.round.specs.Rows.{at}
 use Rattle.keys.specs.KeyLaws.{rank-less, rank-same}
-use Rattle.whole.specs.Best.{Behind, Is-row, Heaviest, Least}
+use Rattle.passes.specs.Best.{Behind, Is-row, Heaviest, Least}
+use Rattle.passes.specs.declared.best.Best.{Best}
 use Rattle.whole.specs.Whole.{Lightest-by}
-use Rattle.whole.specs.declared.best.Best.{Best}
 
 -- A ROW FOUND is one that no other is heavier than
 behind-weight : (r : Round) (j : ℕ) (b : Best) → Behind r j b → at r j .weight ≤ b .weight

@@ -1,4 +1,3 @@
-pub mod BestLaws
 pub mod LeadLaws
 pub mod WholeLaws
 pub mod SendLaws

@@ -23,11 +23,11 @@ use Rattle.buckets.specs.Stretch.{Full, Stretches}
 use Rattle.buckets.specs.declared.Reach.{Reach}
 use Rattle.buckets.specs.declared.stretch.Stretch.{Stretch}
 use Rattle.buckets.proofs.SegmentLaws.{whole-rows, full, stretch-segment}
-use Rattle.whole.specs.Best.{Is-row, Heaviest}
-use Rattle.whole.specs.Look.{Looks, First-goes}
-use Rattle.whole.specs.Whole.{Given, Past, Leading, Lightest-by, Picks-first, Picks-far, Picks-kept}
-use Rattle.whole.specs.declared.best.Best.{Best}
-use Rattle.whole.specs.declared.look.Found.{Found}
+use Rattle.passes.specs.Best.{Is-row, Heaviest}
+use Rattle.passes.specs.Look.{Looks}
+use Rattle.passes.specs.declared.best.Best.{Best}
+use Rattle.passes.specs.declared.look.Found.{Found}
+use Rattle.whole.specs.Whole.{Given, Past, First-goes, Leading, Lightest-by, Picks-first, Picks-far, Picks-kept}
 use Rattle.whole.proofs.LeadLaws.{fine-at, some-row, none-heavier, some-least, best-leads, other-leads, past-leads}
 
 -- what the test says

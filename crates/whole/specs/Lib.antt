@@ -1,3 +1,1 @@
-pub mod Best
-pub mod Look
 pub mod Whole

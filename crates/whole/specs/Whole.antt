@@ -1,8 +1,10 @@
 -- Which row goes where no row is left out.
 use mathlib.Core.Path.{_≡_}
+use mathlib.Core.Bool.{Bool, true, false}
 use mathlib.Core.List.{List}
 use Prim.Native.Nat.{ℕ, _+_, _≤_, _<_}
 use lib.ListN.{length}
+use Rattle.rules.specs.PlanM.{score}
 use Rattle.rules.specs.Rows.{Round}
 use Rattle.rules.specs.Table.{round-in}
 use Rattle.theory.specs.Lead.{Leads}
@@ -13,8 +15,9 @@ use Rattle.sorts.specs.declared.Round.{Round as Head}
 use Rattle.keys.specs.Key.{slot-of}
 use Rattle.buckets.specs.Reach.{Reaches}
 use Rattle.buckets.specs.declared.Reach.{Reach}
-use Rattle.whole.specs.Best.{Heaviest}
-use Rattle.whole.specs.declared.best.Best.{Best}
+use Rattle.passes.specs.Best.{Heaviest}
+use Rattle.passes.specs.declared.best.Best.{Best}
+use Rattle.passes.specs.declared.look.Found.{Found}
 use Rattle.whole.specs.declared.Whole.{Whole}
 use Rattle.whole.specs.declared.Whole.the-variants.{First, Far, Kept}
 
@@ -33,6 +36,11 @@ pub record Past (t cs : List ℕ) (h : Head) (x : Reach) (b : Best) (e : ℕ) : 
   pub near : e < round-in t .slot + x .free
   pub segment : Segment (round-in t) (round-in t .rows) (round-in t .slot) e
   pub past : e < slot-of (b .rank)
+
+-- whether the first segment's row goes: its score is no less
+abbrev pub First-goes : Best → Found → Bool → Type 0
+First-goes b f true = score (b .weight) 0 ≤ score (f .first .weight) (f .lightest)
+First-goes b f false = score (f .first .weight) (f .lightest) < score (b .weight) 0
 
 -- row i leads all rows
 pub record Leading (r : Round) (i : ℕ) : Type 0 where

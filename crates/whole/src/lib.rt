@@ -1,19 +1,14 @@
 // Which row goes where no row is left out: a blank stands in for every row past the first segment, so passes over the table tell it.
 ghost use Rattle.rules.specs.Table.{round-in};
-ghost use Rattle.whole.specs.Look.{First-goes};
-ghost use Rattle.whole.specs.Whole.{Given, Past, Picked};
-
-mod best; // best.rt: the heavier of two rows
-mod look; // look.rt: the passes over the table
-
-use crate::best::Best;
-use crate::look::Found;
-use crate::look::heaviest;
-use crate::look::look;
+ghost use Rattle.whole.specs.Whole.{Given, Past, First-goes, Picked};
 use buckets::Reach;
 use buckets::stretch::stretch_of;
 use keys::rank_due;
 use lead::score_of;
+use passes::best::Best;
+use passes::look::Found;
+use passes::look::heaviest;
+use passes::look::look;
 use sorts::Round;
 use sorts::Slot;
 use sorts::Weight;

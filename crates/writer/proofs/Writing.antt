@@ -17,9 +17,9 @@ use Rattle.theory.specs.Numerals.{length-numerals, count-more, count-least, num
 use Rattle.theory.specs.Lines.{as-many, length-front, text-front, from-stands, length-text, unfit, no-room, room, write-refused, write-done}
 use Rattle.digits.specs.Spelling.{put, Puts}
 use Rattle.digits.proofs.Filling.{Filled, filled-none, filled-put, filled-number, filled-byte}
-use Rattle.lines.specs.declared.forms.Form.{Form}
-use Rattle.lines.specs.Forms.{widths-in, values-in, can-stand, Has-form, Has-values}
-use Rattle.lines.proofs.ReadLines.{front-count}
+use Rattle.forms.specs.declared.Form.{Form}
+use Rattle.forms.specs.Forms.{widths-in, values-in, can-stand, Has-form, Has-values}
+use Rattle.forms.proofs.FormLaws.{front-count}
 use Rattle.writer.specs.declared.Written.{Written}
 use Rattle.writer.specs.declared.Written.the-variants.{Length, Refused}
 use Rattle.writer.specs.Writing.{of-written, Writes}

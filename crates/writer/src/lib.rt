@@ -5,8 +5,8 @@ ghost use lib.ListN.{length};
 ghost use Rattle.rules.specs.Limits.{short-digits};
 ghost use Rattle.rules.specs.Lines.{count-digits, fit-digits, numerals};
 ghost use Rattle.digits.specs.Spelling.{put};
-ghost use Rattle.lines.specs.Cases.{of-command};
-ghost use Rattle.lines.specs.Forms.{Small, can-stand, most-numbers, values-in, widths-in};
+ghost use Rattle.forms.specs.Cases.{of-command};
+ghost use Rattle.forms.specs.Forms.{Small, can-stand, most-numbers, values-in, widths-in};
 ghost use Rattle.writer.specs.Writing.{Writes};
 use digits::LINE_END;
 use digits::SHORT_DIGITS;
@@ -14,12 +14,12 @@ use digits::digits_only;
 use digits::fits;
 use digits::payload_fits;
 use digits::put_number;
-use lines::Command;
-use lines::forms::Form;
-use lines::forms::MOST_NUMBERS;
-use lines::forms::form_of;
-use lines::forms::line_number;
-use lines::forms::values_of;
+use forms::Command;
+use forms::Form;
+use forms::MOST_NUMBERS;
+use forms::form_of;
+use forms::line_number;
+use forms::values_of;
 
 // What the writer answers: the line's length with its 0A, or a refusal's number.
 pub enum Written {

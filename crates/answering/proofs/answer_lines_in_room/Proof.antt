@@ -7,9 +7,9 @@ use lib.ListN.{length}
 use borrow.Author.Needs.{needs}
 use Rattle.rules.specs.Calls.{refused}
 use Rattle.rules.specs.Lines.{reply-text}
-use Rattle.lines.specs.Cases.{of-command, of-reading}
+use Rattle.forms.specs.Cases.{of-command, of-reading}
 use Rattle.lines.specs.Ends.{Line-ends, First-end}
-use Rattle.turns.proofs.Said.{said-by}
+use Rattle.replying.proofs.Replying.{said-by}
 use Rattle.answering.proofs.Put.{put-line, reply-within}
 use Rattle.answering.proofs.Answered.{Answering, out-within, room-left, answering-none, answering-more, answered-broken, answered-all}
 use Rattle.answering.proofs.answer_lines_in_room.Statement.{statement}

@@ -5,7 +5,7 @@ use native.Mathlib.Omega.{arith}
 use Rattle.rules.specs.Table.{round-in}
 use Rattle.first.specs.First.{Leads}
 use Rattle.round.proofs.ReadLaws.{known}
-use Rattle.first.proofs.AllLaws.{lead-start, lead-passes, lead-sees, lead-end}
+use Rattle.first.proofs.AllLaws.{first-alone, lead-start, lead-passes, lead-sees, lead-end}
 use Rattle.first.proofs.first_of_all.Statement.{statement}
 use Rattle.first.proofs.first_of_all.Tie as tie
 
@@ -14,6 +14,10 @@ Inv-loop table round used start first₀ i₀ first i = (i ≤ used) × Leads (r
 
 abbrev μ-loop : tie.MeasureT-loop
 μ-loop table round used start first₀ i₀ first i = used - i
+
+returns : tie.Need-returns Inv-loop μ-loop
+returns c =
+    let n = known _ _ (c .before .before .pre .0) in first-alone _ (omega (arith, n .used, c .if1 .taken))
 
 due-at-requires : tie.Need-due-at-requires Inv-loop μ-loop
 due-at-requires c κs = search needs
@@ -41,7 +45,7 @@ loop-less c = search needs
 
 loop-again : tie.Need-loop-again Inv-loop μ-loop
 loop-again c =
-    let pre = c .before .before .before .before .before .before .before .before .before .before .pre in
+    let pre = c .before .before .before .before .before .before .before .before .before .before .before .pre in
     let loop = c .before .before .before .before .before .before .loop in
     let n = known _ _ (pre .0) in (
       search needs,
@@ -54,7 +58,7 @@ loop-less-2 c = search needs
 
 loop-again-2 : tie.Need-loop-again-2 Inv-loop μ-loop
 loop-again-2 c =
-    let pre = c .before .before .before .before .before .before .before .before .pre in
+    let pre = c .before .before .before .before .before .before .before .before .before .pre in
     let loop = c .before .before .before .before .loop in
     let n = known _ _ (pre .0) in
     (search needs, lead-passes _ (n .fine) (n .small) (n .cap) _ (omega (arith, n .used)) _ (loop .inv .1) _ (c .before .before .due-at2 .ensures) (omega arith))
@@ -62,9 +66,9 @@ loop-again-2 c =
 row-of-requires : tie.Need-row-of-requires Inv-loop μ-loop
 row-of-requires c κs = search needs
 
-returns : tie.Need-returns Inv-loop μ-loop
-returns c =
-    let n = known _ _ (c .before .before .before .before .before .before .pre .0) in
+returns-2 : tie.Need-returns-2 Inv-loop μ-loop
+returns-2 c =
+    let n = known _ _ (c .before .before .before .before .before .before .before .pre .0) in
     lead-end _ (n .fine) (n .small) (n .cap) _ _ _ (c .before .before .loop .inv .0) (c .before .loop-test .left) (n .used) (c .before .before .loop .inv .1) _ (c .row-of .ensures)
 
 pub first-of-all-spec : {M : Type 1} → statement M
@@ -73,6 +77,7 @@ first-of-all-spec =
     (tie.spec
     Inv-loop
     μ-loop
+    returns
     due-at-requires
     key-at-requires
     loop-holds
@@ -85,4 +90,4 @@ first-of-all-spec =
     loop-less-2
     loop-again-2
     row-of-requires
-    returns)
+    returns-2)

@@ -5,7 +5,7 @@ use lib.ListN.{length}
 use borrow.Author.Needs.{needs}
 use borrow.Author.Tests.{not-true, not-false}
 use Rattle.rules.specs.Lines.{all-digits, fit-digits, payload-fits}
-use Rattle.lines.specs.Forms.{widths-in, values-in}
+use Rattle.forms.specs.Forms.{widths-in, values-in}
 use Rattle.writer.proofs.Writing.{stands-not, stands-long, stands-if}
 use Rattle.writer.proofs.can_stand.Statement.{statement}
 use Rattle.writer.proofs.can_stand.Tie as tie

@@ -5,7 +5,7 @@ use native.Mathlib.Omega.{arith}
 use lib.ListN.{length, getD, take}
 use lib.Seq.{length-take-le, getD-take}
 use borrow.Author.Needs.{needs}
-use Rattle.lines.specs.Forms.{most-numbers}
+use Rattle.forms.specs.Forms.{most-numbers}
 use Rattle.writer.proofs.Writing.{Values-put, values-none, next-room, values-more, values-all}
 use Rattle.writer.proofs.put_values.Statement.{statement}
 use Rattle.writer.proofs.put_values.Tie as tie

@@ -7,7 +7,7 @@ use lib.Seq.{length-take-le, getD-take}
 use borrow.Author.Needs.{needs}
 use borrow.Author.Tests.{not-true, not-false}
 use Rattle.rules.specs.Lines.{fit-digits}
-use Rattle.lines.specs.Forms.{most-numbers}
+use Rattle.forms.specs.Forms.{most-numbers}
 use Rattle.writer.proofs.Writing.{fit-go, fit-stop, fit-all}
 use Rattle.writer.proofs.values_fit.Statement.{statement}
 use Rattle.writer.proofs.values_fit.Tie as tie

@@ -8,8 +8,8 @@ use borrow.Author.Needs.{needs}
 use borrow.Author.Tests.{not-true, not-false}
 use Rattle.rules.specs.Lines.{stands, form-of, front-size}
 use Rattle.theory.specs.Lines.{front-small}
-use Rattle.lines.specs.Cases.{of-command}
-use Rattle.lines.proofs.ReadLines.{front-count}
+use Rattle.forms.specs.Cases.{of-command}
+use Rattle.forms.proofs.FormLaws.{front-count}
 use Rattle.writer.proofs.Writing.{front-here, stands-here, front-put, write-unfit, write-full, write-on}
 use Rattle.writer.proofs.write_line.Statement.{statement}
 use Rattle.writer.proofs.write_line.Tie as tie

@@ -4,7 +4,7 @@ use native.Mathlib.Omega.{arith}
 use borrow.Author.Needs.{needs}
 use Rattle.rules.specs.Lines.{form-of, form-numbered, front-size}
 use Rattle.theory.specs.Lines.{front-small}
-use Rattle.lines.specs.Cases.{of-command}
+use Rattle.forms.specs.Cases.{of-command}
 use Rattle.lines.proofs.Places.{placed-broken, placed-behind, placed-bare}
 use Rattle.lines.proofs.part.payload_place.Statement.{statement}
 use Rattle.lines.proofs.part.payload_place.Tie as tie

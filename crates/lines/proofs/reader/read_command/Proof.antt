@@ -10,8 +10,9 @@ use borrow.Author.Tests.{not-true, not-false}
 use Rattle.rules.specs.Limits.{short-digits}
 use Rattle.rules.specs.Lines.{count-digits, numbers-at}
 use Rattle.theory.specs.Broken.{unended}
-use Rattle.lines.specs.Forms.{widths-in}
-use Rattle.lines.proofs.ReadLines.{Begun, spelt-number, spelt-nothing, short, foul, begun, front-count, too-few, unfit-payload, read-good}
+use Rattle.forms.specs.Forms.{widths-in}
+use Rattle.forms.proofs.FormLaws.{front-count}
+use Rattle.lines.proofs.ReadLines.{Begun, spelt-number, spelt-nothing, short, foul, begun, too-few, unfit-payload, read-good}
 use Rattle.lines.proofs.Collecting.{command-same}
 use Rattle.lines.proofs.reader.read_command.Statement.{statement}
 use Rattle.lines.proofs.reader.read_command.Tie as tie

@@ -5,7 +5,7 @@ use Prim.Native.Nat.{_+_, _-_, _≤_, _<_}
 use native.Mathlib.Omega.{arith}
 use lib.ListN.{length, getD, take, drop}
 use borrow.Author.Needs.{needs}
-use Rattle.lines.specs.Forms.{most-numbers, widths-in}
+use Rattle.forms.specs.Forms.{most-numbers, widths-in}
 use Rattle.lines.proofs.ReadLines.{spelt-number, spelt-nothing}
 use Rattle.lines.proofs.Collecting.{length-widths, width-in, part-long, part-short, next-within}
 use Rattle.lines.proofs.Collecting.{Collected, collected-none, collected-foul, collected-more, collected-all}

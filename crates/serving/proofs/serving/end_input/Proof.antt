@@ -2,7 +2,7 @@
 use Rattle.rules.specs.Calls.{refused}
 use Rattle.rules.specs.Lines.{reply-text}
 use Rattle.serving.proofs.OneRead.{ending-none, ending-refused}
-use Rattle.turns.proofs.Said.{said-by}
+use Rattle.replying.proofs.Replying.{said-by}
 use borrow.Author.Needs.{needs}
 use Rattle.serving.proofs.serving.end_input.Statement.{statement}
 use Rattle.serving.proofs.serving.end_input.Tie as tie

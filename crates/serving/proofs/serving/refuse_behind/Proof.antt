@@ -2,7 +2,7 @@
 use native.Mathlib.Omega.{arith}
 use Rattle.rules.specs.Calls.{refused}
 use Rattle.rules.specs.Lines.{reply-text}
-use Rattle.turns.proofs.Said.{said-by}
+use Rattle.replying.proofs.Replying.{said-by}
 use Rattle.answering.proofs.Put.{put-line, reply-within}
 use Rattle.serving.proofs.OneRead.{behind}
 use borrow.Author.Needs.{needs}

@@ -1,0 +1,2 @@
+pub mod Head
+pub mod Numbers

@@ -1,0 +1,2 @@
+pub mod Best
+pub mod Look

@@ -5,7 +5,7 @@ ghost use mathlib.Core.Bool.{cond};
 ghost use Prim.Native.Nat.{suc, _≤_, _<_};
 ghost use lib.Dec.{leb};
 ghost use lib.ListN.{length};
-ghost use Rattle.rules.specs.Conditions.{row-at, due-in};
+ghost use Rattle.rules.specs.Conditions.{row-at};
 ghost use Rattle.rules.specs.Table.{table-refusal};
 ghost use Rattle.head.specs.Head.{Head-of};
 ghost use Rattle.closing.specs.Close.{Due-now, Due-beside, gone-ticket, Next-due, Search, Next-leaving, Left-behind, Closed-rows, closed-up};

@@ -1,18 +1,18 @@
 -- The first of the plan's rows, by their places in due order.
-use mathlib.Core.Path.{_≡_, refl, sym, ap, _∙_, subst}
+use mathlib.Core.Path.{_≡_, sym, ap, _∙_, subst}
 use mathlib.Core.Logic.{_⊎_, inl, inr}
 use mathlib.Core.List.{List}
-use Prim.Native.Nat.{ℕ, suc, _+_, _-_, _≤_, _<_, min}
+use Prim.Native.Nat.{ℕ, _+_, _-_, _≤_, _<_, min}
 use native.Mathlib.Omega.{arith}
 use lib.ListN.{length, getD}
-use Rattle.rules.specs.Rows.{Row, Round, In}
+use Rattle.rules.specs.Rows.{Row, Round}
 use Rattle.theory.specs.Tests.{eqb?, leb?, ltb?}
 use Rattle.theory.specs.Order.{Not-before, heavier-no}
 use Rattle.theory.specs.Flags.{with-flag}
 use Rattle.theory.specs.Near.{near-edge}
 use Rattle.theory.specs.Picks.{with-due}
 use Rattle.round.specs.Rows.{at}
-use Rattle.keys.specs.Key.{due-of, row-of, key-at}
+use Rattle.keys.specs.Key.{due-of, row-of}
 use Rattle.keys.specs.KeyLaws.{greater-key}
 use Rattle.keys.specs.Sorted.{many-due, placed}
 use Rattle.keys.specs.DueOrder.{placed-row, placed-rises}

@@ -1,12 +1,12 @@
 -- A line's numbers read one behind the other, as a loop does it.
 use mathlib.Core.Path.{_≡_, refl, sym, ap, _∙_}
 use mathlib.Core.Logic.{inl, inr}
-use mathlib.Core.Bool.{true, false, true≢false, false≢true}
+use mathlib.Core.Bool.{true, false, false≢true}
 use mathlib.Core.List.{List, [], _∷_}
 use Prim.Native.Nat.{ℕ, zero, suc, _+_, _-_, _≤_, _<_}
 use native.Mathlib.Omega.{arith}
 use native.Mathlib.Numerals.{add-one}
-use lib.ListN.{length, getD, set, take, drop, replicate, length-set, length-take, length-replicate, length-drop, getD-replicate}
+use lib.ListN.{length, getD, set, take, drop, replicate, length-set, length-replicate, length-drop}
 use lib.Seq.{length-take-le, take-all, take-add, getD-take, getD-set-same, getD-set-other, drop-drop}
 use Rattle.rules.specs.Limits.{short-digits}
 use Rattle.rules.specs.Lines.{number-from, all-digits, count-digits, number-at, numbers-at, command-of}
@@ -16,7 +16,6 @@ use Rattle.theory.specs.Numerals.{length-numbers, count-more, count-least, numb
 use Rattle.forms.specs.declared.Form.{Form}
 use Rattle.lines.specs.declared.reader.Numbers.{Numbers}
 use Rattle.forms.specs.Forms.{most-numbers, widths-in, Small}
-use Rattle.lines.specs.Numbers.{Collects}
 use Rattle.lines.proofs.ReadLines.{Says, part-of}
 
 -- the first i numbers are read: clean, their values in the array, 0 past them

@@ -1,13 +1,13 @@
 -- The payload's place in its line.
 use mathlib.Core.Path.{_≡_, sym, ap, _∙_}
 use mathlib.Core.List.{List}
-use Prim.Native.Nat.{ℕ, suc, _+_, _-_, _≤_, _<_}
+use Prim.Native.Nat.{ℕ, _+_, _-_, _≤_, _<_}
 use native.Mathlib.Omega.{arith}
 use lib.ListN.{length, take, drop, length-drop}
 use lib.Seq.{length-take-le}
 use denote.Ref.{RefT}
 use Rattle.rules.specs.Lines as rules
-use Rattle.rules.specs.Lines.{form-of, front-size, command, read, payload-place, payload}
+use Rattle.rules.specs.Lines.{form-of, front-size, read, payload-place, payload}
 use Rattle.theory.specs.Reader.{payload-behind, payload-bare, payload-broken, place-within}
 use Rattle.forms.specs.declared.Command.{Command}
 use Rattle.forms.specs.declared.Reading.{Reading}

@@ -1,17 +1,15 @@
 -- What is lent and seen before a plan is asked for.
-use mathlib.Core.Path.{_≡_, refl, sym, ap, _∙_}
+use mathlib.Core.Path.{_≡_, sym, ap, _∙_}
 use mathlib.Core.Bool.{Bool, true}
 use mathlib.Core.List.{List, _∷_}
-use Prim.Native.Nat.{ℕ, zero, suc, _+_, _*_, _-_, _≤_, _<_}
+use Prim.Native.Nat.{ℕ, _+_, _*_, _-_, _≤_, _<_}
 use native.Mathlib.Omega.{arith}
 use lib.Dec.{leb}
 use borrow.Author.Tests.{leb-true}
-use lib.ListN.{length, take, replicate, length-replicate}
-use Rattle.rules.specs.Table.{round-in, table-refusal, rows-of}
-use Rattle.theory.specs.Clauses.{length-long}
+use lib.ListN.{take, replicate, length-replicate}
+use Rattle.rules.specs.Table.{round-in, table-refusal}
 use Rattle.sorts.specs.declared.Round.{Round as Head}
 use Rattle.head.specs.Head.{Head-of}
-use Rattle.round.specs.Judge.{Scan-asks}
 use Rattle.round.specs.Rows.{Ready, at}
 use Rattle.round.specs.Buckets.{Counted}
 use Rattle.round.proofs.ReadLaws.{known}

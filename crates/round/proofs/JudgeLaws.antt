@@ -6,7 +6,7 @@ use Prim.Native.Nat.{ℕ, _+_, _-_, _/_, _%_, _≤_, _<_}
 use native.Mathlib.Omega.{arith}
 use lib.Dec.{leb, eqb}
 use borrow.Author.Tests.{leb-true, eqb-true}
-use lib.ListN.{length, drop, replicate, length-replicate}
+use lib.ListN.{length, drop}
 use Rattle.rules.specs.Limits.{head-size, row-size, most-rows}
 use Rattle.rules.specs.Table.{every, head-tail-in, head-tests, length-good, rows-of, table-refusal}
 use Rattle.rules.specs.Conditions.{Bytes, slot-in, last-in, next-in, used-in, row-at}
@@ -19,7 +19,7 @@ use Rattle.sorts.specs.declared.Round.{Round as Head}
 use Rattle.round.specs.declared.sound.Judged.the-variants.{Sound}
 use Rattle.head.specs.Head.{Head-of}
 use Rattle.round.specs.Scan.{Rows-lent, all-judged, Rows-say}
-use Rattle.round.specs.Judge.{Refuses, Judge-says, Scan-asks, Scan-says}
+use Rattle.round.specs.Judge.{Refuses, Judge-says, Scan-says}
 
 -- a length that is good has a head, and rows behind it
 pub good-long : (n : ℕ) → length-good n ≡ true → (head-size ≤ n) × ((n - head-size) % row-size ≡ 0) × ((n - head-size) / row-size ≤ most-rows)

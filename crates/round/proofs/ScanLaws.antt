@@ -4,9 +4,9 @@ use mathlib.Core.Bool.{Bool, true, false, _&&_, _||_, false≢true}
 use mathlib.Core.List.{List}
 use Prim.Native.Nat.{ℕ, zero, suc, _+_, _-_, _%_, _≤_, _<_, min}
 use native.Mathlib.Omega.{arith}
-use native.Mathlib.Numerals.{unary-clauses, add-one}
+use native.Mathlib.Numerals.{unary-clauses}
 use lib.Dec.{ltb, leb, eqb}
-use borrow.Author.Tests.{lt-ltb, lt-leb, ne-eqb, leb-true}
+use borrow.Author.Tests.{lt-ltb, lt-leb, leb-true}
 use lib.ListN.{length, getD, set, take, drop, length-take, length-drop}
 use lib.Seq.{drop-drop}
 use Rattle.rules.specs.Limits.{row-size, most-weight, most-class, ticket-at, due-at, wide-bytes, slot-bytes}

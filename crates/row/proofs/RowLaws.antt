@@ -15,7 +15,7 @@ use Rattle.rules.specs.Limits.{row-size, most-last, most-weight, most-class}
 use Rattle.rules.specs.Rows.{row}
 use Rattle.rules.specs.Table.{field, every}
 use Rattle.rules.specs.Conditions.{Bytes}
-use Rattle.theory.specs.Tests.{ltb?, leb?, eqb?}
+use Rattle.theory.specs.Tests.{ltb?, leb?}
 use Rattle.theory.specs.Judge.{zeros, row-judged}
 use Rattle.theory.specs.Fields.{zeros-at}
 use Rattle.numbers.proofs.NumberLaws.{field-suc, field1}

@@ -9,7 +9,7 @@ use lib.Dec.{ltb}
 use lib.ListN.{length, getD, set, take, drop, length-append, length-set, take-append-drop, drop-of-length-le}
 use lib.Seq.{length-take-le, take-all, take-length, paste, paste-zero, paste-suc}
 use Rattle.rules.specs.Limits.{short-digits}
-use Rattle.rules.specs.Lines.{digits, all-digits, count-digits, numerals, fit-digits, form-numbered, form-of, front-size, payload-fits}
+use Rattle.rules.specs.Lines.{digits, count-digits, numerals, fit-digits, form-numbered, form-of, front-size}
 use Rattle.rules.specs.Lines.{line-number, values-of, front, stands, line-end}
 use Rattle.rules.specs.Lines as rules
 use Rattle.theory.specs.Digits.{length-digits}

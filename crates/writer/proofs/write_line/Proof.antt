@@ -1,5 +1,5 @@
 -- `writer::write_line` meets its contract: the refusals in their order; then front, payload and 0A.
-use mathlib.Core.Bool.{true, false}
+use mathlib.Core.Bool.{true}
 use mathlib.Core.Path.{_≡_, refl, sym, _∙_}
 use Prim.Native.Nat.{_≤_}
 use native.Mathlib.Omega.{arith}

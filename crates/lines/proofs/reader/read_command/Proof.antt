@@ -1,5 +1,4 @@
 -- `lines::read_command` meets its contract: each way out is a way in which a line is broken, or the command of its numbers.
-use mathlib.Core.Bool.{true}
 use mathlib.Core.Path.{_≡_, refl, sym, _∙_}
 use Prim.Native.Nat.{ℕ, _+_, _-_, _≤_, _<_}
 use native.Mathlib.Omega.{arith}

@@ -21,12 +21,16 @@ Fit (n ∷ ns) (v ∷ vs) = (v < 256 ^ n) × Fit ns vs
 pub length_put : (ns vs : List ℕ) → Fit ns vs → length (put ns vs) ≡ size ns
 unfolding put
 length_put [] [] f = refl
+length_put [] (v ∷ vs) f = elim f [ ]
+length_put (n ∷ ns) [] f = elim f [ ]
 length_put (n ∷ ns) (v ∷ vs) f = omega (arith, length-append (low n v) (put ns vs), length_low n v, length_put ns vs f.1)
 
 -- WHAT WAS PUT is got
 pub got_put : (ns vs : List ℕ) (a : ℕ) (bs zs : List ℕ) → Fit ns vs → drop a bs ≡ put ns vs ++ zs → got a ns bs ≡ vs
 unfolding got put field
 got_put [] [] a bs zs f e = refl
+got_put [] (v ∷ vs) a bs zs f e = elim f [ ]
+got_put (n ∷ ns) [] a bs zs f e = elim f [ ]
 got_put (n ∷ ns) (v ∷ vs) a bs zs f e =
     let d : drop a bs ≡ low n v ++ (put ns vs ++ zs) = e ∙ append_assoc (low n v) (put ns vs) zs in
     let h : take n (drop a bs) ≡ low n v = ap (take n) d ∙ take_at (low n v) (put ns vs ++ zs) n (length_low n v) in

@@ -1,6 +1,6 @@
 -- Tight slots, segments and marks; no mark sinks where the rows after fill as far: next, start, box, mark_above, marked, mark_stays.
 use Rattle.std.specs.Prelude.{◌≡◌, refl, ◌⊎◌, true, false, List, [], ◌∷◌, ℕ, zero, suc, ◌+◌, ◌-◌, ◌≤◌, ◌<◌, min}
-use Rattle.std.proofs.Common.{inl, inr, arith}
+use Rattle.std.proofs.Common.{inl, inr, sym, subst, arith}
 use Rattle.rules.specs.Rows.{Row, Round, All, In}
 use Rattle.rules.specs.Plan.{due_by, plan, tight, tight_from, tight_after, segment_from, segment_start, least_weight, mark_in, mark}
 use Rattle.theory.specs.Tests.{leb?, ltb?, eqb?}
@@ -108,9 +108,12 @@ pub least_all : (s : ℕ) (xs : List Row) (b : ℕ) → All (λ x. x.due ≤ s �
 unfolding least_weight
 least_all s [] b = tt
 least_all s (x ∷ xs) b =
+    let below : (w : ℕ) → (least_weight s (x ∷ xs) b ≡ w) → All (λ y. y.due ≤ s → w ≤ y.weight) (x ∷ xs)
+        → All (λ y. y.due ≤ s → least_weight s (x ∷ xs) b ≤ y.weight) (x ∷ xs) =
+        λ w e. subst (λ v. All (λ y. y.due ≤ s → v ≤ y.weight) (x ∷ xs)) (sym e) in
     elim (leb? x.due s) [
-      | inl k ↦ rw k.0 (λ _. omega (arith, least_below s xs (min b x.weight)), least_all s xs (min b x.weight))
-      | inr k ↦ rw k.0 (λ i. absurd (omega arith), least_all s xs b)
+      | inl k ↦ below (least_weight s xs (min b x.weight)) (rw k.0 refl) (λ _. omega (arith, least_below s xs (min b x.weight)), least_all s xs (min b x.weight))
+      | inr k ↦ below (least_weight s xs b) (rw k.0 refl) (λ i. absurd (omega arith), least_all s xs b)
     ]
 
 pub least_found : (s : ℕ) (xs : List Row) (b : ℕ) →

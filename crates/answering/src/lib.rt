@@ -9,7 +9,7 @@ use replying::write_refusal_in_room;
 use turns::take_turn_in_room;
 
 // How far the lines of a buffer are answered: the bytes read, the bytes of replies, and whether refusal 1 was among them.
-#[derive(Drop)]
+#[derive(Clone, Copy)]
 pub struct Progress {
     pub read: usize,
     pub wrote: usize,

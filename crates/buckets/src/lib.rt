@@ -8,7 +8,7 @@ use round::read::top_of;
 use sorts::Round;
 
 // Every slot before `free` ahead is taken by the plan; `over` rows are left out.
-#[derive(Drop)]
+#[derive(Clone, Copy)]
 pub struct Reach {
     pub free: usize,
     pub over: usize,
@@ -42,7 +42,7 @@ fn turn(most: u32, a: u32, b: u32, c: u32, d: u32) -> u32
 }
 
 // The first s buckets: 2,048 for each row in them, and their greatest level, kept above 0 by what they all took.
-#[derive(Drop)]
+#[derive(Clone, Copy)]
 struct Walk {
     s: usize,
     sum: u32,

@@ -14,7 +14,7 @@ pub const WIDE_DIGITS: usize = 8;
 pub const LINE_END: u8 = 10;
 
 // What bytes spell: a number, or nothing where one is no digit.
-#[derive(Drop)]
+#[derive(Clone, Copy)]
 pub enum Spelt {
     Number(u32),
     Nothing,

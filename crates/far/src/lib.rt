@@ -27,7 +27,7 @@ fn bucket_of(due: u32, slot: u32, top: usize) -> usize
 }
 
 // Buckets 0 to top: slots from low on; bucket mid is the slot where the row is due.
-#[derive(Drop)]
+#[derive(Clone, Copy)]
 pub struct Window {
     pub low: u32,
     pub mid: usize,

@@ -10,7 +10,7 @@ use round::read::{class_at, due_at, weight_at};
 use sorts::{Class, Round, Slot, Weight};
 
 // The first of the rows so far, by its due slot and its key.
-#[derive(Drop)]
+#[derive(Clone, Copy)]
 struct First {
     due: u32,
     key: u64,

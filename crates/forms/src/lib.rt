@@ -8,7 +8,7 @@ use digits::{SHORT_DIGITS, SLOT_DIGITS, WIDE_DIGITS};
 use sorts::{Class, Slot, Weight};
 
 // A command, one for each line number.
-#[derive(Drop)]
+#[derive(Clone, Copy)]
 pub enum Command {
     Open(Slot),
     Take(Slot, Weight),
@@ -18,7 +18,7 @@ pub enum Command {
 }
 
 // What a line is read as: a command, or refusal 1.
-#[derive(Drop)]
+#[derive(Clone, Copy)]
 pub enum Reading {
     Is(Command),
     Broken,
@@ -28,7 +28,7 @@ pub enum Reading {
 pub const MOST_NUMBERS: usize = 3;
 
 // How many numbers a line has, the digits of each, the digits before the payload, and whether a payload may follow.
-#[derive(Drop)]
+#[derive(Clone, Copy)]
 pub struct Form {
     pub count: usize,
     pub widths: [usize; MOST_NUMBERS],

@@ -8,7 +8,7 @@ use keys::weight_of;
 use sorts::{Slot, Weight};
 
 // How many segments there are, and of the one whose top goes before all others': score, top, number, and its substitute (BLANK for none).
-#[derive(Drop)]
+#[derive(Clone, Copy)]
 pub struct Lead {
     pub count: usize,
     pub score: u64,

@@ -1,4 +1,6 @@
 // Limits: whether a table may have its length, and a head its numbers.
+#![tactic(auto)]
+
 ghost use Rattle.std.specs.Prelude.{◌≡◌};
 ghost use Rattle.rules.specs.Table.{length_good, head_tail_tests, head_tests, every};
 ghost use Rattle.sorts.specs.Tail.{tail_of};

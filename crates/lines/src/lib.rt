@@ -8,14 +8,14 @@ pub use part::{payload, payload_place};
 pub use reader::read_command;
 
 // Where the payload stands in its line.
-#[derive(Drop)]
+#[derive(Clone, Copy)]
 pub struct Place {
     pub start: usize,
     pub end: usize,
 }
 
 // Where a line ends.
-#[derive(Drop)]
+#[derive(Clone, Copy)]
 pub enum LineEnd {
     At(usize),
     Nowhere,

@@ -45,7 +45,7 @@ pub fn read_command(line: &[u8]) -> Reading
 }
 
 // A line's numbers behind its own, unless a byte of theirs is no digit.
-#[derive(Drop)]
+#[derive(Clone, Copy)]
 pub struct Numbers {
     pub good: bool,
     pub at: [u32; MOST_NUMBERS],

@@ -15,20 +15,20 @@ use row::entry::numbers_at;
 use sorts::{Round, Slot, Ticket, Weight};
 
 // What is listed.
-#[derive(Drop)]
+#[derive(Clone, Copy)]
 pub enum View {
     Plan,
 }
 
 // A row, as it is listed.
-#[derive(Drop)]
+#[derive(Clone, Copy)]
 pub struct Entry {
     pub ticket: Ticket,
     pub due: Slot,
     pub weight: Weight,
 }
 
-#[derive(Drop)]
+#[derive(Clone, Copy)]
 pub enum Listed {
     Count(usize),
     Refused(u32),

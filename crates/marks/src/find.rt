@@ -5,7 +5,7 @@ ghost use Rattle.marks.specs.Near.{FindsSay};
 use keys::{due_of, larger, row_of};
 
 // Its first slot, and the key of the lightest of the plan's rows due by its end.
-#[derive(Drop)]
+#[derive(Clone, Copy)]
 pub struct Found {
     pub first: u32,
     pub low: u64,

@@ -66,6 +66,23 @@ unpacks (acting sending) (step (leap o)) (leap_fits f) = leap_back o f
 unpacks (acting sealing) closed sealing_fits = unpack_accepted (acting sealing) 0 (omega arith)
 unpacks (asking (marking s)) (amount n) (mark_fits h) = unpack_accepted (asking (marking s)) (256 * n) (omega arith) ∙ ap amount (omega arith)
 unpacks (asking totalling) (amount n) (total_fits h) = unpack_accepted (asking totalling) (256 * n) (omega arith) ∙ ap amount (omega arith)
+unpacks (acting _) done x3 = elim x3 [ ]
+unpacks (asking _) done x4 = elim x4 [ ]
+unpacks (opening u) closed x3 = elim x3 [ ]
+unpacks (acting (taking f)) closed x6 = elim x6 [ ]
+unpacks (acting sending) closed x7 = elim x7 [ ]
+unpacks (asking _) closed x6 = elim x6 [ ]
+unpacks (opening u) (ticket k) x4 = elim x4 [ ]
+unpacks (acting sending) (ticket k) x7 = elim x7 [ ]
+unpacks (acting sealing) (ticket k) x8 = elim x8 [ ]
+unpacks (asking _) (ticket k) x7 = elim x7 [ ]
+unpacks (opening u) (step _) x7 = elim x7 [ ]
+unpacks (acting (taking f)) (step _) x11 = elim x11 [ ]
+unpacks (acting sealing) (step _) x12 = elim x12 [ ]
+unpacks (asking _) (step _) x10 = elim x10 [ ]
+unpacks (opening u) (amount n) x6 = elim x6 [ ]
+unpacks (acting _) (amount n) x8 = elim x8 [ ]
+unpacks c (blank_due slot) x6 = elim x6 [ ]
 
 -- a substitute: a ticket, or a blank with its due slot
 row_back : (n k : ℕ) → n ≡ value_place * k → 1 ≤ k → k < 16777216 → unpack_substitute n ≡ ticket k
@@ -85,3 +102,7 @@ unfolding unpack_substitute pack
 substitute_unpacks (refused n) (refusal_stands h k) = rw (ne_eqb (n % 256) 0 (λ z. omega (arith, z)))
 substitute_unpacks (ticket k) (row_stands h i) = row_back (pack (ticket k)) k (omega arith) h i
 substitute_unpacks (blank_due s) (blank_stands h) = blank_back (pack (blank_due s)) s (omega arith)
+substitute_unpacks done x' = elim x' [ ]
+substitute_unpacks closed x'' = elim x'' [ ]
+substitute_unpacks (step _) x4 = elim x4 [ ]
+substitute_unpacks (amount _) x5 = elim x5 [ ]

@@ -1,4 +1,6 @@
 // Each call's reply packed into one number, by the rule of docs/REPLIES.md.
+#![tactic(auto)]
+
 ghost use Rattle.std.specs.Prelude.{◌≡◌, ◌+◌, ◌*◌, ◌≤◌};
 ghost use Rattle.rules.specs.Calls.{step};
 ghost use Rattle.replies.specs.Replies.{of_opened, of_taken, of_out, of_step, of_sent, of_sealed, of_marked, of_totalled, of_substituted};

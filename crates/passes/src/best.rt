@@ -3,7 +3,7 @@ ghost use Rattle.std.specs.Prelude.{◌≡◌, min};
 ghost use Rattle.passes.specs.Best.{Sees};
 
 // The heaviest row so far; it weighs nothing before there is one.
-#[derive(Drop)]
+#[derive(Clone, Copy)]
 pub struct Best {
     pub weight: u32,
     pub rank: u32,

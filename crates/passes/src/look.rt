@@ -41,7 +41,7 @@ pub fn heaviest(table: &[u8], round: Round) -> Best
 }
 
 // The heaviest row and the least weight due by the first segment's end, and the least weight due by another's.
-#[derive(Drop)]
+#[derive(Clone, Copy)]
 pub struct Found {
     pub first: Best,
     pub lightest: u32,

@@ -8,7 +8,7 @@ use queue::{sort, starts};
 use sorts::Round;
 
 // How many near rows there are, the key of the heaviest other one where it is asked for, and the weight of all rows left out.
-#[derive(Drop)]
+#[derive(Clone, Copy)]
 pub struct Planned {
     pub many: usize,
     pub far: u64,

@@ -9,7 +9,7 @@ use sorts::Round;
 use zeros::zeros_from;
 
 // A sound table's head as a value, or the number of the refusal: 2 or 3.
-#[derive(Drop)]
+#[derive(Clone, Copy)]
 pub enum Judged {
     Sound(Round),
     Refused(u32),

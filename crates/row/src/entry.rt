@@ -44,7 +44,7 @@ pub fn class_in(table: &[u8], row: usize) -> u32
     read1(table, row_at(row) + Round::CLASS_AT)
 }
 
-#[derive(Drop)]
+#[derive(Clone, Copy)]
 pub struct Numbers {
     pub ticket: Ticket,
     pub due: Slot,

@@ -5,7 +5,7 @@ ghost use Rattle.rules.specs.Limits.{most_weight, most_class};
 use sorts::{Round, Ticket};
 
 // The last row's ticket and how far ahead it is due; or-ed together, all weights less 1, and all words that hold kind, class and zeros.
-#[derive(Drop)]
+#[derive(Clone, Copy)]
 pub struct Seen {
     pub ticket: Ticket,
     pub ahead: u32,

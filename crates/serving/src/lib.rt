@@ -7,7 +7,7 @@ mod serving; // serving.rt: one read
 pub use serving::serve_in_room;
 
 // After one read: the bytes to write, the bytes held at the input's front, and whether nothing more is to be read.
-#[derive(Drop)]
+#[derive(Clone, Copy)]
 pub struct Served {
     pub wrote: usize,
     pub held: usize,

@@ -1,22 +1,24 @@
 // The four sorts of count, and a round's head as a value, with the limits and byte places.
+#![tactic(auto)]
+
 ghost use Rattle.std.specs.Prelude.{◌≡◌, ◌+◌, ◌<◌};
 ghost use Rattle.rules.specs.Limits.{ticket_limit};
 
 // Four sorts of count, so that none can stand in another's place.
-#[derive(Drop)]
+#[derive(Clone, Copy)]
 pub struct Slot(pub u32);
 
-#[derive(Drop)]
+#[derive(Clone, Copy)]
 pub struct Weight(pub u32);
 
-#[derive(Drop)]
+#[derive(Clone, Copy)]
 pub struct Ticket(pub u32);
 
-#[derive(Drop)]
+#[derive(Clone, Copy)]
 pub struct Class(pub u32);
 
 // The head, with the rows that the table has room for.
-#[derive(Drop)]
+#[derive(Clone, Copy)]
 pub struct Round {
     pub slot: Slot,
     pub last: Slot,

@@ -2,7 +2,7 @@
 use sorts::Slot;
 
 // A row by its index, or the blank due at a slot.
-#[derive(Drop)]
+#[derive(Clone, Copy)]
 pub enum Sub {
     Row(usize),
     Blank(Slot),

@@ -6,7 +6,7 @@ ghost use Rattle.substituting.specs.Finding.{Parts, Finds};
 use round::read::ticket_at;
 use sorts::{Round, Ticket};
 
-#[derive(Drop)]
+#[derive(Clone, Copy)]
 pub enum Found {
     At(usize),
     Nowhere,

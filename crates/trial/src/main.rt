@@ -13,7 +13,7 @@ mod writing; // writing.rt: the line writer
 mod reading; // reading.rt: the command, and the payload with its place
 
 // A request's head: the kind, the size of what follows, the room lent, and for the writer a command with its numbers.
-#[derive(Drop)]
+#[derive(Clone, Copy)]
 pub struct Request {
     pub kind: u32,
     pub size: usize,

@@ -12,7 +12,7 @@ use row::write::write_kept;
 use sorts::{Round, Slot, Ticket, Weight};
 
 // What went out: a row's ticket and kind; ticket 0 is silence.
-#[derive(Drop)]
+#[derive(Clone, Copy)]
 pub struct Went {
     pub leap: bool,
     pub ticket: Ticket,

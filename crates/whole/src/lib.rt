@@ -11,7 +11,7 @@ use passes::look::{Found, heaviest, look};
 use sorts::{Round, Slot, Weight};
 
 // The row that goes, and how.
-#[derive(Drop)]
+#[derive(Clone, Copy)]
 pub enum Whole {
     // Ordinary: it is in the first segment.
     First {

@@ -11,7 +11,7 @@ use digits::{LINE_END, SHORT_DIGITS, digits_only, fits, payload_fits, put_number
 use forms::{Command, Form, MOST_NUMBERS, form_of, line_number, values_of};
 
 // What the writer answers: the line's length with its 0A, or a refusal's number.
-#[derive(Drop)]
+#[derive(Clone, Copy)]
 pub enum Written {
     Length(usize),
     Refused(u32),

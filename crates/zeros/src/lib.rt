@@ -1,4 +1,6 @@
 // Bytes that are zero: checked, and written.
+#![tactic(auto)]
+
 ghost use Rattle.std.specs.Prelude.{◌≡◌, ◌++◌, ◌+◌, ◌*◌, ◌-◌, ◌%◌, ◌≤◌, length, take, drop, replicate};
 ghost use Rattle.rules.specs.Limits.{row_size};
 ghost use Rattle.rules.specs.Conditions.{◌⟺◌};

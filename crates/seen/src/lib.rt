@@ -1,4 +1,6 @@
 // What the rows so far have shown, and what is asked of it: tests of numbers alone.
+#![tactic(auto)]
+
 ghost use Rattle.std.specs.Prelude.{◌&&◌, ◌||◌, ◌≡◌, ◌%◌, ltb, leb, eqb};
 ghost use Rattle.rules.specs.Limits.{most_weight, most_class};
 

@@ -32,6 +32,8 @@ def are_the_gates(crates):
 def built():
     """Whether the archive is built over the libraries of `rt ci`."""
     rtlib = kit()
+    # Its first call sets a signal's handler, which only the main thread may.
+    rtlib.guarded()
     crate = rtlib.Crate(str(FOLDER), str(TOP), {})
     if not are_the_gates(crate.below()):
         return False

@@ -14,9 +14,10 @@ DOC = TOP / "docs" / "EDITS.md"
 INTRODUCTION = """# Wrong programs, and that each is refused
 
 An edit, crates/CRATE/must-fail/NAME.edit, makes the program or a definition wrong in one place: it names a file of its crate, a text that
-stands there once, and the text instead. To try one by hand, make that change, run `rt dev CRATE`, and undo it; `rt must-fail CRATE` tries
-all edits of a crate, each on a copy. An edit is *refused for a fact* when the prover meets a goal that holds no more, or two values that
-differ; `./test` tries every edit and fails where one was refused only because a proof no longer fits the text (tests/must_fail_logs.py).
+stands there once, and the text instead. To try one by hand, make that change, run `rt check` in the crate's folder, and undo it;
+`rt must-fail CRATE` tries all edits of a crate, each on a copy. An edit is *refused for a fact* when the prover meets a goal that holds no
+more, or two values that differ; `./test` tries every edit and fails where one is bad, or was refused only because a proof no longer fits the
+text, as far as `rt` tells (tests/must_fail_logs.py).
 
 This page is written by tests/edits.py from the first lines of the edits.
 """

@@ -1,4 +1,6 @@
 // How far rows fill every slot, by their counts alone.
+#![tactic(auto)]
+
 ghost use Rattle.std.specs.Prelude.{◌≡◌, ◌+◌, ◌≤◌, max};
 ghost use Rattle.buckets.specs.Reach.{Levels, Multiples, ReachSays, head_top, passed};
 

@@ -1,4 +1,6 @@
 // Each call's refusals on a sound table: the number of the first whose test holds, 0 where none does.
+#![tactic(auto)]
+
 ghost use Rattle.std.specs.Prelude.{◌≡◌, ◌||◌, ltb, leb};
 ghost use Rattle.rules.specs.Rows.{framed, until};
 ghost use Rattle.rules.specs.Calls.{first_of, open_tests, take_tests, send_tests, mark_tests};

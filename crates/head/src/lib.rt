@@ -1,4 +1,6 @@
 // The head of a table: its numbers read, judged and written.
+#![tactic(auto)]
+
 ghost use Rattle.std.specs.Prelude.{◌≡◌, ◌++◌, ◌≤◌, length, drop};
 ghost use Rattle.rules.specs.Limits.{head_size, most_rows, head_zeros_at};
 ghost use Rattle.rules.specs.Table.{rows_of};

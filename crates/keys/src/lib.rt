@@ -1,4 +1,6 @@
 // One number for a row, by which rows are compared, and the laws of that number: the only place that knows how a key is made.
+#![tactic(auto)]
+
 ghost use Rattle.std.specs.Prelude.{◌≡◌, ◌*◌, ◌≤◌, ◌<◌, max, min};
 ghost use Rattle.keys.specs.Key.{key, rank, slot_of, ranked, weight_of, lack_of, due_of, row_of, blank_key, MayLack, Lacks};
 

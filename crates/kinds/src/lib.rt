@@ -1,4 +1,6 @@
 // What is asked once, of all used rows: their bounds and kinds. The kinds take a pass of their own, only where a blank is kept.
+#![tactic(auto)]
+
 ghost use Rattle.std.specs.Prelude.{◌≡◌, ◌≤◌, length};
 ghost use Rattle.rules.specs.Limits.{most_rows};
 ghost use Rattle.rules.specs.Conditions.{row_at};

@@ -1,4 +1,6 @@
 // The segment whose top goes first: scores, one segment closed, and where one ends.
+#![tactic(auto)]
+
 ghost use Rattle.std.specs.Prelude.{◌≡◌, ◌≤◌, ◌<◌, length, set};
 ghost use Rattle.rules.specs.PlanM.{score};
 ghost use Rattle.keys.specs.Key.{weight_of, blank_key};

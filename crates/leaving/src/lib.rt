@@ -1,4 +1,6 @@
 // Who is left out: rows by rising due slot are kept while there is a slot for each, then the lightest of all leaves. Its flag goes.
+#![tactic(auto)]
+
 ghost use Rattle.std.specs.Prelude.{◌≡◌, ◌+◌, ◌-◌, ◌/◌, ◌%◌, ◌≤◌, ◌<◌, length};
 ghost use Rattle.keys.specs.Key.{due_of};
 ghost use Rattle.heap.specs.Heap.{Heap};

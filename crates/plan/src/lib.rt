@@ -1,4 +1,6 @@
 // The plan of a sound table that leaves rows out: the near rows in due order, and a flag for each row of the plan.
+#![tactic(auto)]
+
 ghost use Rattle.rules.specs.Table.{round_in};
 ghost use Rattle.plan.specs.Plans.{Lent, Plans};
 

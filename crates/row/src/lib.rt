@@ -1,4 +1,6 @@
 // A row's bytes: judged, read and written. No other crate knows where in a row its numbers stand.
+#![tactic(auto)]
+
 ghost use Rattle.std.specs.Prelude.{◌≡◌, ◌≤◌};
 ghost use Rattle.rules.specs.Limits.{most_rows};
 ghost use Rattle.rules.specs.Conditions.{row_at};

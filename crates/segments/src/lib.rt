@@ -1,4 +1,6 @@
 // Segments as a value: one backward pass over the near rows' keys in due order finds each segment and the one whose top goes first.
+#![tactic(auto)]
+
 ghost use Rattle.segments.specs.Given.{Lent};
 ghost use Rattle.segments.specs.Segmented.{SegmentsSay};
 

@@ -1,4 +1,6 @@
 // Who stands in for a row of the plan, as a value: another row, or a blank.
+#![tactic(auto)]
+
 use sorts::Slot;
 
 // A row by its index, or the blank due at a slot.

@@ -8,7 +8,7 @@ use borrow.Author.Rules.{rules}
 use Rattle.packing.proofs.pack_totalled.Goals as goal
 
 pub overflow_mul-result : goal.overflow_mul-result
-overflow_mul-result c = let h : c.reply-1.given.0.0 ≤ 17179869184 = subst (λ x. SmallAmount (of_totalled x)) c.in-Of.is
+overflow_mul-result c = let h : _ ≤ 17179869184 = subst (λ x. SmallAmount (of_totalled x)) c.in-Of.is
     c.requires in omega arith
 
 pub returns-in-Of : goal.returns-in-Of

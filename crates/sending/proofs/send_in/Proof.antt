@@ -39,7 +39,7 @@ same-length-2 c = search rules
 
 returns-2 : tie.Need-returns-2
 returns-2 c = (
-  ap step c.step_of_lem.ensures ∙ sym c.before.before.before.before.before.send-sound.ensures.answers,
+  ap step c.step_of.ensures ∙ sym c.before.before.before.before.before.send-sound.ensures.answers,
   c.before.before.before.before.before.send-sound.ensures.leaves,
 )
 

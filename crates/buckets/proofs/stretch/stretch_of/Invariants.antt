@@ -1,0 +1,12 @@
+-- `buckets::stretch::stretch_of` meets its contract: the loop is `On`.
+use Prim.Native.Nat.{◌-◌}
+use borrow.Author.Rules.{rules}
+use native.Mathlib.Omega.{arith}
+use Rattle.buckets.proofs.StretchLaws.{On, full_fits, covered, on_start, on_left, on_covered, on_step, on_end}
+use Rattle.buckets.proofs.stretch.stretch_of.Given as goal
+
+abbrev pub invariant-loop-lack : goal.invariant-loop-lack
+invariant-loop-lack l = On l.counts l.free l.bucket l.lack l.last
+
+abbrev pub decreases-loop-lack : goal.decreases-loop-lack
+decreases-loop-lack l = l.free - l.last

@@ -1,0 +1,13 @@
+-- `checks::marking_refusal` meets its contract: each number where the tests before it do not hold.
+use mathlib.Core.Path.{sym, ◌∙◌}
+use borrow.Author.Rules.{rules}
+use Rattle.checks.proofs.marking_refusal.Goals as goal
+
+pub returns-then-is_over : goal.returns-then-is_over
+returns-then-is_over c = rw (sym c.is_over.ensures ∙ c.if-is_over.true)
+
+pub returns-then-not_ahead : goal.returns-then-not_ahead
+returns-then-not_ahead c = rw (sym c.is_over.ensures ∙ c.if-is_over.false, sym c.not_ahead.ensures ∙ c.if-not_ahead.true)
+
+pub returns : goal.returns
+returns c = rw (sym c.is_over.ensures ∙ c.if-is_over.false, sym c.not_ahead.ensures ∙ c.if-not_ahead.false)

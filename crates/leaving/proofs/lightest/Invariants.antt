@@ -1,0 +1,13 @@
+-- `lightest`: no place before crowds, and the loop has the greatest key so far.
+use Prim.Native.Nat.{◌+◌, ◌-◌}
+use lib.ListN.{length}
+use Rattle.leaving.specs.Sweep.{Greatest}
+use Rattle.leaving.proofs.GoingLaws.{Looking, looking_none, looking_in, looking_from, looking_more, greatest_first, greatest_more, lightest_in, lightest_end}
+use borrow.Author.Rules.{rules}
+use Rattle.leaving.proofs.lightest.Given as goal
+
+abbrev pub invariant-loop-at : goal.invariant-loop-at
+invariant-loop-at l = Looking l.keys l.slot l.at × Greatest l.keys (l.at + 1) l.top
+
+abbrev pub decreases-loop-at : goal.decreases-loop-at
+decreases-loop-at l = length l.keys - l.at

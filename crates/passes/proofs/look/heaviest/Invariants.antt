@@ -1,0 +1,15 @@
+-- `passes::look::heaviest` meets its contract: the loop is `Heaviest`.
+use Prim.Native.Nat.{◌≤◌}
+use borrow.Author.Rules.{rules}
+use native.Mathlib.Omega.{arith}
+use Rattle.rules.specs.Table.{round_in}
+use Rattle.passes.specs.Best.{Heaviest}
+use Rattle.round.proofs.ReadLaws.{known}
+use Rattle.passes.proofs.BestLaws.{best_start, best_lighter, best_sees, best_end}
+use Rattle.passes.proofs.look.heaviest.Given as goal
+
+abbrev pub invariant-loop-i : goal.invariant-loop-i
+invariant-loop-i l = (l.i ≤ l.round.used) × Heaviest (round_in l.table) l.i l.round.last.0 l.best
+
+abbrev pub decreases-loop-i : goal.decreases-loop-i
+decreases-loop-i l = l.i

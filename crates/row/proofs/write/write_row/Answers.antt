@@ -1,0 +1,15 @@
+-- `row::write::write_row` meets its contract: five stores are the row's numbers.
+use Rattle.std.proofs.Common.{arith, rules}
+use Rattle.row.proofs.StoreLaws.{row_stored}
+use Rattle.row.proofs.write.write_row.Goals as goal
+
+pub returns : goal.returns
+returns c =
+    row_stored _ _ _ _ _ _ _ _ _ _ c.args.class.0 _ _
+    c.write4.ensures
+    c.write2.ensures
+    c.write4-2.ensures
+    c.write1.ensures
+    c.write1-2.ensures
+    (omega arith)
+    (omega arith)

@@ -6,7 +6,6 @@
 # sources, and `rt try` compiles them: it proves nothing, and nothing has to be proved before. Last line: 'N passed, M failed'.
 set -u
 cd "$(dirname "$0")/.." || exit 2
-top=$PWD
 room=$(mktemp -d) || exit 2
 trap 'rm -rf "$room"' EXIT
 passed=0 failed=0

@@ -1,4 +1,6 @@
 // A leap's marks and shifts, by segments numbered from the back: 0 is the last, and a larger number is an earlier one.
+#![tactic(auto)]
+
 ghost use Rattle.std.specs.Prelude.{◌≡◌, ◌≤◌, ◌<◌, min, max, length, get_or};
 ghost use Rattle.rules.specs.Table.{round_in};
 ghost use Rattle.keys.specs.Key.{weight_of, blank_key};

@@ -1,4 +1,6 @@
 // The table when its current slot is over: rows due in it leave, and the one that goes; the others close up, and the slot moves on.
+#![tactic(auto)]
+
 ghost use Rattle.std.specs.Prelude.{◌≡◌, ◌≢◌, cond, suc, ◌≤◌, ◌<◌, leb, length};
 ghost use Rattle.rules.specs.Conditions.{row_at};
 ghost use Rattle.rules.specs.Table.{table_refusal};

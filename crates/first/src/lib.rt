@@ -1,4 +1,6 @@
 // The plan's canonical first, which a sealed round sends, where no row is left out: of the rows due earliest the one of the least key.
+#![tactic(auto)]
+
 ghost use Rattle.std.specs.Prelude.{◌≡◌, ◌≤◌, ◌<◌};
 ghost use Rattle.rules.specs.Table.{round_in};
 ghost use Rattle.round.specs.Rows.{Ready, DueAt};

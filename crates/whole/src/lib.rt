@@ -1,4 +1,6 @@
 // Which row goes where no row is left out: a blank stands in for every row past the first segment, so passes over the table tell it.
+#![tactic(auto)]
+
 ghost use Rattle.rules.specs.Table.{round_in};
 ghost use Rattle.whole.specs.Whole.{Given, Past, FirstGoes, Picked};
 

@@ -8,6 +8,7 @@ use lib.ListN.{length}
 use Rattle.segments.proofs.PassLaws.{Passing}
 use Rattle.segments.proofs.TurnLaws.{bounds, passing_first, Goes, read_there, roomy, row_there, goes_on, goes_new, says, kept_further, left_further, some_further}
 use Rattle.segments.proofs.segments_of.Goals as goal
+use Rattle.segments.proofs.segments_of.Goals.{then-ends_here, else-ends_here}
 
 pub overflow_cast-end : goal.overflow_cast-end
 overflow_cast-end c =
@@ -72,14 +73,12 @@ bounds-flags-row_of c =
 
 pub overflow_sub-edge : goal.overflow_sub-edge
 overflow_sub-edge c =
-    let goes : let s = c.args in let v = c.loop-i in let u = c.if-ends_here in Goes s.keys.now s.flags.now s.many s.slot.0 s.free s.ends.now s.tops.now s.lows.now u.ends u.tops u.lows u.lead u.end u.heavy u.light v.out v.edge (v.i - 1) = let p = c.requires in let v = c.loop-i in let u = c.if-ends_here in let d = c.due_of-due in ⊎_elim (λ w. goes_new p v.invariant c.loop-i-test.true d.ensures (cc (c.ends_here.ensures, w.0.taken)) (w.11 ∙ w.4.ensures.1) (cc (w.12, w.4.ensures.2)) (w.13 ∙ w.4.ensures.3) (w.14 ∙ w.4.ensures.0) (omega (arith, w.15)) (omega (arith, w.16)) (omega (arith, w.17))) (λ w. goes_on p v.invariant c.loop-i-test.true d.ensures (cc (c.ends_here.ensures, w.0.left)) w.1 w.2 w.3 w.4 w.5 w.6 w.7) u.branch in
-    let g = goes in
-    let p = c.requires in
-    omega (arith, some_further g refl c.row_of.ensures p c.if-flags-row_of-eq1.true)
+    let goes : let s = c.args in let v = c.loop-i in let u = c.if-ends_here in Goes s.keys.now s.flags.now s.many s.slot.0 s.free s.ends.now s.tops.now s.lows.now u.ends u.tops u.lows u.lead u.end u.heavy u.light v.out v.edge (v.i - 1) = let p = c.requires in let v = c.loop-i in let u = c.if-ends_here in let d = c.due_of-due in elim u.branch [ then-ends_here w ↦ goes_new p v.invariant c.loop-i-test.true d.ensures (cc (c.ends_here.ensures, w.if-ends_here.true)) (w.ends-is ∙ w.close_segment-lead.ensures.1) (cc (w.tops-is, w.close_segment-lead.ensures.2)) (w.lows-is ∙ w.close_segment-lead.ensures.3) (w.lead-is ∙ w.close_segment-lead.ensures.0) (omega (arith, w.end-is)) (omega (arith, w.heavy-is)) (omega (arith, w.light-is)) | else-ends_here w ↦ goes_on p v.invariant c.loop-i-test.true d.ensures (cc (c.ends_here.ensures, w.if-ends_here.false)) w.ends-is w.tops-is w.lows-is w.lead-is w.end-is w.heavy-is w.light-is ] in
+    omega (arith, some_further goes refl c.row_of.ensures c.requires c.if-flags-row_of-eq1.true)
 
 pub loop-i-preserved-then-flags-row_of-eq1 : goal.loop-i-preserved-then-flags-row_of-eq1
 loop-i-preserved-then-flags-row_of-eq1 c =
-    let goes : let s = c.args in let v = c.loop-i in let u = c.if-ends_here in Goes s.keys.now s.flags.now s.many s.slot.0 s.free s.ends.now s.tops.now s.lows.now u.ends u.tops u.lows u.lead u.end u.heavy u.light v.out v.edge (v.i - 1) = let p = c.requires in let v = c.loop-i in let u = c.if-ends_here in let d = c.due_of-due in ⊎_elim (λ w. goes_new p v.invariant c.loop-i-test.true d.ensures (cc (c.ends_here.ensures, w.0.taken)) (w.11 ∙ w.4.ensures.1) (cc (w.12, w.4.ensures.2)) (w.13 ∙ w.4.ensures.3) (w.14 ∙ w.4.ensures.0) (omega (arith, w.15)) (omega (arith, w.16)) (omega (arith, w.17))) (λ w. goes_on p v.invariant c.loop-i-test.true d.ensures (cc (c.ends_here.ensures, w.0.left)) w.1 w.2 w.3 w.4 w.5 w.6 w.7) u.branch in
+    let goes : let s = c.args in let v = c.loop-i in let u = c.if-ends_here in Goes s.keys.now s.flags.now s.many s.slot.0 s.free s.ends.now s.tops.now s.lows.now u.ends u.tops u.lows u.lead u.end u.heavy u.light v.out v.edge (v.i - 1) = let p = c.requires in let v = c.loop-i in let u = c.if-ends_here in let d = c.due_of-due in elim u.branch [ then-ends_here w ↦ goes_new p v.invariant c.loop-i-test.true d.ensures (cc (c.ends_here.ensures, w.if-ends_here.true)) (w.ends-is ∙ w.close_segment-lead.ensures.1) (cc (w.tops-is, w.close_segment-lead.ensures.2)) (w.lows-is ∙ w.close_segment-lead.ensures.3) (w.lead-is ∙ w.close_segment-lead.ensures.0) (omega (arith, w.end-is)) (omega (arith, w.heavy-is)) (omega (arith, w.light-is)) | else-ends_here w ↦ goes_on p v.invariant c.loop-i-test.true d.ensures (cc (c.ends_here.ensures, w.if-ends_here.false)) w.ends-is w.tops-is w.lows-is w.lead-is w.end-is w.heavy-is w.light-is ] in
     let g = goes in (
       kept_further g refl c.row_of.ensures
           c.if-flags-row_of-eq1.true (omega (arith, c.lesser-heavy.ensures)) (omega (arith, c.larger-light.ensures))
@@ -91,7 +90,7 @@ loop-i-preserved-then-flags-row_of-eq1 c =
 
 pub loop-i-preserved : goal.loop-i-preserved
 loop-i-preserved c =
-    let goes : let s = c.args in let v = c.loop-i in let u = c.if-ends_here in Goes s.keys.now s.flags.now s.many s.slot.0 s.free s.ends.now s.tops.now s.lows.now u.ends u.tops u.lows u.lead u.end u.heavy u.light v.out v.edge (v.i - 1) = let p = c.requires in let v = c.loop-i in let u = c.if-ends_here in let d = c.due_of-due in ⊎_elim (λ w. goes_new p v.invariant c.loop-i-test.true d.ensures (cc (c.ends_here.ensures, w.0.taken)) (w.11 ∙ w.4.ensures.1) (cc (w.12, w.4.ensures.2)) (w.13 ∙ w.4.ensures.3) (w.14 ∙ w.4.ensures.0) (omega (arith, w.15)) (omega (arith, w.16)) (omega (arith, w.17))) (λ w. goes_on p v.invariant c.loop-i-test.true d.ensures (cc (c.ends_here.ensures, w.0.left)) w.1 w.2 w.3 w.4 w.5 w.6 w.7) u.branch in
+    let goes : let s = c.args in let v = c.loop-i in let u = c.if-ends_here in Goes s.keys.now s.flags.now s.many s.slot.0 s.free s.ends.now s.tops.now s.lows.now u.ends u.tops u.lows u.lead u.end u.heavy u.light v.out v.edge (v.i - 1) = let p = c.requires in let v = c.loop-i in let u = c.if-ends_here in let d = c.due_of-due in elim u.branch [ then-ends_here w ↦ goes_new p v.invariant c.loop-i-test.true d.ensures (cc (c.ends_here.ensures, w.if-ends_here.true)) (w.ends-is ∙ w.close_segment-lead.ensures.1) (cc (w.tops-is, w.close_segment-lead.ensures.2)) (w.lows-is ∙ w.close_segment-lead.ensures.3) (w.lead-is ∙ w.close_segment-lead.ensures.0) (omega (arith, w.end-is)) (omega (arith, w.heavy-is)) (omega (arith, w.light-is)) | else-ends_here w ↦ goes_on p v.invariant c.loop-i-test.true d.ensures (cc (c.ends_here.ensures, w.if-ends_here.false)) w.ends-is w.tops-is w.lows-is w.lead-is w.end-is w.heavy-is w.light-is ] in
     let g = goes in (
       left_further g refl c.row_of.ensures
           c.if-flags-row_of-eq1.false (omega (arith, c.lesser-out.ensures)),
@@ -114,13 +113,13 @@ close_segment-requires c =
     )
 
 pub shape_of-ends : goal.shape_of-ends
-shape_of-ends c = search (rules, c.close_segment.auto.0, c.loop-i.invariant.1)
+shape_of-ends c = search (rules, c.close_segment.auto.ends, c.loop-i.invariant.1)
 
 pub shape_of-tops : goal.shape_of-tops
-shape_of-tops c = search (rules, c.close_segment.auto.1.0, c.loop-i.invariant.2)
+shape_of-tops c = search (rules, c.close_segment.auto.tops, c.loop-i.invariant.2)
 
 pub shape_of-lows : goal.shape_of-lows
-shape_of-lows c = search (rules, c.close_segment.auto.1.1.0, c.loop-i.invariant.3)
+shape_of-lows c = search (rules, c.close_segment.auto.lows, c.loop-i.invariant.3)
 
 pub returns : goal.returns
 returns c =

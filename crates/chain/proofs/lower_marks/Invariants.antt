@@ -1,0 +1,10 @@
+-- `chain::lower_marks` meets its contract.
+use borrow.Author.Rules.{rules}
+use Rattle.chain.proofs.MarkLaws.{Lowering, lowering_start, lowering_step, lowering_end}
+use Rattle.chain.proofs.lower_marks.Given as goal
+
+abbrev pub invariant-loop-k : goal.invariant-loop-k
+invariant-loop-k l = Lowering l.count l.to l.initial.lows l.lows l.k
+
+abbrev pub decreases-loop-k : goal.decreases-loop-k
+decreases-loop-k l = l.k

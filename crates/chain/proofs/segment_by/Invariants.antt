@@ -1,0 +1,10 @@
+-- `chain::segment_by` meets its contract.
+use borrow.Author.Rules.{rules}
+use Rattle.chain.proofs.MarkLaws.{Walking, walk_start, walk_some, walk_step, walk_end}
+use Rattle.chain.proofs.segment_by.Given as goal
+
+abbrev pub invariant-loop-k : goal.invariant-loop-k
+invariant-loop-k l = Walking l.ends l.own l.slot.0 l.k
+
+abbrev pub decreases-loop-k : goal.decreases-loop-k
+decreases-loop-k l = l.k

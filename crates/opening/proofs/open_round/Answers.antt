@@ -44,7 +44,7 @@ write_head-requires c =
     let good : length_good (length c.args.table.now) ≡ true = sym c.length_is_good.ensures ∙ c.if-not-length_is_good.false in
     let s = c in (
       cleared_fits (until s.args.last.0) s.args.table.now good
-          c.clear.new.0 c.clear.ensures,
+          c.clear.new.table c.clear.ensures,
       omega (arith, c.new-round.ensures.3),
     )
 
@@ -57,6 +57,6 @@ returns c =
     opened_says (until s.args.last.0) s.args.table.now
     good
     free _ _ _ _ _
-    c.clear.new.0 c.write_head.new.0
+    c.clear.new.table c.write_head.new.table
     (omega (arith, n.0), omega (arith, n.1), omega (arith, n.2), omega (arith, n.3), omega (arith, n.5))
     (cc c.clear.ensures) c.write_head.ensures

@@ -8,7 +8,7 @@ use Rattle.sealing.proofs.seal_round.Goals as goal
 
 pub seal_sound-requires : goal.seal_sound-requires
 seal_sound-requires c = subst (JudgeSays c.args.table.now)
-    c.round.given.1 c.judge.ensures
+    c.in-Sound.is c.judge.ensures
 
 pub returns-in-Refused : goal.returns-in-Refused
 returns-in-Refused c =

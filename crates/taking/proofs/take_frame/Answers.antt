@@ -9,7 +9,7 @@ use Rattle.taking.proofs.take_frame.Goals as goal
 
 pub take_into-requires : goal.take_into-requires
 take_into-requires c = subst (JudgeSays c.args.table.now)
-    c.round.given.1 c.judge.ensures
+    c.in-Sound.is c.judge.ensures
 
 pub returns-in-Refused : goal.returns-in-Refused
 returns-in-Refused c =

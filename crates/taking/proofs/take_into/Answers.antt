@@ -49,7 +49,7 @@ write_head-requires c =
     let s = c in
     let f = row_free s.args.table.now s.args.round s.requires.0 s.requires.1 (framed s.args.due.0 s.args.weight.0 s.args.class.0)
     free in
-    let l : length c.write_row.new.0 ≡ length s.args.table.now = ap length
+    let l : length c.write_row.new.table ≡ length s.args.table.now = ap length
     c.write_row.ensures ∙ simp length-sets in
     (omega (arith, l, f.0), omega (arith, f.1, c.one_more-head.ensures.3))
 
@@ -60,7 +60,7 @@ returns c =
     let o = c.one_more-head.ensures in
     taken_says s.args.table.now s.args.round s.requires.0 s.requires.1 (framed s.args.due.0 s.args.weight.0 s.args.class.0)
     free
-    _ _ _ _ _ c.write_row.new.0 c.write_head.new.0
+    _ _ _ _ _ c.write_row.new.table c.write_head.new.table
     c.row_at-at.result _ _ _ _ _
     (o.0, o.1, o.2, o.3, o.5)
     c.row_at-at.ensures

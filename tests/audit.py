@@ -27,7 +27,7 @@ NAMED_LOOSELY = re.compile(rf"((?:`[^`]+`(?:, and |, | and )?)+)(?:,? in |, | \(
 RUST = r'^\s*(?:pub(?:\(\w+\))? )?(?:(?:const|unsafe|extern "C") )*(?:fn|struct|enum|trait|type|mod|const|static) NAME\b'
 C = r"^#define NAME\b|^(?:\w+[ *]+)+NAME\([^;{]*\)\s*\{|^(?:typedef )?(?:struct|enum|union) NAME \{|^(?:static |const )[\w *]*\bNAME\b[^;({]*[=;]"
 FORMS = {
-    ".antt": r"^\s*(?:(?:abbrev|unfoldable|pub) )*(?:NAME :|(?:record|data) NAME(?![\w′-]))",
+    ".antt": r"^\s*(?:(?:abbrev|unfoldable|pub) )*(?:NAME :|(?:record|data) NAME(?![\w'-]))",
     ".rt": RUST,
     ".rs": RUST + r'|^\s*\(\s*"NAME", ?',
     ".c": C,
@@ -55,8 +55,8 @@ def defined(name, text, suffix):
 
 
 def stands(words, text):
-    """Whether words stand in a text as whole words; - and ′ belong to words."""
-    return re.search(rf"(?<![\w-]){re.escape(words)}(?![\w′-])", text) is not None
+    """Whether words stand in a text as whole words; - and ' belong to words."""
+    return re.search(rf"(?<![\w-]){re.escape(words)}(?![\w'-])", text) is not None
 
 
 def files(path):
@@ -136,7 +136,7 @@ def wrong_needs(page):
     """Of the public functions: a `requires` that the name does not say, or that PROOFS.md does not list."""
     for crate in PUBLIC:
         for name, contract in let_out(crate):
-            if ("requires {" in contract) != name.endswith(NEEDY):
+            if bool(re.search(r"^ *requires\b", contract, re.M)) != name.endswith(NEEDY):
                 yield f"{name} in crates/{crate}: a `requires` and a name in {NEEDY} go together"
             elif name.endswith(NEEDY) and f"`{name}`" not in page:
                 yield f"{name} in crates/{crate} is not among PROOFS.md's with a `requires`"
@@ -184,9 +184,9 @@ SAMPLES = [
     (True, ".antt", "module _ (n : ℕ) where\n  unfoldable pub it : ℕ\n"),
     (True, ".antt", "pub record it (t : ℕ) : Type 0 where\n"),
     (True, ".antt", "pub data Call : Type 0 where\n  it : (last : ℕ) → Call\n"),
-    (False, ".antt", "use Rattle·rules.specs.Calls.{it}\n-- it : told\npub other : it ≡ it\nother = it\n"),
-    (False, ".antt", "pub it-more : ℕ\nit-more = let it : ℕ = 0 in it\npub record Other (it : ℕ) : Type 0 where\n"),
-    (True, ".rt", "#[no_mangle]\npub extern \"C\" fn it(last: u32) -> u64\n"),
+    (False, ".antt", "use Rattle.rules.specs.Calls.{it}\n-- it : told\npub other : it ≡ it\nother = it\n"),
+    (False, ".antt", "pub it_more : ℕ\nit_more = let it : ℕ = 0 in it\npub record Other (it : ℕ) : Type 0 where\n"),
+    (True, ".rt", "#[unsafe(no_mangle)]\npub extern \"C\" fn it(last: u32) -> u64\n"),
     (True, ".rt", "impl Round {\n    pub const it: u32 = 4095;\n}\n"),
     (True, ".rt", "pub enum Out {\n    Silence,\n    it(Ticket),\n}\n"),
     (True, ".rt", "pub struct Round {\n    pub slot: Slot,\n    pub it: usize,\n}\n"),

@@ -16,14 +16,14 @@ GROUND = {"rules", "theory"}
 
 
 def listed():
-    """(layer, crate, what it uses) for each line of crates.txt; a comment there is the name of a layer."""
+    """(layer, crate, what it uses) for each line of crates.txt; a comment there is the name of a layer, and a static library has that word after its name."""
     layer = ""
     for line in (TOP / "crates.txt").read_text(encoding="utf-8").splitlines():
         if line.startswith("# "):
             layer = line[2:]
         elif line.strip():
-            crate, uses = line.split(":")
-            yield layer, crate.strip(), uses.split()
+            kind, uses = line.split(":")
+            yield layer, kind.split()[0], uses.split()
 
 
 def holds(crate):

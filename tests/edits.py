@@ -14,15 +14,16 @@ DOC = TOP / "docs" / "EDITS.md"
 INTRODUCTION = """# Wrong programs, and that each is refused
 
 An edit, crates/CRATE/must-fail/NAME.edit, makes the program or a definition wrong in one place: it names a file of its crate, a text that
-stands there once, and the text instead. To try one by hand, make that change, run `rt dev CRATE`, and undo it; `rt must-fail CRATE` tries
-all edits of a crate, each on a copy. An edit is *refused for a fact* when the prover meets a goal that holds no more, or two values that
-differ; `./test` tries every edit and fails where one was refused only because a proof no longer fits the text (tests/must_fail_logs.py).
+stands there once, and the text instead. To try one by hand, make that change, run `rt check` in the crate's folder, and undo it;
+`rt must-fail CRATE` tries all edits of a crate, each on a copy. An edit is *refused for a fact* when the prover meets a goal that holds no
+more, or two values that differ; `./test` tries every edit and fails where one is bad, or was refused only because a proof no longer fits the
+text, as far as `rt` tells (tests/must_fail_logs.py).
 
 This page is written by tests/edits.py from the first lines of the edits.
 """
 
 # The nearest is another program, not an edit of this one: it is proved that it sends otherwise.
-PLAYED_OUT = "`played-out-misses`, `canonical-first-differs`, `no-order-serves` in crates/theory/specs/PlayedOut.antt; "
+PLAYED_OUT = "`played_out_misses`, `canonical_first_differs`, `no_order_serves` in crates/theory/specs/PlayedOut.antt; "
 OVER = "checks/over_in_the_last_slot rules/last_slot_over"
 TURNED_DOWN = " ".join(f"{call}/every_{call}_turned_down" for call in ("opening", "taking", "sending", "sealing"))
 
@@ -85,37 +86,37 @@ CONTRACTS = {
     "rules": "the definitions, held to the rounds, bytes and lines worked out by hand in crates/rules/proofs",
     "sorts": "a head as a value: just opened (`new`), and with one more row (`one_more`)",
     "numbers": "numbers in bytes: read (`field`) and written (`low`)",
-    "limits": "a table's length (`length-good`), and a head's numbers (`head-tests`)",
-    "checks": "each call's refusals in their order (`first-of`)",
-    "replies": "each reply enum read as document 01's number and values, and no two replies as one (`opened-read` and its like)",
+    "limits": "a table's length (`length_good`), and a head's numbers (`head_tests`)",
+    "checks": "each call's refusals in their order (`first_of`)",
+    "replies": "each reply enum read as document 01's number and values, and no two replies as one (`opened_read` and its like)",
     "packing": "each reply packed (`pack`), and read back (`Unpacks`)",
     "zeros": "`zeros_from`: all bytes from a place on are zero; `word`: 0 exactly when its eight bytes are",
     "seen": "`row_follows`, `numbers_pass`, `words_pass`, `frames_pass`, `goes_with`: what is asked of the rows so far, by numbers alone",
     "row": "`see_row` (`Sees`): the judge of one row, by its bytes; its class read and written",
-    "head": "`read_head`, `head_is_sound`, `write_head` (`Head-of`, `head-judged`, `head-numbers`): the head's bytes read, judged, written",
+    "head": "`read_head`, `head_is_sound`, `write_head` (`HeadOf`, `head_judged`, `head_numbers`): the head's bytes read, judged, written",
     "kinds": "`all_pass` (`passing`): what is asked once of all rows, their kinds among it",
-    "round": "`judge` and `scan` (`Judge-says`, `Scan-says`): a table is sound, or refused with 2 or 3, and its rows by bucket; `class_at`",
+    "round": "`judge` and `scan` (`JudgeSays`, `ScanSays`): a table is sound, or refused with 2 or 3, and its rows by bucket; `class_at`",
     "picture": "the laws of the segments as a value, held to small rounds by hand",
-    "keys": "`key_of` and `order_key_of` (`heavier-key`, `canonical-key`): one number for a row, in either order",
+    "keys": "`key_of` and `order_key_of` (`heavier_key`, `canonical_key`): one number for a row, in either order",
     "buckets": "`reach_of` (`Reaches`): how far rows fill every slot, and how many are left out; `stretch_of` (`Stretches`): a bucket's segment",
     "heap": "`rise` and `sink` (`Grown`, `Replaced`): the lightest row's key on top",
     "queue": "`starts` (`Started`) and `sort` (`Sorting`): the near rows' keys in due order, and the heaviest far row's",
     "leaving": "`leave_out` (`Parted`): the flags of the rows that stay, and the weight of those that leave",
     "plan": "`plan_of` (`Plans`): the plan's flags and keys, with what is lost and the heaviest far row",
-    "lead": "`score_of` (`score`), `close_segment` (`closed`), `ends_here` (`ends-here`): one segment closed, and the one that leads",
-    "segments": "`segments_of` (`Segments-say`): each near segment's end, heaviest and lightest, and the one whose heaviest row goes",
+    "lead": "`score_of` (`score`), `close_segment` (`closed`), `ends_here` (`ends_here`): one segment closed, and the one that leads",
+    "segments": "`segments_of` (`SegmentsSay`): each near segment's end, heaviest and lightest, and the one whose heaviest row goes",
     "passes": "`heaviest` (`Heaviest`) and `look` (`Looks`): the heaviest row, a segment's heaviest and lightest, and a mark",
     "whole": "`choose_whole` (`Picked`): the row that goes where no row is left out",
     "runs": "`move_run`: a run of rows, in its bytes, moved down behind the rows kept",
-    "closing": "`close_up` (`closed-up`): the bytes once the slot has moved on",
+    "closing": "`close_up` (`closed_up`): the bytes once the slot has moved on",
     "chain": "`lower_marks` (`Lowered`) and `shift_chain` (`Shifts`): a leap's marks, and the bytes once its links have moved",
-    "went": "`send_row`, `send_kept` (`Sent-says`): what went out, and the bytes left",
-    "leap": "`send_swapped` (`Sent-says`): what went out in a leap, and the bytes left",
-    "step": "`send_planned` (`Sent-says`): the row that goes, from near or afar",
-    "first": "`first_of_all` (`Is-first`): the plan's canonical first where no row is left out",
-    "flagged": "`first_planned` (`First-says`): the plan's canonical first where rows are left out",
-    "crowded": "`send_few` and `send_many` (`Sent-says`): a slot where rows are left out of the plan",
-    "sender": "`send_sound` (`Sent-says`): a slot of any sound table",
+    "went": "`send_row`, `send_kept` (`SentSays`): what went out, and the bytes left",
+    "leap": "`send_swapped` (`SentSays`): what went out in a leap, and the bytes left",
+    "step": "`send_planned` (`SentSays`): the row that goes, from near or afar",
+    "first": "`first_of_all` (`IsFirst`): the plan's canonical first where no row is left out",
+    "flagged": "`first_planned` (`FirstSays`): the plan's canonical first where rows are left out",
+    "crowded": "`send_few` and `send_many` (`SentSays`): a slot where rows are left out of the plan",
+    "sender": "`send_sound` (`SentSays`): a slot of any sound table",
     "far": "`substitute_far` (`Substitutes`): the blank where a far row's segment begins",
     "every": "`mark_every` (`mark`) and `substitute_every` (`Substitutes`): the answers where no row is left out",
     "marks": "marks, totals and substitutes read off the plan, equal to `mark`, `total` and `substitute`",
@@ -128,10 +129,10 @@ CONTRACTS = {
     "totalling": "`plan_total` (`Says`): reply and bytes",
     "substituting": "`substitute_of` (`Looks`): the reply; and the bytes as they were",
     "listing": "`list` (`Lists`): reply and entries, by view",
-    "station": "each exported call: the packed reply and the bytes (`Exports`, `Exports-look`)",
-    "digits": "`number` (`spelt`), `digits_only` (`all-digits`), `payload_fits` (`payload-fits`), `put_number` (`Puts`)",
-    "forms": "`form_of` (`Has-form`), `command_of` (`command-of`), `line_number` (`line-number`), `values_of` (`Has-values`)",
-    "lines": "`read_command` (`read`), `payload` (`Payload-part`), `line_end` (`Line-ends`)",
+    "station": "each exported call: the packed reply and the bytes (`Exports`, `ExportsLook`)",
+    "digits": "`number` (`spelt`), `digits_only` (`all_digits`), `payload_fits` (`payload_fits`), `put_number` (`Puts`)",
+    "forms": "`form_of` (`HasForm`), `command_of` (`command_of`), `line_number` (`line_number`), `values_of` (`HasValues`)",
+    "lines": "`read_command` (`read`), `payload` (`PayloadPart`), `line_end` (`LineEnds`)",
     "writer": "`write_line` (`Writes`): the reply, and each byte of the buffer",
     "replying": "the writers of reply lines (`Replies`): the line's length, and each byte of the buffer",
     "saying": "`say_opened`, `say_taken`, `say_sent`, `say_sealed` (`Replies`): the line of a call's reply, and each byte of the buffer",
@@ -171,7 +172,7 @@ def page():
     parts = [INTRODUCTION, "## What document 01 names, nearest first\n"]
     parts += [table(("wrong program", "shown by"), [(nearest[0], PLAYED_OUT + nearest[1]), *others]) + "\n"]
     parts += ["## Wrong programs of every kind\n", table(("wrong program", "edits"), named(KINDS, said)) + "\n"]
-    for crate in re.findall(r"^\s*(\w+)\s*:", (TOP / "crates.txt").read_text(encoding="utf-8"), re.M):
+    for crate in re.findall(r"^(\w+)(?: staticlib)?:", (TOP / "crates.txt").read_text(encoding="utf-8"), re.M):
         rows = [(f"`{edit.split('/')[1]}`", does) for edit, does in said.items() if edit.startswith(crate + "/")]
         if rows:
             parts += [f"## {crate}\n", f"Aimed at: {CONTRACTS[crate]}.\n", table(("edit", "what the wrong program does"), rows) + "\n"]

@@ -2,11 +2,10 @@
 # Shows that a slot, a weight, a class and a ticket cannot stand in one another's place. The table below has each public function and constructor
 # of the library that takes one. For each place of each, and each of the three wrong sorts, a number of that sort and the limit of that
 # sort are passed there, and the compiler has to say 'mismatched-types' with the sort expected and the sort found; the same calls with
-# nothing mixed must compile. What the sources have and the table has not fails too. The crates stand outside the tree, over the
-# libraries of the last `rt ci`. Last line: 'N passed, M failed'.
+# nothing mixed must compile. What the sources have and the table has not fails too. The crates stand outside the tree, over copies of the
+# sources, and `rt try` compiles them: it proves nothing, and nothing has to be proved before. Last line: 'N passed, M failed'.
 set -u
 cd "$(dirname "$0")/.." || exit 2
-top=$PWD
 room=$(mktemp -d) || exit 2
 trap 'rm -rf "$room"' EXIT
 passed=0 failed=0
@@ -70,23 +69,28 @@ EOF
 ok() { passed=$((passed + 1)); echo "mixing: $1: ok"; }
 no() { failed=$((failed + 1)); echo "mixing: $1: FAILED"; }
 
-# A repository beside this one: its crates, and what was proved of them.
-borrow_crates() {
-    mkdir "$room/crates" "$room/target" || return
-    ln -s "$top"/crates/* "$room/crates/" &&
-        cp -R "$top/target/rlib" "$top/target/stamp" "$room/target/" &&
-        cp "$top/crates.txt" "$room/crates.txt"
+# A repository beside this one, with the crates' code and what it cites.
+copy_crates() {
+    local crate part
+    for crate in crates/*/; do
+        mkdir -p "$room/$crate" || return
+        for part in src specs; do
+            if [ -d "$crate$part" ]; then cp -R "$crate$part" "$room/$crate" || return; fi
+        done
+    done
+    cp crates.txt "$room/crates.txt"
 }
 
-# The crates, a call to a line: mixing_nothing with all calls right, and for line K of the table mixing_K_0 with its wrong numbers and
-# mixing_K_1 with its wrong limits, few enough for the compiler to report each. Of each wrong one a case: crate, line, the call's name, the
-# place, the sort wanted there, the one given.
+# The crates, a call to a line: mixing_nothing with all calls right, and mixing_1, mixing_2, .. with wrong ones, in each no more than the
+# errors that the compiler tells of one crate. Of each wrong call a case: crate, line, the call's name, the place, the sort wanted there,
+# the one given. rt try asks a library for a test.
 write_crates() {
-    signatures | awk -v crates="$room/crates" -v listed="$room/crates.txt" -v all="$(signatures | grep -oE '(^|[ (])[a-z]+::' | tr -d ' (:' | sort -u | tr '\n' ' ')" '
-        function begin(crate, uses) {
+    signatures | awk -v crates="$room/crates" -v listed="$room/crates.txt" -v most=20 -v all="$(signatures | grep -oE '(^|[ (])[a-z]+::' | tr -d ' (:' | sort -u | tr '\n' ' ')" '
+        function begin(crate) {
             system("mkdir -p " crates "/" crate "/src")
-            print crate ": " uses >>listed
+            print crate ": " all >>listed
             write_in(crate, "use sorts::{Class, Round, Slot, Ticket, Weight};")
+            write_in(crate, "#[test] fn compiles() {}")
         }
         function write_in(crate, text) {
             lines[crate]++
@@ -94,16 +98,6 @@ write_crates() {
         }
         function function_of(crate, call) {
             write_in(crate, "pub fn call" lines[crate] "(table: &mut [u8], bytes: &[u8], round: Round, keys: &[u64], counts: &[u32], ends: &mut [u32], tops: &mut [u64], lows: &mut [u32]) { " call "; }")
-        }
-        function crates_of(text,    found, over) {
-            found = "sorts"
-            while (match(text, /(^|[ (])[a-z]+::/)) {
-                over = substr(text, RSTART, RLENGTH - 2)
-                gsub(/[ (]/, "", over)
-                if (index(" " found " ", " " over " ") == 0) found = found " " over
-                text = "_" substr(text, RSTART + RLENGTH)
-            }
-            return found
         }
         function value(sort, as_limit) { return as_limit ? limit[sort] : sort "(1)" }
         function filled(place, given, as_limit,    i, text) {
@@ -113,25 +107,27 @@ write_crates() {
         BEGIN {
             split("Slot Weight Ticket Class", sorts, " ")
             limit["Slot"] = "Round::LAST"; limit["Weight"] = "Round::WEIGHT"; limit["Ticket"] = "Round::TICKETS"; limit["Class"] = "Round::CLASS"
-            begin("mixing_nothing", all)
+            begin("mixing_nothing")
         }
         {
             n = split($0, part, /[<>]/)
             name = part[1]
             sub(/[ (].*/, "", name)
             for (as_limit = 0; as_limit <= 1; as_limit++) {
-                crate = "mixing_" NR "_" as_limit
-                begin(crate, crates_of($0))
                 function_of("mixing_nothing", filled(0, "", as_limit))
                 for (place = 2; place < n; place += 2)
                     for (s = 1; s <= 4; s++)
                         if (sorts[s] != part[place]) {
+                            if (wrong++ % most == 0) begin(crate = "mixing_" ++made)
                             function_of(crate, filled(place, sorts[s], as_limit))
                             print crate, lines[crate], name, place / 2, part[place], sorts[s], value(sorts[s], as_limit)
                         }
             }
         }' >"$room/cases"
 }
+
+# What the compiler says of a crate of the room, in a file of the crate's name.
+compile() { (cd "$room/crates/$1" && rt try --test) >"$room/$1" 2>&1; }
 
 # A module that a crate keeps to itself: nothing of it is let out by name.
 is_private() { grep -q "^mod $2;" "$1" && ! grep -q "^pub use $2::" "$1"; }
@@ -194,23 +190,24 @@ else
     cat "$room/missed"
 fi
 
-borrow_crates || { echo 'mixing: no libraries under target/: run rt check first'; echo "$passed passed, $((failed + 1)) failed"; exit 1; }
+copy_crates || { echo 'mixing: the crates could not be copied'; echo "$passed passed, $((failed + 1)) failed"; exit 1; }
 write_crates
-if (cd "$room" && rt mir mixing_nothing) >"$room/mir" 2>"$room/said" && [ -s "$room/mir" ]; then
+if compile mixing_nothing; then
     ok 'each of the four in its own place is taken'
 else
     no 'each of the four in its own place is taken'
-    tail -n 20 "$room/said"
+    tail -n 20 "$room/mixing_nothing"
 fi
-# shellcheck disable=SC2046
-(cd "$room" && rt check $(cut -d ' ' -f 1 cases | uniq)) >"$room/said" 2>&1
+export room
+export -f compile
+cut -d ' ' -f 1 "$room/cases" | uniq | xargs -P "$(nproc)" -I '{}' bash -c 'compile {}'
 while read -r crate line name place wanted given value; do
     what="$name, place $place: $value where a $wanted is wanted does not compile"
-    if grep -q "/src/lib.rt:$line:[0-9]*: error\[mismatched-types\]: expected \`$wanted\`, found \`$given\`" "$room/target/log/$crate.say"; then
+    if grep -q "^src/lib.rt:$line:[0-9]*: error\[mismatched-types\]: expected \`$wanted\`, found \`$given\`" "$room/$crate"; then
         ok "$what"
     else
         no "$what"
-        grep "/src/lib.rt:$line:" "$room/target/log/$crate.say"
+        grep "^src/lib.rt:$line:" "$room/$crate" || tail -n 3 "$room/$crate"
     fi
 done <"$room/cases"
 echo "$passed passed, $failed failed"

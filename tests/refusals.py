@@ -14,8 +14,8 @@ SOURCE = "docs/REPLIES.md"
 IN_RATTLE = {"list": "list", "read": "read_command", "write": "write_line"}
 # Where the rules have a call's conditions: the case of a call, or the definition; and where they have its tests, less 2 and 3.
 CONDITIONS = {"open": "opening", "take_class": "taking", "send": "sending", "seal": "sealing", "total": "totalling", "mark": "marking",
-              "substitute": "substitute-given", "list": "list-given", "read": "read-given"}
-TESTS = {"take_class": "take-tests"} | {call: f"{call}-tests" for call in ("open", "send", "seal", "total", "mark")}
+              "substitute": "substitute_given", "list": "list_given", "read": "read_given"}
+TESTS = {"take_class": "take_tests"} | {call: f"{call}_tests" for call in ("open", "send", "seal", "total", "mark")}
 
 
 def rows(page, column):
@@ -83,26 +83,26 @@ def wrong_in_second(text, source):
 def clauses(text):
     """(name, head, body) of each clause of the rules' definitions."""
     joined = re.sub(r"\n +", " ", re.sub(r"--.*", "", text))
-    return [(head.split()[0], head, body) for head, body in re.findall(r"^([\w-]+(?: [^=\n:]*)?) = (.*)$", joined, re.M)]
+    return [(head.split()[0], head, body) for head, body in re.findall(r"^(\w+(?: [^=\n:]*)?) = (.*)$", joined, re.M)]
 
 
 def order(body, known):
     """The numbers in a body, in order: those given, and those of the definitions that it names."""
-    for number, name in re.findall(r"(?:gives|⇒|when) (\d+)|(?<![.\w-])([a-z][\w-]*)", body):
+    for number, name in re.findall(r"(?:gives|⇒|when) (\d+)|(?<![.\w])([a-z]\w*)", body):
         yield from [int(number)] if number else known.get(name, [])
 
 
 def orders(text):
     """(words of the head, numbers) of each clause that has some. A name of one clause stands for its numbers; a clause of several,
-    as a call's, has those too that its user puts in front, as if-sound does."""
+    as a call's, has those too that its user puts in front, as if_sound does."""
     defined = clauses(text)
     names = [name for name, _, _ in defined]
     known = {name: found for name, _, body in defined if names.count(name) == 1 and (found := list(order(body, {})))}
     for name, head, body in defined:
         if found := list(order(body, known)):
-            uses = re.compile(rf"(?<![\w-]){name}(?![\w-])")
+            uses = re.compile(rf"\b{name}\b")
             users = [b for user, _, b in defined if user != name and name not in known and uses.search(b) and list(order(b, known))]
-            yield re.findall(r"[\w-]+", head), list(order(users[0], known | {name: found})) if users else found
+            yield re.findall(r"\w+", head), list(order(users[0], known | {name: found})) if users else found
 
 
 def wrong_in_rules(words, less):
@@ -170,12 +170,12 @@ FAULTS = [
     ("tests/rust/src/refusal.rs", "The ticket is in no row.", "The ticket's row is not in the plan."),
     ("crates/rules/specs/Conditions.antt", "gives 4", "gives 5"),
     ("crates/rules/specs/Conditions.antt", "(Unsound t gives 3) ∷ cs", "cs"),
-    ("crates/rules/specs/Conditions.antt", "(No-row k t gives 10) ∷ (Not-planned k t gives 11)",
-     "(No-row k t gives 11) ∷ (Not-planned k t gives 10)"),
-    ("crates/rules/specs/Conditions.antt", "question-conditions totalling t = (Past t gives 5) ∷ []\n", ""),
+    ("crates/rules/specs/Conditions.antt", "(NoRow k t gives 10) ∷ (NotPlanned k t gives 11)",
+     "(NoRow k t gives 11) ∷ (NotPlanned k t gives 10)"),
+    ("crates/rules/specs/Conditions.antt", "question_conditions totalling t = (Past t gives 5) ∷ []\n", ""),
     ("crates/rules/specs/Conditions.antt", "when 1 (", "when 2 ("),
     ("crates/rules/specs/Calls.antt", "⇒ 8)", "⇒ 9)"),
-    ("crates/rules/specs/Calls.antt", "over t l ∷ not-ahead t l s", "not-ahead t l s ∷ over t l"),
+    ("crates/rules/specs/Calls.antt", "over t l ∷ not_ahead t l s", "not_ahead t l s ∷ over t l"),
 ]
 
 

@@ -1,13 +1,10 @@
 # shellcheck shell=bash disable=SC2154
 # The steps of ./test, in its order, each followed by what it alone or it first uses. They count by tests/counting.sh.
-archive=$PWD/target/staticlib/libstation.a
-stationround=$PWD/target/bin/stationround
-trial=$PWD/target/bin/trial
+archive=$PWD/crates/station/out/libstation.a
+stationround=$PWD/crates/stationround/out/stationround
+trial=$PWD/crates/trial/out/trial
 rust_bin=$PWD/target/cargo/release
 strict=(-Wall -Wextra -Werror)
-# rt starts its checks in batches and waits for each batch: with twice as many as processors none of these stands idle.
-cores=$(nproc)
-export RT_JOBS=${RT_JOBS:-$((cores < 4 ? 2 * cores : 8))}
 
 tools() {
     need rt -
@@ -31,8 +28,6 @@ need() { # COMMAND PACKAGE: there already, or installed from the system's packag
 
 counting() { counted 'samples of steps' tests/counting_samples.sh; }
 
-layout() { try 'layout (rt fmt --check)' rt fmt --check; }
-
 documents() {
     counted 'samples of definitions' python3 tests/audit.py --self-test
     counted 'audit' python3 tests/audit.py
@@ -42,16 +37,25 @@ documents() {
     try 'the crates of docs/ARCHITECTURE.md' python3 tests/crate_table.py --check
 }
 
-proofs() {
+proofs() { # every crate, its tests, edits, layout and program, with what rt says kept for must_fail_logs
     local before=$failed
     counted 'rt ci' rt ci
+    cp "$work/said" "$work/ci"
     if [ "$failed" -ne "$before" ]; then
         echo 'test: not everything is proved, so nothing further is tried'
         finish
     fi
 }
 
-build_archive() { try 'archive' rt staticlib station; }
+must_fail_logs() {
+    counted 'samples of must-fail logs' python3 tests/must_fail_logs.py --self-test
+    counted 'must-fail logs' python3 tests/must_fail_logs.py "$work/ci"
+}
+
+build_archive() {
+    mkdir -p target
+    try 'archive' python3 tests/archive.py
+}
 
 second_implementation() {
     local status tally
@@ -110,11 +114,6 @@ cargo_in_rust() { # VERB WORDS..
         measured cargo "$1" --offline --release --manifest-path tests/rust/Cargo.toml "${@:2}" >"$work/said" 2>&1
 }
 
-must_fail_logs() {
-    counted 'samples of must-fail logs' python3 tests/must_fail_logs.py --self-test
-    counted 'must-fail logs' python3 tests/must_fail_logs.py
-}
-
 mixing() { counted 'mixing of slots, weights and tickets' tests/mixing.sh; }
 
 header() {
@@ -129,7 +128,7 @@ c_calls() {
     c_test rounds
     c_test third
     c_test keep examples/firmware/keep.c
-    try 'example' bash -o pipefail -c './run | diff - examples/firmware/expected.txt'
+    try 'example' env LIRVEDD_ARCHIVE="$archive" bash -o pipefail -c './run | diff - examples/firmware/expected.txt'
     try 'example in C++17 compiles' g++ -x c++ -std=c++17 "${strict[@]}" -pedantic -Iinclude examples/firmware/station.c \
         -x none "$archive" -o target/example_in_cpp
     try 'example in C++17' bash -o pipefail -c 'target/example_in_cpp | diff - examples/firmware/expected.txt'

@@ -7,7 +7,7 @@ from pathlib import Path
 BENCH = Path(__file__).resolve().parent.parent
 ROOT = BENCH.parent
 TARGET = ROOT / "target" / "bench"
-LIBRARY = ROOT / "target" / "staticlib" / "libstation.a"
+LIBRARY = ROOT / "crates" / "station" / "out" / "libstation.a"
 CALLS = ("open", "take", "take_class", "send", "seal", "mark", "total", "substitute")
 CELLS = ("calls", "cells", "kept", "linked", "shapes", "tables")
 
@@ -31,7 +31,7 @@ def said(*words, **options):
 def library(instead=None):
     """The library's archive, built by rt where it is on the path, or another one in its place."""
     if instead is None and shutil.which("rt"):
-        said("rt", "staticlib", "station", cwd=ROOT)
+        said("rt", "lib", cwd=ROOT / "crates" / "station")
     archive = instead or LIBRARY
     if not archive.is_file():
         raise Failed(f"no archive {archive}")

@@ -6,7 +6,7 @@ from collections import namedtuple
 from build import BENCH, ROOT, TARGET, Failed, said
 from measured import ONCE, total
 
-PROGRAM = ROOT / "target" / "bin" / "stationround"
+PROGRAM = ROOT / "crates" / "stationround" / "out" / "stationround"
 LAST = 4095
 REACH = 256
 TOGGLES = [f"lirvedd_{call}" for call in ("open", "take", "take_class", "send")]

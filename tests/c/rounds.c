@@ -115,7 +115,7 @@ static const struct hand hands[] = {
         {TAKE, 1, 9227465, TICKET(2), 2, {{1, 0, 3524578, 0}, {2, 1, 9227465, 0}}, 2, {3524578, 3524578}, 2, {{1, TICKET(1)}, {2, BLANK(1)}}},
         TOTAL_IS(12752043),
         {SEND, 0, 0, SENT(ORDINARY, FRAME, 1), 1, {{2, 1, 9227465, 0}}, 1, {9227465}, 1, {{2, TICKET(2)}}}}},
-    /* P10: a round just opened sends silence, ordinary (Opened-silent says it of every round) */
+    /* P10: a round just opened sends silence, ordinary (OpenedSilent says it of every round) */
     {3, 2, {
         TOTAL_IS(0),
         {SEND, 0, 0, SENT(ORDINARY, SILENCE, 0), 0, {{0}}, 3, {0, 0, 0}, 0, {{0}}}}},

@@ -1,6 +1,6 @@
 -- What bytes spell, and digits put into a buffer.
-use Rattle.std.specs.Prelude.{◌≡◌, true, cond, List, ◌++◌, ℕ, ◌+◌, ◌-◌, ◌<◌, length, get_or, take, drop}
-use Rattle.rules.specs.Lines.{is_digit, digit_value, digits, number_from, all_digits, line_end}
+use Rattle.std.specs.Prelude.{◌≡◌, cond, List, ◌++◌, ℕ, ◌+◌, length, take, drop}
+use Rattle.rules.specs.Lines.{is_digit, digit_value, digits, number_from, all_digits}
 use Rattle.digits.specs.declared.Spelt.{Spelt}
 use Rattle.digits.specs.declared.Spelt.TheVariants.{Number, Nothing}
 

@@ -1,4 +1,6 @@
 // Digits 0 to 9 and A to F, numbers in digits, high digit first, how many digits a payload can have, and the byte that ends a line.
+#![tactic(auto)]
+
 ghost use Rattle.std.specs.Prelude.{◌≡◌, ◌+◌, ◌^◌, ◌≤◌, ◌<◌, ltb, length};
 ghost use Rattle.rules.specs.Lines.{all_digits, digit, payload_fits};
 ghost use Rattle.digits.specs.Spelling.{Puts, put, spelt, value_or};

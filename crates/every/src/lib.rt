@@ -1,4 +1,6 @@
 // Mark and substitute where no row is left out: counts of all rows tell the segments.
+#![tactic(auto)]
+
 ghost use Rattle.std.specs.Prelude.{◌≡◌, cond, ◌+◌, ◌≤◌, ◌<◌, max, min, leb};
 ghost use Rattle.rules.specs.Plan.{mark, least_weight};
 ghost use Rattle.rules.specs.Table.{round_in};

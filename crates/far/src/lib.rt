@@ -1,4 +1,6 @@
 // Far slots, from free on, and the substitute of a row due in one: the blank where its segment begins, since the plan has every such row.
+#![tactic(auto)]
+
 ghost use Rattle.std.specs.Prelude.{◌≡◌, suc, ◌+◌, ◌-◌, ◌≤◌, ◌<◌, min, leb, length, replicate};
 ghost use Rattle.rules.specs.Table.{round_in};
 ghost use Rattle.round.specs.Rows.{Ready};

@@ -1,4 +1,6 @@
 // Text lines by number: the form of each, the command of its values, and a command's number and values.
+#![tactic(auto)]
+
 ghost use Rattle.std.specs.Prelude.{◌≡◌};
 ghost use Rattle.rules.specs.Lines.{command_of, form_numbered, line_number};
 ghost use Rattle.forms.specs.Cases.{of_command, of_reading};

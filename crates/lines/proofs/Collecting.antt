@@ -14,7 +14,6 @@ use Rattle.theory.specs.Tests.{either, eqb?}
 use Rattle.theory.specs.Digits.{all_digits_join, all_digits_part}
 use Rattle.theory.specs.Numerals.{length_numbers, count_more, count_least, number_in}
 use Rattle.forms.specs.declared.Form.{Form}
-use Rattle.lines.specs.declared.reader.Numbers.{Numbers}
 use Rattle.forms.specs.Forms.{most_numbers, widths_in, Small}
 use Rattle.lines.proofs.ReadLines.{Says, part_of}
 

@@ -6,7 +6,6 @@ use native.Mathlib.Omega.{arith}
 use lib.ListN.{length, take, drop, length-drop}
 use lib.Seq.{length-take-le}
 use denote.Ref.{Bor}
-use Rattle.rules.specs.Lines as rules
 use Rattle.rules.specs.Lines.{form_of, front_size, read, payload_place, payload}
 use Rattle.theory.specs.Reader.{payload_behind, payload_bare, payload_broken, place_within}
 use Rattle.forms.specs.declared.Command.{Command}

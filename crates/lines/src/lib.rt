@@ -1,4 +1,6 @@
 // Text lines read: a line's command, the payload's part of a line, and where a line ends.
+#![tactic(auto)]
+
 mod reader; // reader.rt: a line's command
 mod part; // part.rt: a line's payload
 mod ends; // ends.rt: where a line ends

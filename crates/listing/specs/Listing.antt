@@ -1,6 +1,6 @@
 -- What a listing will do, decided before an entry is written: all that the walk over the entries knows of it.
-use Rattle.std.specs.Prelude.{◌≡◌, List, ℕ, zero, suc, ◌+◌, ◌≤◌, ◌<◌, length, get_or, set}
-use Rattle.rules.specs.Limits.{row_size, most_rows}
+use Rattle.std.specs.Prelude.{◌≡◌, List, ℕ, zero, suc, ◌≤◌, ◌<◌, length, get_or, set}
+use Rattle.rules.specs.Limits.{most_rows}
 use Rattle.rules.specs.Rows.{Row, Round, blank}
 use Rattle.rules.specs.Conditions.{row_at}
 use Rattle.rules.specs.Looking.{View, shows, list_answer, list_left}

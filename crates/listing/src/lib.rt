@@ -1,4 +1,6 @@
 // Listings of a view's rows into a lent list of entries, or refusal 2, 3, 5 or 12.
+#![tactic(auto)]
+
 ghost use Rattle.std.specs.Prelude.{◌≡◌};
 ghost use Rattle.rules.specs.Table.{round_in};
 ghost use Rattle.rules.specs.Looking.{shows};

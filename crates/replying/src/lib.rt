@@ -1,4 +1,6 @@
 // Reply lines, written into a lent buffer: what a call of the program answers, or a refusal's number.
+#![tactic(auto)]
+
 ghost use Rattle.std.specs.Prelude.{◌≤◌, length};
 ghost use Rattle.rules.specs.Calls.{refused, ticket};
 ghost use Rattle.rules.specs.Lines.{reply_room, reply_text};

@@ -1,4 +1,6 @@
 // A call's reply, as its enum has it, said as a line in a lent buffer.
+#![tactic(auto)]
+
 ghost use Rattle.std.specs.Prelude.{◌≤◌, length};
 ghost use Rattle.rules.specs.Calls.{step};
 ghost use Rattle.rules.specs.Lines.{reply_room, reply_text};

@@ -1,4 +1,4 @@
--- Tables read back as their rounds, and a sound round's table is accepted: read-back, length_table, table_good, next_sized.
+-- Tables read back as their rounds, and a sound round's table is accepted: read_back, length_table, table_good, next_sized.
 use Rattle.std.specs.Prelude.{◌≡◌, refl, true, ◌&&◌, not, cond, List, [], ◌∷◌, ◌++◌, ℕ, zero, suc, ◌+◌, ◌*◌, ◌-◌, ◌/◌, ◌%◌, ◌≤◌, max, ltb, leb, eqb, get_or, drop}
 use Rattle.std.proofs.Common.{ap, ap₂, inl, inr, append_assoc, arith, le-leb, eq-eqb, length-append, drop_at}
 use Rattle.std.proofs.Math.ListN.{length, replicate}

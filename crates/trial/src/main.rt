@@ -1,12 +1,14 @@
 // A program for the tests: makes the calls that neither C nor stationround reaches, as requests ask (tests/trial.md).
+#![tactic(auto)]
+
 ghost use Rattle.std.specs.Prelude.{◌≡◌, ◌≤◌, length};
 
 use crate::entries::try_list;
 use crate::reading::try_read;
 use crate::writing::try_write;
-use libc::{STDIN_FILENO, STDOUT_FILENO};
 use numbers::read4;
 use sorts::{Class, Slot, Weight};
+use std::io::{Read, Stdin, Stdout, Write};
 
 mod entries; // entries.rt: the listing
 mod writing; // writing.rt: the line writer
@@ -36,15 +38,19 @@ const MOST_SIZE: usize = 24640;
 
 const MOST_ROOM: usize = 1024;
 
+const OUT_SIZE: usize = 65536;
+
 // A proved loop has to end, so it counts down from a number that no run uses up.
-fn main() {
+fn main(rt: HostRuntime) {
+    let mut stdin = rt.stdin();
+    let mut stdout = rt.stdout();
     let mut body_space = [0u8; MOST_SIZE];
     let body: &mut [u8] = &mut body_space;
-    let mut out_space = io::large_buffer();
+    let mut out_space = [0u8; OUT_SIZE];
     let out: &mut [u8] = &mut out_space;
     let mut turns = u64::MAX;
     while turns > 0 {
-        if !answer_next(body, out) {
+        if !answer_next(&mut stdin, &mut stdout, body, out) {
             return;
         }
         turns -= 1;
@@ -52,12 +58,12 @@ fn main() {
 }
 
 // Whether a whole request was there and its outcome is written.
-fn answer_next(body: &mut [u8], out: &mut [u8]) -> bool
+fn answer_next(stdin: &mut Stdin, stdout: &mut Stdout, body: &mut [u8], out: &mut [u8]) -> bool
     requires { (length body.old ≡ 24640) × (length out.old ≡ 65536) }
 {
     let mut head_space = [0u8; HEAD_SIZE];
     let head: &mut [u8] = &mut head_space;
-    if io::read_full(STDIN_FILENO, head) != HEAD_SIZE {
+    if stdin.read_exact(head).is_err() {
         return false;
     }
     let request = request_of(head);
@@ -68,14 +74,14 @@ fn answer_next(body: &mut [u8], out: &mut [u8]) -> bool
     if MOST_ROOM < request.room {
         return false;
     }
-    if io::read_full(STDIN_FILENO, &mut body[..size]) != size {
+    if stdin.read_exact(&mut body[..size]).is_err() {
         return false;
     }
     let n = outcome(request, &body[..size], out);
     if n == 0 {
         return false;
     }
-    io::write_all(STDOUT_FILENO, &out[..n])
+    stdout.write_all(&out[..n]).is_ok()
 }
 
 fn request_of(head: &[u8]) -> Request

@@ -1,4 +1,6 @@
 // The line writer: a command and its payload digits as a line, in a lent buffer.
+#![tactic(auto)]
+
 ghost use Rattle.std.specs.Prelude.{◌≡◌, ◌+◌, ◌≤◌, length};
 ghost use Rattle.rules.specs.Limits.{short_digits};
 ghost use Rattle.rules.specs.Lines.{count_digits, fit_digits, numerals};

@@ -1,4 +1,6 @@
 // The plan's canonical first where rows are left out: of the keys with a flag, which stand in due order, the least of the first slot.
+#![tactic(auto)]
+
 ghost use Rattle.flagged.specs.Planned.{Lent, FirstSays, SomeFlagged, FirstFlagged};
 
 use keys::{due_of, lesser, row_of};

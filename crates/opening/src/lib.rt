@@ -1,4 +1,6 @@
 // Opening a round: refusals 2 and 4.
+#![tactic(auto)]
+
 ghost use Rattle.rules.specs.Rows.{until};
 ghost use Rattle.rules.specs.Calls.{opening, Says};
 ghost use Rattle.replies.specs.Replies.{of_opened};

@@ -1,4 +1,6 @@
 // Sealing a round: refusals 2, 3 and 5.
+#![tactic(auto)]
+
 ghost use Rattle.std.specs.Prelude.{◌≡◌};
 ghost use Rattle.rules.specs.Table.{table_refusal};
 ghost use Rattle.rules.specs.Calls.{sealing, acting, Says};

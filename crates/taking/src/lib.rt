@@ -1,4 +1,6 @@
 // Taking a frame: refusals 2, 3, 5 to 9, 13 and 14.
+#![tactic(auto)]
+
 ghost use Rattle.std.specs.Prelude.{◌≡◌};
 ghost use Rattle.rules.specs.Table.{table_refusal};
 ghost use Rattle.rules.specs.Rows.{framed};

@@ -1,5 +1,7 @@
 // What goes out, and what it leaves in the table where no row but its own changes.
 // At most expiring rows are due in the current slot.
+#![tactic(auto)]
+
 ghost use Rattle.std.specs.Prelude.{◌<◌};
 ghost use Rattle.rules.specs.Table.{round_in};
 ghost use Rattle.round.specs.Rows.{Ready, at};

@@ -1,0 +1,62 @@
+-- `open_round` meets its contract.
+use borrow.Author.Rules.{rules}
+use borrow.Author.Tests.{not-true, not-false}
+use mathlib.Core.Path.{◌≡◌, sym, ◌∙◌}
+use mathlib.Core.Bool.{true}
+use native.Mathlib.Omega.{arith}
+use lib.ListN.{length}
+use Rattle.rules.specs.Table.{length_good}
+use Rattle.rules.specs.Rows.{until}
+use Rattle.rules.specs.Calls.{opening}
+use Rattle.theory.specs.Outcomes.{says_refused, opening_length, opening_number}
+use Rattle.rules.specs.Calls.{first_of, open_tests}
+use Rattle.opening.proofs.Opened.{head_fits, cleared_fits, opened_says}
+use Rattle.opening.proofs.open_round.Goals as goal
+
+pub returns-then-not-length_is_good : goal.returns-then-not-length_is_good
+returns-then-not-length_is_good c =
+    let s = c in
+    says_refused (opening (until s.args.last.0)) s.args.table.now 2
+    (opening_length (until s.args.last.0) s.args.table.now (sym c.length_is_good.ensures ∙ c.if-not-length_is_good.true)) (λ z. omega (arith, z))
+
+pub returns-then-refusal-gt0 : goal.returns-then-refusal-gt0
+returns-then-refusal-gt0 c =
+    let good : length_good (length c.args.table.now) ≡ true = sym c.length_is_good.ensures ∙ c.if-not-length_is_good.false in
+    let s = c in
+    says_refused (opening (until s.args.last.0)) s.args.table.now _
+    (omega (arith, opening_number (until s.args.last.0) s.args.table.now good, c.opening_refusal-refusal.ensures))
+    (λ z. omega (arith, z))
+
+pub rows_of-requires : goal.rows_of-requires
+rows_of-requires c =
+    let good : length_good (length c.args.table.now) ≡ true = sym c.length_is_good.ensures ∙ c.if-not-length_is_good.false in
+    let s = c in
+    head_fits (until s.args.last.0) s.args.table.now good
+
+pub clear-requires : goal.clear-requires
+clear-requires c =
+    let good : length_good (length c.args.table.now) ≡ true = sym c.length_is_good.ensures ∙ c.if-not-length_is_good.false in
+    let s = c in
+    omega (arith, head_fits (until s.args.last.0) s.args.table.now good)
+
+pub write_head-requires : goal.write_head-requires
+write_head-requires c =
+    let good : length_good (length c.args.table.now) ≡ true = sym c.length_is_good.ensures ∙ c.if-not-length_is_good.false in
+    let s = c in (
+      cleared_fits (until s.args.last.0) s.args.table.now good
+          c.clear.new.table c.clear.ensures,
+      omega (arith, c.new-round.ensures.3),
+    )
+
+pub returns : goal.returns
+returns c =
+    let good : length_good (length c.args.table.now) ≡ true = sym c.length_is_good.ensures ∙ c.if-not-length_is_good.false in
+    let free : first_of (open_tests (until c.args.last.0)) ≡ 0 = omega (arith, c.opening_refusal-refusal.ensures) in
+    let s = c in
+    let n = c.new-round.ensures in
+    opened_says (until s.args.last.0) s.args.table.now
+    good
+    free _ _ _ _ _
+    c.clear.new.table c.write_head.new.table
+    (omega (arith, n.0), omega (arith, n.1), omega (arith, n.2), omega (arith, n.3), omega (arith, n.5))
+    (cc c.clear.ensures) c.write_head.ensures

@@ -1,4 +1,6 @@
 // The public call that looks for the mark of a slot: refusals 2, 3, 5 and 7.
+#![tactic(auto)]
+
 ghost use Rattle.std.specs.Prelude.{◌≡◌, ◌+◌, ◌≤◌, ◌<◌};
 ghost use Rattle.rules.specs.Plan.{mark};
 ghost use Rattle.rules.specs.Table.{round_in};

@@ -1,4 +1,6 @@
 // Sending a slot where rows are left out of the plan: the plan, then its first or its segments, and what is written.
+#![tactic(auto)]
+
 ghost use Rattle.std.specs.Prelude.{◌≢◌, ◌≤◌};
 ghost use Rattle.rules.specs.Table.{round_in};
 ghost use Rattle.round.specs.Rows.{Ready};

@@ -1,5 +1,7 @@
 // A leap from the segment that leads: onto a row left out or onto its blank, which gets the mark of its segment.
 // At most expiring rows are due in the current slot.
+#![tactic(auto)]
+
 ghost use Rattle.closing.specs.Close.{DueNow};
 ghost use Rattle.went.specs.Send.{SentSays};
 ghost use Rattle.leap.specs.Leap.{LeapsBlank, LeapsRow};

@@ -7,7 +7,7 @@ use Rattle.rules.specs.Rows.{until, framed}
 use Rattle.rules.specs.Calls.{taking, sending, sealing, opening, acting, Reply, refused, amount}
 use Rattle.rules.specs.Lines.{digit, is_digit, digit_value, digits, number_from, all_digits, count_digits, numerals, fit_digits, number_at, numbers_at}
 use Rattle.rules.specs.Lines.{forms, found, front_size, payload_fits, has_length, Command, open_line, take_line, send_line, seal_line, class_line, line_number, values_of, call_of}
-use Rattle.rules.specs.Lines.{front, text, stands, Reading, command, broken, body, command_of, read_digits, read, read_refusal, Place, place_of, payload_place, payload, payload_from, write_refusal, write_answer, write_left}
+use Rattle.rules.specs.Lines.{front, text, stands, Reading, command, broken, body, command_of, read_digits, read, read_refusal, place_of, payload_place, payload, payload_from, write_refusal, write_answer, write_left}
 
 -- A LINE BY HAND: what it is read as, the refusal's number, the payload's place, and the payload
 pub record LineRead : Type 0 where

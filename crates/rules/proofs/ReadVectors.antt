@@ -11,7 +11,7 @@ use Rattle.rules.specs.Steps.{opened, taken, sealed, changed, without, heaviest_
 use Rattle.rules.specs.Table.{low, value, field, put, row_bytes, rows_bytes, head_bytes, table, rows_in, rows_of, round_in, length_good, every, rows_good, round_good, same, table_refusal}
 use Rattle.rules.specs.Calls.{first, act, question, deed, round_refusal, out_of, says, leaves, table_first, refusal, answer, left, run}
 use Rattle.rules.specs.Lines.{digit, is_digit, digit_value, digits, number_from, all_digits, count_digits, number_at, numbers_at, forms, found, front_size, payload_fits, has_length, call_of, body, command_of, read_digits, read, out_digits, reply_digits, reply_text, turn, printed_from}
-use Rattle.rules.specs.Reads.{complete_from, begun_from, asked, calls_of, stops, overlong, Between, served, written, between_after, SomeBytes}
+use Rattle.rules.specs.Reads.{complete_from, begun_from, asked, calls_of, stops, overlong, served, written, between_after, SomeBytes}
 use Rattle.rules.proofs.Text.{zeroed}
 use Rattle.rules.proofs.LineVectors.{sixteen}
 

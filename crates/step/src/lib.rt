@@ -1,5 +1,7 @@
 // Which row goes, once the plan's segments are known or no row is left out.
 // At most expiring rows are due in the current slot.
+#![tactic(auto)]
+
 ghost use Rattle.std.specs.Prelude.{◌≡◌, ◌*◌, ◌≤◌};
 ghost use Rattle.keys.specs.Key.{weight_of, blank_key};
 ghost use Rattle.closing.specs.Close.{DueNow};

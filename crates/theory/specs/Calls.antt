@@ -3,7 +3,7 @@ use Rattle.std.specs.Prelude.{◌≡◌, refl, ◌≢◌, Bool, true, false, ◌
 use Rattle.std.proofs.Common.{◌∙◌, true≢false, arith, ltb-false, leb-true, leb-false, eqb-true}
 use Rattle.std.proofs.lemmas.Bool.{eqb-false}
 use Rattle.rules.specs.Limits.{most_last, most_weight, ticket_limit, most_class}
-use Rattle.rules.specs.Rows.{Frame, Setup, Row, Round, slots_left, round, row, In}
+use Rattle.rules.specs.Rows.{Frame, Setup, Row, Round, round, row, In}
 use Rattle.rules.specs.Plan.{plan, first_end, mark}
 use Rattle.rules.specs.Steps.{opened, taken_row, taken, sealed, goes, sent, without, still_due, leapt}
 use Rattle.rules.specs.Calls.{Act, taking, sending, sealing, Question, marking, totalling, Call, opening, acting, asking, Test, first_of, over, not_ahead, open_tests, take_tests, send_tests, seal_tests, mark_tests, act, question, deed, round_refusal, leaves, next_round, after}
@@ -12,7 +12,7 @@ use Rattle.theory.specs.Tests.{and_true, both_ways}
 use Rattle.theory.specs.Sum.{sum_append}
 use Rattle.theory.specs.All.{all_map, all_append}
 use Rattle.theory.specs.Bounds.{RowFine}
-use Rattle.theory.specs.Full.{Fine, Rising, plan_length}
+use Rattle.theory.specs.Full.{Fine, Rising}
 use Rattle.theory.specs.Marks.{box, mark_stays}
 use Rattle.theory.specs.Change.{all_still, all_without, rising_still, rising_without, still_box}
 use Rattle.theory.specs.Send.{ordinary_fills}

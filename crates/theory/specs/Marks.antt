@@ -109,8 +109,8 @@ unfolding least_weight
 least_all s [] b = tt
 least_all s (x ∷ xs) b =
     let below : (w : ℕ) → (least_weight s (x ∷ xs) b ≡ w) → All (λ y. y.due ≤ s → w ≤ y.weight) (x ∷ xs)
-        → All (λ y. y.due ≤ s → least_weight s (x ∷ xs) b ≤ y.weight) (x ∷ xs) =
-        λ w e. subst (λ v. All (λ y. y.due ≤ s → v ≤ y.weight) (x ∷ xs)) (sym e) in
+    → All (λ y. y.due ≤ s → least_weight s (x ∷ xs) b ≤ y.weight) (x ∷ xs) =
+    λ w e. subst (λ v. All (λ y. y.due ≤ s → v ≤ y.weight) (x ∷ xs)) (sym e) in
     elim (leb? x.due s) [
       | inl k ↦ below (least_weight s xs (min b x.weight)) (rw k.0 refl) (λ _. omega (arith, least_below s xs (min b x.weight)), least_all s xs (min b x.weight))
       | inr k ↦ below (least_weight s xs b) (rw k.0 refl) (λ i. absurd (omega arith), least_all s xs b)

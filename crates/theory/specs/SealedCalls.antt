@@ -1,9 +1,9 @@
 -- CALLS ON A SEALED ROUND leave it sealed, and a planned row goes among them or is planned still: sealed_next, after_sealed, goes_or_waits.
-use Rattle.std.specs.Prelude.{◌≡◌, refl, ◌⊎◌, List, [], ◌∷◌, ◌++◌, ◌+◌, ◌≤◌}
+use Rattle.std.specs.Prelude.{◌≡◌, refl, ◌⊎◌, List, [], ◌∷◌, ◌++◌, ◌≤◌}
 use Rattle.std.proofs.Common.{sym, ap, ◌∙◌, subst, inl, inr, arith}
 use Rattle.rules.specs.Rows.{Row, Round, round, In}
 use Rattle.rules.specs.Plan.{plan, planned}
-use Rattle.rules.specs.Steps.{sealed, goes, sent}
+use Rattle.rules.specs.Steps.{goes, sent}
 use Rattle.rules.specs.Calls.{taking, sending, sealing, Call, opening, acting, asking, act, deed, round_refusal, leaves, next_round, after}
 use Rattle.rules.specs.Demands.{NoOpening}
 use Rattle.theory.specs.Tests.{eqb?}

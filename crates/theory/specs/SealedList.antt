@@ -6,7 +6,7 @@ use Rattle.std.proofs.Math.Logic.{inl, inr}
 use mathlib.Core.List.{List, [], ◌∷◌, ◌++◌, append_assoc}
 use Rattle.rules.specs.Limits.{head_size, row_size, most_rows, most_last}
 use Rattle.rules.specs.Rows.{Frame, Setup, Row, Round, round, In}
-use Rattle.rules.specs.Plan.{plan, planned}
+use Rattle.rules.specs.Plan.{planned}
 use Rattle.rules.specs.Steps.{sealed, goes, sent}
 use Rattle.rules.specs.Calls.{taking, sending, sealing, Call, opening, acting, frame, kept_blank, ordinary, refused, closed, step, number_of, out_of, act, deed, round_refusal, says, leaves, answer, left, run, next_round, after, at}
 use Rattle.rules.specs.Sealed.{WentOut, SealedBy, SealedGoesOut}
@@ -15,7 +15,7 @@ use Rattle.theory.specs.All.{all_in}
 use Rattle.theory.specs.Full.{Fine}
 use Rattle.theory.specs.Same.{row_ticket, planned_in}
 use Rattle.theory.specs.First.{first_ordinary}
-use Rattle.theory.specs.Calls.{sends, seals, sealed_fine}
+use Rattle.theory.specs.Calls.{seals, sealed_fine}
 use Rattle.theory.specs.Sane.{answer_is}
 use Rattle.theory.specs.Third.{at_sane, run_at, at_append, at_next}
 use Rattle.theory.specs.Sealed.{sealed_planned}

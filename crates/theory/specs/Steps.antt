@@ -2,7 +2,7 @@
 use Rattle.std.specs.Prelude.{◌≡◌, refl, ◌⊎◌, List, ℕ, suc, ◌≤◌}
 use Rattle.std.proofs.Common.{sym, subst, inl, inr, arith, le-leb, ne_eqb}
 use Rattle.std.proofs.lemmas.Bool.{lt-leb}
-use Rattle.rules.specs.Rows.{Row, Round, round, All, In}
+use Rattle.rules.specs.Rows.{Row, Round, round, All}
 use Rattle.rules.specs.Plan.{plan, first_end, planned}
 use Rattle.rules.specs.Steps.{goes, sent, is_ordinary}
 use Rattle.rules.specs.Calls.{out_of, says, deed, act}

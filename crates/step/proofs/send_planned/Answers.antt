@@ -1,0 +1,24 @@
+-- `step::send_planned` meets its contract.
+use borrow.Author.Rules.{rules}
+use Rattle.step.proofs.PlanLaws.{far_fits, lead_small, far_alone, first_alone, blank_leaps, row_leaps}
+use Rattle.step.proofs.send_planned.Goals as goal
+
+pub far_score-requires : goal.far_score-requires
+far_score-requires c = search (far_fits, rules)
+
+pub send_row-requires : goal.send_row-requires
+send_row-requires c = search (far_alone, rules)
+
+pub overflow_add-lead : goal.overflow_add-lead
+overflow_add-lead c =
+    let h = lead_small c.requires.0 in
+    search rules
+
+pub send_row-requires-then-lead : goal.send_row-requires-then-lead
+send_row-requires-then-lead c = search (first_alone, rules)
+
+pub send_blank-requires : goal.send_blank-requires
+send_blank-requires c = search (blank_leaps, rules)
+
+pub send_swapped-requires : goal.send_swapped-requires
+send_swapped-requires c = search (row_leaps, rules)

@@ -1,14 +1,14 @@
 -- Tickets rise with rows, so halves tell where one is.
-use mathlib.Core.Path.{◌≡◌, refl, sym, ap, ◌∙◌}
-use mathlib.Core.Logic.{◌⊎◌, inl, inr}
+use mathlib.Core.Path.{◌≡◌}
+use mathlib.Core.Logic.{inl, inr}
 use mathlib.Core.List.{List, [], ◌∷◌}
 use Prim.Native.Nat.{ℕ, zero, suc, ◌+◌, ◌≤◌, ◌<◌}
 use native.Mathlib.Omega.{arith}
 use lib.ListN.{length, get_or}
-use Rattle.rules.specs.Rows.{Row, Round, blank}
+use Rattle.rules.specs.Rows.{Row, blank}
 use Rattle.rules.specs.Table.{round_in}
 use Rattle.theory.specs.Tests.{ltb?}
-use Rattle.theory.specs.Full.{Fine, Rising}
+use Rattle.theory.specs.Full.{Rising}
 use Rattle.theory.specs.Change.{rising_above}
 use Rattle.theory.specs.Keys.{getD_in}
 use Rattle.sorts.specs.declared.Round.{Round as Head}

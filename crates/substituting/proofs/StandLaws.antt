@@ -1,7 +1,7 @@
 -- Whether a row is in the plan, what stands in for it, and what the call says then.
 use mathlib.Core.Path.{◌≡◌, refl, sym, ap, ◌∙◌}
-use mathlib.Core.Logic.{◌⊎◌, inl, inr}
-use mathlib.Core.Bool.{true, false}
+use mathlib.Core.Logic.{inl, inr}
+use mathlib.Core.Bool.{true}
 use mathlib.Core.List.{List, [], ◌∷◌}
 use mathlib.Core.Option.{none, some}
 use Prim.Native.Nat.{ℕ, zero, suc, ◌+◌, ◌≤◌, ◌<◌}
@@ -12,7 +12,7 @@ use lib.ListN.{length, get_or, replicate, get_or-replicate}
 use Rattle.rules.specs.Rows.{Row, Round, blank}
 use Rattle.rules.specs.Plan.{plan, in_plan, flags, planned}
 use Rattle.rules.specs.Table.{round_in, table_refusal}
-use Rattle.rules.specs.Calls.{Reply, refused, ticket, blank_due, first, first_of, over}
+use Rattle.rules.specs.Calls.{Reply, refused, first, first_of, over}
 use Rattle.rules.specs.Looking.{with_ticket, stand_in, substitute_answer}
 use Rattle.theory.specs.Tests.{either}
 use Rattle.theory.specs.Full.{Fine, Rising}

@@ -1,4 +1,6 @@
 // The public call that looks for the substitute of a ticket: refusals 2, 3, 5, 10 and 11.
+#![tactic(auto)]
+
 ghost use Rattle.rules.specs.Looking.{substitute_answer, Looks};
 ghost use Rattle.round.specs.Judge.{ScanAsks};
 ghost use Rattle.replies.specs.Replies.{of_substituted};

@@ -1,4 +1,6 @@
 // The public call that reckons the plan's total: refusals 2, 3 and 5.
+#![tactic(auto)]
+
 ghost use Rattle.std.specs.Prelude.{◌≡◌, ◌≤◌};
 ghost use Rattle.rules.specs.Plan.{total};
 ghost use Rattle.rules.specs.Table.{round_in};

@@ -1,7 +1,6 @@
 -- `station::lirvedd_mark` meets its contract.
 use native.Mathlib.Omega.{arith}
 use Rattle.station.proofs.Exported.{marking_exported}
-use borrow.Author.Rules.{rules}
 use Rattle.station.proofs.lirvedd_mark.Goals as goal
 
 pub returns : goal.returns

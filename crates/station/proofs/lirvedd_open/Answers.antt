@@ -1,7 +1,6 @@
 -- `station::lirvedd_open` meets its contract.
 use native.Mathlib.Omega.{arith}
 use Rattle.station.proofs.Exported.{opening_exported}
-use borrow.Author.Rules.{rules}
 use Rattle.station.proofs.lirvedd_open.Goals as goal
 
 pub returns : goal.returns

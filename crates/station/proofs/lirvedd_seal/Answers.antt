@@ -1,7 +1,6 @@
 -- `station::lirvedd_seal` meets its contract.
 use native.Mathlib.Omega.{arith}
 use Rattle.station.proofs.Exported.{exported}
-use borrow.Author.Rules.{rules}
 use Rattle.station.proofs.lirvedd_seal.Goals as goal
 
 pub returns : goal.returns

@@ -1,6 +1,5 @@
 -- `station::lirvedd_send` meets its contract.
 use Rattle.station.proofs.Exported.{exported}
-use borrow.Author.Rules.{rules}
 use Rattle.station.proofs.lirvedd_send.Goals as goal
 
 pub returns : goal.returns

@@ -1,7 +1,6 @@
 -- `station::lirvedd_substitute` meets its contract.
 use native.Mathlib.Omega.{arith}
 use Rattle.station.proofs.Exported.{substitute_exported}
-use borrow.Author.Rules.{rules}
 use Rattle.station.proofs.lirvedd_substitute.Goals as goal
 
 pub returns : goal.returns

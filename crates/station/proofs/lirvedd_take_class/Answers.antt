@@ -1,7 +1,6 @@
 -- `station::lirvedd_take_class` meets its contract.
 use native.Mathlib.Omega.{arith}
 use Rattle.station.proofs.Exported.{taking_exported}
-use borrow.Author.Rules.{rules}
 use Rattle.station.proofs.lirvedd_take_class.Goals as goal
 
 pub returns : goal.returns

@@ -3,7 +3,6 @@ use Rattle.station.proofs.Exported.{exported}
 use Rattle.station.proofs.Amounts.{total_answer_small}
 use Rattle.packing.specs.Packing.{SmallAmount}
 use mathlib.Core.Path.{sym, subst}
-use borrow.Author.Rules.{rules}
 use Rattle.station.proofs.lirvedd_total.Goals as goal
 
 pub pack_totalled-requires : goal.pack_totalled-requires

@@ -1,4 +1,3 @@
-use borrow.Author.Rules.{rules}
 use Rattle.round.proofs.ReadLaws.{known}
 use mathlib.Core.Path.{refl}
 use Rattle.sender.proofs.SenderLaws.{due_now, few_now, whole_given}
@@ -9,37 +8,31 @@ use Rattle.sender.proofs.send_sound.Goals as goal
 
 pub send_silence-requires : goal.send_silence-requires
 send_silence-requires c =
-    let s = c in
-    (s.requires.0, none_due s.requires.0 (omega arith))
+    (c.requires.0, none_due c.requires.0 (omega arith))
 
 pub returns-then-round-eq0 : goal.returns-then-round-eq0
 returns-then-round-eq0 c =
-    let s = c in
-    silence_says s.requires.0 (none_sends s.requires.0 (omega arith)) c.send_silence.ensures
+    silence_says c.requires.0 (none_sends c.requires.0 (omega arith)) c.send_silence.ensures
 
 pub reach_of-reach-requires : goal.reach_of-reach-requires
 reach_of-reach-requires c =
-    let s = c in
-    (s.requires.0.time, multiples _ _ _ s.requires.0 s.requires.1)
+    (c.requires.0.time, multiples _ _ _ c.requires.0 c.requires.1)
 
 pub overflow_cast-expiring : goal.overflow_cast-expiring
 overflow_cast-expiring c =
-    let s = c in
-    omega (arith, few_now _ _ _ s.requires.0 s.requires.1)
+    omega (arith, few_now _ _ _ c.requires.0 c.requires.1)
 
 pub send_all-requires : goal.send_all-requires
 send_all-requires c =
-    let s = c in (
-      whole_given _ _ _ _ s.requires.0 (λ z. omega (arith, z)) s.requires.1 c.reach_of-reach.ensures (omega arith),
-      due_now _ _ _ s.requires.0 s.requires.1 _ refl,
+    (
+      whole_given _ _ _ _ c.requires.0 (λ z. omega (arith, z)) c.requires.1 c.reach_of-reach.ensures (omega arith),
+      due_now _ _ _ c.requires.0 c.requires.1 _ refl,
     )
 
 pub send_few-requires : goal.send_few-requires
 send_few-requires c =
-    let s = c in
-    (s.requires.0, s.requires.1, c.reach_of-reach.ensures, (λ z. omega (arith, z)), due_now _ _ _ s.requires.0 s.requires.1 _ refl, omega arith)
+    (c.requires.0, c.requires.1, c.reach_of-reach.ensures, (λ z. omega (arith, z)), due_now _ _ _ c.requires.0 c.requires.1 _ refl, omega arith)
 
 pub send_many-requires : goal.send_many-requires
 send_many-requires c =
-    let s = c in
-    (s.requires.0, s.requires.1, c.reach_of-reach.ensures, (λ z. omega (arith, z)), due_now _ _ _ s.requires.0 s.requires.1 _ refl, omega (arith, (known _ _ s.requires.0).used, (known _ _ s.requires.0).small))
+    (c.requires.0, c.requires.1, c.reach_of-reach.ensures, (λ z. omega (arith, z)), due_now _ _ _ c.requires.0 c.requires.1 _ refl, omega (arith, (known _ _ c.requires.0).used, (known _ _ c.requires.0).small))

@@ -5,21 +5,18 @@ use Rattle.theory.specs.Outcomes.{says_refused}
 use Rattle.rules.specs.Calls.{sending, acting, step}
 use native.Mathlib.Omega.{arith}
 use mathlib.Core.Path.{◌≡◌, sym, ap, ◌∙◌}
-use borrow.Author.Rules.{rules}
 use Rattle.sending.proofs.send_in.Goals as goal
 
 pub returns-then-refusal-gt0 : goal.returns-then-refusal-gt0
 returns-then-refusal-gt0 c =
-    let s = c in
-    says_refused (acting sending) s.args.table.now _
-    (omega (arith, sending_by s.args.table.now s.args.round s.requires.0 s.requires.1, c.sending_refusal-refusal.ensures)) (λ z. omega (arith, z))
+    says_refused (acting sending) c.args.table.now _
+    (omega (arith, sending_by c.args.table.now c.args.round c.requires.0 c.requires.1, c.sending_refusal-refusal.ensures)) (λ z. omega (arith, z))
 
 pub send_sound-requires : goal.send_sound-requires
 send_sound-requires c =
     let free : sending_number c.args.round ≡ 0 = omega (arith, c.sending_refusal-refusal.ensures) in
-    let s = c in
     let time = send_accepted _ _ free in
-    (record { sound = s.requires.0; head = s.requires.1; time = time }, s.requires.2 time)
+    (record { sound = c.requires.0; head = c.requires.1; time = time }, c.requires.2 time)
 
 pub returns : goal.returns
 returns c = (

@@ -1,6 +1,5 @@
 -- `step_of` meets its contract.
 use Rattle.sending.proofs.Went.{step_leap, step_ordinary}
-use borrow.Author.Rules.{rules}
 use Rattle.sending.proofs.step_of.Goals as goal
 
 pub returns-then-went : goal.returns-then-went

@@ -1,4 +1,6 @@
 // The complete lines of a buffer answered one after another: their calls on the table, their replies in a lent buffer.
+#![tactic(auto)]
+
 ghost use Rattle.std.specs.Prelude.{◌≡◌, false, ◌+◌, ◌*◌, ◌≤◌, length};
 ghost use Rattle.rules.specs.Lines.{reply_ratio, reply_room};
 ghost use Rattle.answering.specs.Answering.{Answers};

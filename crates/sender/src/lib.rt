@@ -1,4 +1,6 @@
 // Sending a slot of a sound table: nothing, the row that goes where all are in the plan, or what goes where some are left out.
+#![tactic(auto)]
+
 ghost use Rattle.rules.specs.Table.{round_in};
 ghost use Rattle.round.specs.Rows.{Ready};
 ghost use Rattle.round.specs.Buckets.{Counted};

@@ -1,4 +1,6 @@
 // Sending a slot: refusals 2, 3 and 5.
+#![tactic(auto)]
+
 ghost use Rattle.std.specs.Prelude.{◌≡◌};
 ghost use Rattle.rules.specs.Calls.{sending, acting, Says};
 ghost use Rattle.round.specs.Judge.{ScanAsks, ScanSays};

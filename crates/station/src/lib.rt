@@ -1,4 +1,6 @@
 // The C boundary: the calls over numbers and the lent table, each reply packed into one number by docs/REPLIES.md.
+#![tactic(auto)]
+
 ghost use Rattle.rules.specs.Rows.{framed, until};
 ghost use Rattle.rules.specs.Calls.{taking, sending, sealing, marking, totalling, opening, acting, asking};
 ghost use Rattle.rules.specs.Looking.{substitute_answer};

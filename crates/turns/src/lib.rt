@@ -1,4 +1,6 @@
 // A command's turn: its call on the table, and the line of the reply.
+#![tactic(auto)]
+
 ghost use Rattle.std.specs.Prelude.{◌≤◌, length};
 ghost use Rattle.rules.specs.Lines.{reply_room};
 ghost use Rattle.forms.specs.Cases.{of_command};

@@ -1,9 +1,7 @@
 -- `buckets::reach_of` meets its contract: the loop is `Levels`.
 use mathlib.Core.Path.{refl}
-use Prim.Native.Nat.{suc, ◌-◌}
-use borrow.Author.Rules.{rules}
+use Prim.Native.Nat.{◌-◌}
 use native.Mathlib.Omega.{arith}
-use Rattle.buckets.specs.Reach.{Levels}
 use Rattle.buckets.proofs.LevelLaws.{most_fits, sum_fits, level_step, level_end}
 use Rattle.buckets.proofs.reach_of.Goals as goal
 

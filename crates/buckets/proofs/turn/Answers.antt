@@ -1,5 +1,4 @@
 -- `buckets::turn` meets its contract.
-use borrow.Author.Rules.{rules}
 use Rattle.buckets.proofs.LevelLaws.{pass_four}
 use Rattle.buckets.proofs.turn.Goals as goal
 

@@ -1,6 +1,6 @@
 -- `chain::lower_marks` meets its contract.
 use borrow.Author.Rules.{rules}
-use Rattle.chain.proofs.MarkLaws.{Lowering, lowering_start, lowering_step, lowering_end}
+use Rattle.chain.proofs.MarkLaws.{lowering_start, lowering_step, lowering_end}
 use Rattle.chain.proofs.lower_marks.Goals as goal
 
 pub loop-k-init : goal.loop-k-init

@@ -1,6 +1,5 @@
 -- `chain::lower_marks` meets its contract.
-use borrow.Author.Rules.{rules}
-use Rattle.chain.proofs.MarkLaws.{Lowering, lowering_start, lowering_step, lowering_end}
+use Rattle.chain.proofs.MarkLaws.{Lowering}
 use Rattle.chain.proofs.lower_marks.Given as goal
 
 abbrev pub invariant-loop-k : goal.invariant-loop-k

@@ -1,6 +1,6 @@
 -- `chain::segment_by` meets its contract.
 use borrow.Author.Rules.{rules}
-use Rattle.chain.proofs.MarkLaws.{Walking, walk_start, walk_some, walk_step, walk_end}
+use Rattle.chain.proofs.MarkLaws.{walk_start, walk_some, walk_step, walk_end}
 use Rattle.chain.proofs.segment_by.Goals as goal
 
 pub loop-k-init : goal.loop-k-init

@@ -1,6 +1,5 @@
 -- `chain::segment_by` meets its contract.
-use borrow.Author.Rules.{rules}
-use Rattle.chain.proofs.MarkLaws.{Walking, walk_start, walk_some, walk_step, walk_end}
+use Rattle.chain.proofs.MarkLaws.{Walking}
 use Rattle.chain.proofs.segment_by.Given as goal
 
 abbrev pub invariant-loop-k : goal.invariant-loop-k

@@ -1,8 +1,7 @@
 -- `chain::shift_chain` meets its contract.
-use borrow.Author.Rules.{rules}
 use Prim.Native.Nat.{◌-◌}
 use Rattle.rules.specs.Table.{round_in}
-use Rattle.chain.proofs.ShiftLaws.{Linking, shift_none, shift_start, shift_named, shift_long, shift_fair, shift_again, shift_end}
+use Rattle.chain.proofs.ShiftLaws.{Linking}
 use Rattle.chain.proofs.shift_chain.Given as goal
 
 abbrev pub invariant-loop-k : goal.invariant-loop-k

@@ -1,6 +1,5 @@
 -- `checks::marking_refusal` meets its contract: each number where the tests before it do not hold.
 use mathlib.Core.Path.{sym, ◌∙◌}
-use borrow.Author.Rules.{rules}
 use Rattle.checks.proofs.marking_refusal.Goals as goal
 
 pub returns-then-is_over : goal.returns-then-is_over

@@ -1,7 +1,7 @@
 -- `closing::close_rows` meets its contract.
 use Prim.Native.Nat.{◌-◌}
 use borrow.Author.Rules.{rules}
-use Rattle.closing.proofs.CloseLaws.{Runs, search_start, runs_start, some_left, search_more, run_room, runs_more, runs_end}
+use Rattle.closing.proofs.CloseLaws.{search_start, runs_start, some_left, search_more, run_room, runs_more, runs_end}
 use Rattle.closing.proofs.close_rows.Goals as goal
 
 pub next_leaving-i-requires : goal.next_leaving-i-requires
@@ -18,25 +18,19 @@ next_leaving-next-requires c = search (search_more, rules)
 
 pub move_run-requires : goal.move_run-requires
 move_run-requires c =
-    let l = c in
-    let s = l in
-    let r = run_room s.requires.0 s.requires.1 s.requires.2 l.loop-i.invariant (search rules) c.left_behind-left.ensures
+    let r = run_room c.requires.0 c.requires.1 c.requires.2 c.loop-i.invariant (search rules) c.left_behind-left.ensures
     c.next_leaving-next.ensures in
     search rules
 
 pub overflow_add-kept : goal.overflow_add-kept
 overflow_add-kept c =
-    let l = c in
-    let s = l in
-    let r = run_room s.requires.0 s.requires.1 s.requires.2 l.loop-i.invariant (search rules) c.left_behind-left.ensures
+    let r = run_room c.requires.0 c.requires.1 c.requires.2 c.loop-i.invariant (search rules) c.left_behind-left.ensures
     c.next_leaving-next.ensures in
     search rules
 
 pub loop-i-preserved : goal.loop-i-preserved
 loop-i-preserved c =
-    let l = c in
-    let s = l in
-    runs_more s.requires.0 s.requires.1 s.requires.2 l.loop-i.invariant (search rules) c.left_behind-left.ensures
+    runs_more c.requires.0 c.requires.1 c.requires.2 c.loop-i.invariant (search rules) c.left_behind-left.ensures
     c.next_leaving-next.ensures (search rules) (search rules)
 
 pub shape_of-table : goal.shape_of-table

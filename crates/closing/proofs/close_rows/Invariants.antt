@@ -1,7 +1,6 @@
 -- `closing::close_rows` meets its contract.
 use Prim.Native.Nat.{◌-◌}
-use borrow.Author.Rules.{rules}
-use Rattle.closing.proofs.CloseLaws.{Runs, search_start, runs_start, some_left, search_more, run_room, runs_more, runs_end}
+use Rattle.closing.proofs.CloseLaws.{Runs}
 use Rattle.closing.proofs.close_rows.Given as goal
 
 abbrev pub invariant-loop-i : goal.invariant-loop-i

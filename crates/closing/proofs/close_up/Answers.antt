@@ -9,32 +9,27 @@ use Rattle.closing.proofs.close_up.Goals as goal
 
 pub row_at-end-requires : goal.row_at-end-requires
 row_at-end-requires c =
-    let s = c in
-    (kept_few c.close_rows-kept.ensures s.requires.0 s.requires.1).1
+    (kept_few c.close_rows-kept.ensures c.requires.0 c.requires.1).1
 
 pub row_at-from-requires : goal.row_at-from-requires
 row_at-from-requires c =
-    let s = c in
-    omega (arith, kept_few c.close_rows-kept.ensures s.requires.0 s.requires.1)
+    omega (arith, kept_few c.close_rows-kept.ensures c.requires.0 c.requires.1)
 
 pub slice_bounds-clear-end : goal.slice_bounds-clear-end
 slice_bounds-clear-end c =
-    let s = c in
-    omega (arith, kept_few c.close_rows-kept.ensures s.requires.0 s.requires.1, c.row_at-end.ensures)
+    omega (arith, kept_few c.close_rows-kept.ensures c.requires.0 c.requires.1, c.row_at-end.ensures)
 
 pub slice_bounds-clear-end-2 : goal.slice_bounds-clear-end-2
 slice_bounds-clear-end-2 c =
-    let s = c in
     sym (length-take-le _ _ (omega (
       arith,
-      kept_few c.close_rows-kept.ensures s.requires.0 s.requires.1,
+      kept_few c.close_rows-kept.ensures c.requires.0 c.requires.1,
       c.row_at-end.ensures,
     )))
 
 pub clear-requires : goal.clear-requires
 clear-requires c =
-    let s = c in
-    let k = kept_few c.close_rows-kept.ensures s.requires.0 s.requires.1 in
+    let k = kept_few c.close_rows-kept.ensures c.requires.0 c.requires.1 in
     omega (
       arith,
       k,
@@ -46,13 +41,11 @@ clear-requires c =
 
 pub overflow_add-round : goal.overflow_add-round
 overflow_add-round c =
-    let s = c in omega (arith, slot_small s.requires.0 s.requires.1)
+    omega (arith, slot_small c.requires.0 c.requires.1)
 
 pub overflow_cast-kept : goal.overflow_cast-kept
 overflow_cast-kept c =
-    let closed = c in
-    let entry = closed in
-    omega (arith, kept_few closed.close_rows-kept.ensures entry.requires.0 entry.requires.1)
+    omega (arith, kept_few c.close_rows-kept.ensures c.requires.0 c.requires.1)
 
 pub returns : goal.returns
 returns c = search (closed_written, rules)

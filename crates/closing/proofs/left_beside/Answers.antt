@@ -6,18 +6,15 @@ use Rattle.closing.proofs.left_beside.Goals as goal
 
 pub due_in-requires : goal.due_in-requires
 due_in-requires c =
-    let s = c in
-    gone_room s.requires.0 s.requires.1 s.requires.2 c.if-gone-round.true
+    gone_room c.requires.0 c.requires.1 c.requires.2 c.if-gone-round.true
 
 pub overflow_sub-result : goal.overflow_sub-result
 overflow_sub-result c =
-    let s = c in
-    let d = beside_less s.requires.0 s.requires.1 s.requires.2 s.requires.3 (search rules) (search rules) in omega (arith, d)
+    let d = beside_less c.requires.0 c.requires.1 c.requires.2 c.requires.3 (search rules) (search rules) in omega (arith, d)
 
 pub returns-then-due_in-round : goal.returns-then-due_in-round
 returns-then-due_in-round c =
-    let s = c in
-    let d = beside_less s.requires.0 s.requires.1 s.requires.2 s.requires.3 (search rules) (search rules) in omega (arith, d)
+    let d = beside_less c.requires.0 c.requires.1 c.requires.2 c.requires.3 (search rules) (search rules) in omega (arith, d)
 
 pub returns-else-due_in-round : goal.returns-else-due_in-round
 returns-else-due_in-round c = search (beside_most, rules)

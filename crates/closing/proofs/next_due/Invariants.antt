@@ -1,8 +1,6 @@
 -- `closing::next_due` meets its contract.
 use Prim.Native.Nat.{◌-◌}
-use borrow.Author.Rules.{rules}
 use Rattle.closing.specs.Close.{NoneDue}
-use Rattle.closing.proofs.SearchLaws.{none_start, none_more, next_found, next_none}
 use Rattle.closing.proofs.next_due.Given as goal
 
 abbrev pub invariant-loop-i : goal.invariant-loop-i

@@ -8,7 +8,7 @@ returns-then-left-eq0 c = search (leaving_last, rules)
 
 pub next_due-requires : goal.next_due-requires
 next_due-requires c =
-    let s = c in search_room s.requires c.search_end-end.ensures
+    search_room c.requires c.search_end-end.ensures
 
 pub returns : goal.returns
 returns c = search (leaving_found, rules)

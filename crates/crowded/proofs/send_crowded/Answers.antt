@@ -5,5 +5,4 @@ use Rattle.crowded.proofs.send_crowded.Goals as goal
 
 pub send_led-requires : goal.send_led-requires
 send_led-requires c =
-    let s = c in
-    led _ _ _ _ _ _ _ _ _ s.requires _ _ _ _ (λ u. search (is_asked, rules)) c.plan_of-planned.ensures _ _ (search rules) (search rules)
+    led _ _ _ _ _ _ _ _ _ c.requires _ _ _ _ (λ u. search (is_asked, rules)) c.plan_of-planned.ensures _ _ (search rules) (search rules)

@@ -1,4 +1,3 @@
-use borrow.Author.Rules.{rules}
 use native.Mathlib.Omega.{arith}
 use Rattle.plan.proofs.LentLaws.{ones_front, ones_long}
 use Rattle.crowded.proofs.CrowdedLaws.{crowded}
@@ -6,10 +5,8 @@ use Rattle.crowded.proofs.send_few.Goals as goal
 
 pub slice_bounds-send_crowded-end-2 : goal.slice_bounds-send_crowded-end-2
 slice_bounds-send_crowded-end-2 c =
-    let s = c in
-    ones_long s.args.round.used 32 s.requires.5
+    ones_long c.args.round.used 32 c.requires.5
 
 pub send_crowded-requires : goal.send_crowded-requires
 send_crowded-requires c =
-    let s = c in
-    rw (ones_front s.args.round.used 32 s.requires.5) (crowded _ _ _ _ s.requires.0 s.requires.1 s.requires.2 s.requires.3 34 (omega (arith, s.requires.5)) _ s.requires.4)
+    rw (ones_front c.args.round.used 32 c.requires.5) (crowded _ _ _ _ c.requires.0 c.requires.1 c.requires.2 c.requires.3 34 (omega (arith, c.requires.5)) _ c.requires.4)

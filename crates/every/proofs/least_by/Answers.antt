@@ -26,5 +26,4 @@ loop-i-preserved c =
     )
 
 pub returns : goal.returns
-returns c = let s = c in
-    least_end (round_in s.args.table.now) _ _ _ (omega (arith, (known _ _ s.requires).used)) c.loop-i.invariant.1
+returns c = least_end (round_in c.args.table.now) _ _ _ (omega (arith, (known _ _ c.requires).used)) c.loop-i.invariant.1

@@ -41,5 +41,4 @@ loop-i-preserved c =
     )
 
 pub returns : goal.returns
-returns c = let s = c in
-    count_end (round_in s.args.table.now) _ _ _ _ (omega (arith, (known _ _ s.requires.0).used)) s.requires.2 c.loop-i.invariant.1
+returns c = count_end (round_in c.args.table.now) _ _ _ _ (omega (arith, (known _ _ c.requires.0).used)) c.requires.2 c.loop-i.invariant.1

@@ -1,11 +1,7 @@
 -- `first::first_of_all` meets its contract: the loop is `Leads`.
 use Prim.Native.Nat.{◌-◌, ◌≤◌}
-use borrow.Author.Rules.{rules}
-use native.Mathlib.Omega.{arith}
 use Rattle.rules.specs.Table.{round_in}
 use Rattle.first.specs.First.{Leads}
-use Rattle.round.proofs.ReadLaws.{known}
-use Rattle.first.proofs.AllLaws.{first_alone, lead_start, lead_passes, lead_sees, lead_end}
 use Rattle.first.proofs.first_of_all.Given as goal
 
 abbrev pub invariant-loop-i : goal.invariant-loop-i

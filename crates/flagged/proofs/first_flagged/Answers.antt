@@ -2,8 +2,7 @@
 use Prim.Native.Nat.{◌-◌}
 use borrow.Author.Rules.{rules}
 use native.Mathlib.Omega.{arith}
-use lib.ListN.{length}
-use Rattle.flagged.proofs.PlannedLaws.{flag_there, flag_not, Looking, looking_start, looking_there, looking_on, looking_found}
+use Rattle.flagged.proofs.PlannedLaws.{flag_there, flag_not, looking_start, looking_there, looking_on, looking_found}
 use Rattle.flagged.proofs.first_flagged.Goals as goal
 
 pub loop-i-init : goal.loop-i-init

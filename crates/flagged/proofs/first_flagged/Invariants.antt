@@ -1,9 +1,7 @@
 -- `flagged::first_flagged` meets its contract: the loop is `Looking`.
 use Prim.Native.Nat.{◌-◌}
-use borrow.Author.Rules.{rules}
-use native.Mathlib.Omega.{arith}
 use lib.ListN.{length}
-use Rattle.flagged.proofs.PlannedLaws.{flag_there, flag_not, Looking, looking_start, looking_there, looking_on, looking_found}
+use Rattle.flagged.proofs.PlannedLaws.{Looking}
 use Rattle.flagged.proofs.first_flagged.Given as goal
 
 abbrev pub invariant-loop-i : goal.invariant-loop-i

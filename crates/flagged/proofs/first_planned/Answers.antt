@@ -3,7 +3,7 @@ use mathlib.Core.Path.{refl}
 use Prim.Native.Nat.{◌-◌}
 use borrow.Author.Rules.{rules}
 use native.Mathlib.Omega.{arith}
-use Rattle.flagged.proofs.PlannedLaws.{lent_placed, lent_flagged, flag_there, flag_not, key_there, flag_within, found_by, Choosing, choosing_start, choosing_later, choosing_end, choosing_sees, choosing_passes, says_first}
+use Rattle.flagged.proofs.PlannedLaws.{lent_placed, lent_flagged, flag_there, flag_not, key_there, flag_within, found_by, choosing_start, choosing_later, choosing_end, choosing_sees, choosing_passes, says_first}
 use Rattle.flagged.proofs.first_planned.Goals as goal
 
 pub first_flagged-i-requires : goal.first_flagged-i-requires
@@ -41,13 +41,11 @@ bounds-flags-row_of c =
 
 pub loop-i-preserved-then-flags-row_of-eq1 : goal.loop-i-preserved-then-flags-row_of-eq1
 loop-i-preserved-then-flags-row_of-eq1 c =
-    let s = c in
-    choosing_sees (lent_placed s.requires) c.loop-i.invariant (search rules) (omega (arith, c.due_of.ensures)) (flag_there s.args.flags.now c.row_of-in-loop-i.ensures (omega arith)) (omega (arith, c.lesser-first.ensures))
+    choosing_sees (lent_placed c.requires) c.loop-i.invariant (search rules) (omega (arith, c.due_of.ensures)) (flag_there c.args.flags.now c.row_of-in-loop-i.ensures (omega arith)) (omega (arith, c.lesser-first.ensures))
 
 pub loop-i-preserved : goal.loop-i-preserved
 loop-i-preserved c =
-    let s = c in
-    choosing_passes (lent_placed s.requires) c.loop-i.invariant (search rules) (omega (arith, c.due_of.ensures)) (flag_not s.args.flags.now c.row_of-in-loop-i.ensures (λ z. omega (arith, z)))
+    choosing_passes (lent_placed c.requires) c.loop-i.invariant (search rules) (omega (arith, c.due_of.ensures)) (flag_not c.args.flags.now c.row_of-in-loop-i.ensures (λ z. omega (arith, z)))
 
 pub returns : goal.returns
 returns c =

@@ -1,5 +1,4 @@
 -- `head::head_is_sound` meets its contract: the tests are those of the head's judge.
-use borrow.Author.Rules.{rules}
 use Rattle.head.proofs.HeadLaws.{head_is}
 use Rattle.head.proofs.head_is_sound.Goals as goal
 

@@ -2,9 +2,8 @@
 use mathlib.Core.Path.{refl}
 use native.Mathlib.Omega.{arith}
 use borrow.Author.Rules.{rules}
-use borrow.Author.Tests.{not-true, not-false}
 use lib.ListN.{length-take, length-drop}
-use Rattle.kinds.proofs.KindLaws.{KindsLeft, kinds_on, kinds_off, kinds_all}
+use Rattle.kinds.proofs.KindLaws.{kinds_on, kinds_off, kinds_all}
 use Rattle.kinds.proofs.kinds_are_good.Goals as goal
 
 pub loop-left-init : goal.loop-left-init

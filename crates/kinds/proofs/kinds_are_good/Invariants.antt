@@ -1,10 +1,5 @@
 -- `kinds::kinds_are_good` meets its contract. The invariant: what is said of all kinds is said of those left (`KindsLeft`).
-use mathlib.Core.Path.{refl}
-use native.Mathlib.Omega.{arith}
-use borrow.Author.Rules.{rules}
-use borrow.Author.Tests.{not-true, not-false}
-use lib.ListN.{length-take, length-drop}
-use Rattle.kinds.proofs.KindLaws.{KindsLeft, kinds_on, kinds_off, kinds_all}
+use Rattle.kinds.proofs.KindLaws.{KindsLeft}
 use Rattle.kinds.proofs.kinds_are_good.Given as goal
 
 abbrev pub invariant-loop-left : goal.invariant-loop-left

@@ -14,20 +14,16 @@ shift_chain-requires c = search (swap_chained, rules)
 
 pub offset_bounds-lows-to : goal.offset_bounds-lows-to
 offset_bounds-lows-to c =
-    let marked = c in
-    let walked = marked in
-    let h = swap_low walked.requires.0 walked.due_of.ensures
-    walked.segment_by-to.ensures in
+    let h = swap_low c.requires.0 c.due_of.ensures
+    c.segment_by-to.ensures in
     let to-by = h.0 in
     let own-fits = h.1 in
     search rules
 
 pub bounds-lows-to : goal.bounds-lows-to
 bounds-lows-to c =
-    let marked = c in
-    let walked = marked in
-    let h = swap_place walked.requires.0 walked.due_of.ensures
-    walked.segment_by-to.ensures marked.lower_marks.ensures in
+    let h = swap_place c.requires.0 c.due_of.ensures
+    c.segment_by-to.ensures c.lower_marks.ensures in
     let to-by = h.0 in
     let own-fits = h.1 in
     search rules
@@ -37,31 +33,19 @@ write_weight-requires c = search (swap_small, swap_there, rules)
 
 pub close_up-requires : goal.close_up-requires
 close_up-requires c =
-    let written = c in
-    let named = written in
-    let shifted = named in
-    let marked = shifted in
-    let walked = marked in
-    let entry = walked in
     let good =
-    swap_good entry.requires.0 walked.due_of.ensures walked.segment_by-to.ensures marked.lower_marks.ensures
-    shifted.shift_chain.ensures named.row_of.ensures written.write_weight.ensures (search rules) in
-    let used = leap_used entry.requires.0.leaps walked.row_of-sent.ensures in (
+    swap_good c.requires.0 c.due_of.ensures c.segment_by-to.ensures c.lower_marks.ensures
+    c.shift_chain.ensures c.row_of.ensures c.write_weight.ensures (search rules) in
+    let used = leap_used c.requires.0.leaps c.row_of-sent.ensures in (
       good.0,
       good.1,
       search rules,
-      swap_due entry.requires.0 walked.due_of.ensures walked.segment_by-to.ensures marked.lower_marks.ensures
-          shifted.shift_chain.ensures named.row_of.ensures written.write_weight.ensures (search rules) entry.requires.1,
+      swap_due c.requires.0 c.due_of.ensures c.segment_by-to.ensures c.lower_marks.ensures
+          c.shift_chain.ensures c.row_of.ensures c.write_weight.ensures (search rules) c.requires.1,
     )
 
 pub returns : goal.returns
 returns c =
-    let written = c in
-    let named = written in
-    let shifted = named in
-    let marked = shifted in
-    let walked = marked in
-    let entry = walked in
-    swap_says entry.requires.0 walked.due_of.ensures walked.segment_by-to.ensures marked.lower_marks.ensures
-    shifted.shift_chain.ensures named.row_of.ensures written.write_weight.ensures (search rules)
-    walked.row_of-sent.ensures walked.went_of-went.ensures c.close_up.ensures
+    swap_says c.requires.0 c.due_of.ensures c.segment_by-to.ensures c.lower_marks.ensures
+    c.shift_chain.ensures c.row_of.ensures c.write_weight.ensures (search rules)
+    c.row_of-sent.ensures c.went_of-went.ensures c.close_up.ensures

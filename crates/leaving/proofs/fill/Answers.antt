@@ -1,6 +1,6 @@
 -- `fill`: the loop has the first keys in the heap.
 use Prim.Native.Nat.{◌-◌}
-use Rattle.leaving.proofs.GoingLaws.{Filling, filling_none, filling_in, filling_rise, filling_more, filling_end}
+use Rattle.leaving.proofs.GoingLaws.{filling_none, filling_in, filling_rise, filling_more, filling_end}
 use borrow.Author.Rules.{rules}
 use Rattle.leaving.proofs.fill.Goals as goal
 

@@ -1,8 +1,7 @@
 -- `first_crowded`: no place before it crowds.
 use Prim.Native.Nat.{◌-◌}
 use lib.ListN.{length}
-use Rattle.leaving.proofs.GoingLaws.{Looking, looking_none, looking_in, looking_from, looking_more, looking_end}
-use borrow.Author.Rules.{rules}
+use Rattle.leaving.proofs.GoingLaws.{Looking}
 use Rattle.leaving.proofs.first_crowded.Given as goal
 
 abbrev pub invariant-loop-place : goal.invariant-loop-place

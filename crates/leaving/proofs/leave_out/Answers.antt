@@ -1,6 +1,5 @@
 -- `leave_out`: rows crowd somewhere, since some are too many.
 use Rattle.leaving.proofs.GoingLaws.{crowd_met}
-use borrow.Author.Rules.{rules}
 use Rattle.leaving.proofs.leave_out.Goals as goal
 
 pub first_crowded-first-requires : goal.first_crowded-first-requires

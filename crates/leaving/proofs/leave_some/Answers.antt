@@ -1,9 +1,9 @@
 -- `leave_some`: both loops are in the midst of the sweep, with the keys of the rows kept in the heap.
-use mathlib.Core.Path.{◌≡◌, refl, ◌∙◌}
-use Prim.Native.Nat.{◌+◌, ◌-◌, ◌<◌}
-use lib.ListN.{length, length-set}
+use mathlib.Core.Path.{refl, ◌∙◌}
+use Prim.Native.Nat.{◌-◌}
+use lib.ListN.{length-set}
 use Rattle.leaving.proofs.GoingLaws.{fills}
-use Rattle.leaving.proofs.LeaveLaws.{Sweeping, sweeping_start, sweeping_in, sweeping_from, sweeping_rise, sweeping_joins, sweeping_leaver, sweeping_row}
+use Rattle.leaving.proofs.LeaveLaws.{sweeping_start, sweeping_in, sweeping_from, sweeping_rise, sweeping_joins, sweeping_leaver, sweeping_row}
 use Rattle.leaving.proofs.LeaveLaws.{sweeping_fits, sweeping_leaves, sweeping_lacks, sweeping_end}
 use borrow.Author.Rules.{rules}
 use Rattle.leaving.proofs.leave_some.Goals as goal
@@ -74,10 +74,9 @@ loop-size-smaller c =
 
 pub loop-size-preserved : goal.loop-size-preserved
 loop-size-preserved c =
-    let t = c in
-    let i = t.loop-size.invariant in
+    let i = c.loop-size.invariant in
     let r = c.rise.ensures in
-    (sweeping_joins _ _ _ _ _ _ _ _ _ _ i.0 i.1 _ refl _ t.ahead_of.ensures _ t.loop-size-test.true r, i.1, r.long ∙ i.2)
+    (sweeping_joins _ _ _ _ _ _ _ _ _ _ i.0 i.1 _ refl _ c.ahead_of.ensures _ c.loop-size-test.true r, i.1, r.long ∙ i.2)
 
 pub offset_bounds-keys-place-in-loop-left : goal.offset_bounds-keys-place-in-loop-left
 offset_bounds-keys-place-in-loop-left c =
@@ -92,9 +91,8 @@ bounds-keys-place-in-loop-left c =
 
 pub leaver-out-requires : goal.leaver-out-requires
 leaver-out-requires c =
-    let t = c in
-    let i = t.loop-size.invariant in
-    sweeping_leaver _ _ _ _ _ _ _ _ _ _ i.0 i.1 _ refl _ t.ahead_of.ensures t.loop-size-test.false
+    let i = c.loop-size.invariant in
+    sweeping_leaver _ _ _ _ _ _ _ _ _ _ i.0 i.1 _ refl _ c.ahead_of.ensures c.loop-size-test.false
 
 pub overflow_add-place-in-loop-left : goal.overflow_add-place-in-loop-left
 overflow_add-place-in-loop-left c =
@@ -104,27 +102,24 @@ overflow_add-place-in-loop-left c =
 
 pub bounds-flags-row_of : goal.bounds-flags-row_of
 bounds-flags-row_of c =
-    let t = c in
-    let i = t.loop-size.invariant in
+    let i = c.loop-size.invariant in
     let leaver = c.leaver-out in
-    sweeping_row _ _ _ _ _ _ _ _ _ _ i.0 i.1 _ refl _ t.ahead_of.ensures t.loop-size-test.false _ _ leaver.ensures _ c.row_of.ensures
+    sweeping_row _ _ _ _ _ _ _ _ _ _ i.0 i.1 _ refl _ c.ahead_of.ensures c.loop-size-test.false _ _ leaver.ensures _ c.row_of.ensures
 
 pub overflow_add-light : goal.overflow_add-light
 overflow_add-light c =
-    let t = c in
-    let i = t.loop-size.invariant in
+    let i = c.loop-size.invariant in
     let leaver = c.leaver-out in
-    let f = sweeping_fits _ _ _ _ _ _ _ _ _ _ i.0 i.1 _ refl _ t.ahead_of.ensures t.loop-size-test.false _ _ leaver.ensures _ c.lack_of-light.ensures in
+    let f = sweeping_fits _ _ _ _ _ _ _ _ _ _ i.0 i.1 _ refl _ c.ahead_of.ensures c.loop-size-test.false _ _ leaver.ensures _ c.lack_of-light.ensures in
     search rules
 
 pub loop-left-preserved : goal.loop-left-preserved
 loop-left-preserved c =
-    let t = c in
-    let i = t.loop-size.invariant in
-    let l = t.loop-left.invariant in
+    let i = c.loop-size.invariant in
+    let l = c.loop-left.invariant in
     let leaver = c.leaver-out in
     let row_of = c.row_of in (
-      sweeping_leaves _ _ _ _ _ _ _ _ _ _ i.0 i.1 _ refl _ t.ahead_of.ensures t.loop-size-test.false _ _ leaver.ensures _ _ _ leaver.auto.heap
+      sweeping_leaves _ _ _ _ _ _ _ _ _ _ i.0 i.1 _ refl _ c.ahead_of.ensures c.loop-size-test.false _ _ leaver.ensures _ _ _ leaver.auto.heap
           row_of.ensures c.lack_of-light.ensures refl,
       simp length-set l.1,
       leaver.auto.heap ∙ i.2 ∙ l.2,

@@ -1,11 +1,8 @@
 -- `leave_some`: both loops are in the midst of the sweep, with the keys of the rows kept in the heap.
-use mathlib.Core.Path.{◌≡◌, refl, ◌∙◌}
+use mathlib.Core.Path.{◌≡◌}
 use Prim.Native.Nat.{◌+◌, ◌-◌, ◌<◌}
-use lib.ListN.{length, length-set}
-use Rattle.leaving.proofs.GoingLaws.{fills}
-use Rattle.leaving.proofs.LeaveLaws.{Sweeping, sweeping_start, sweeping_in, sweeping_from, sweeping_rise, sweeping_joins, sweeping_leaver, sweeping_row}
-use Rattle.leaving.proofs.LeaveLaws.{sweeping_fits, sweeping_leaves, sweeping_lacks, sweeping_end}
-use borrow.Author.Rules.{rules}
+use lib.ListN.{length}
+use Rattle.leaving.proofs.LeaveLaws.{Sweeping}
 use Rattle.leaving.proofs.leave_some.Given as goal
 
 abbrev pub invariant-loop-size : goal.invariant-loop-size

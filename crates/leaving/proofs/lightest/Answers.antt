@@ -1,8 +1,6 @@
 -- `lightest`: no place before crowds, and the loop has the greatest key so far.
-use Prim.Native.Nat.{◌+◌, ◌-◌}
-use lib.ListN.{length}
-use Rattle.leaving.specs.Sweep.{Greatest}
-use Rattle.leaving.proofs.GoingLaws.{Looking, looking_none, looking_in, looking_from, looking_more, greatest_first, greatest_more, lightest_in, lightest_end}
+use Prim.Native.Nat.{◌-◌}
+use Rattle.leaving.proofs.GoingLaws.{looking_none, looking_in, looking_from, looking_more, greatest_first, greatest_more, lightest_in, lightest_end}
 use borrow.Author.Rules.{rules}
 use Rattle.leaving.proofs.lightest.Goals as goal
 

@@ -2,8 +2,7 @@
 use Prim.Native.Nat.{◌+◌, ◌-◌}
 use lib.ListN.{length}
 use Rattle.leaving.specs.Sweep.{Greatest}
-use Rattle.leaving.proofs.GoingLaws.{Looking, looking_none, looking_in, looking_from, looking_more, greatest_first, greatest_more, lightest_in, lightest_end}
-use borrow.Author.Rules.{rules}
+use Rattle.leaving.proofs.GoingLaws.{Looking}
 use Rattle.leaving.proofs.lightest.Given as goal
 
 abbrev pub invariant-loop-at : goal.invariant-loop-at

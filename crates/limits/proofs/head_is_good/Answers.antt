@@ -1,5 +1,4 @@
 -- `limits::head_is_good` meets its contract: the tests are those of the head's numbers.
-use borrow.Author.Rules.{rules}
 use Rattle.limits.proofs.Heads.{all_hold}
 use Rattle.limits.proofs.head_is_good.Goals as goal
 

@@ -1,5 +1,4 @@
 -- `limits::length_is_good` meets its contract: the tests are those of refusal 2.
-use borrow.Author.Rules.{rules}
 use borrow.Author.Tests.{le-leb, lt-leb}
 use Rattle.rules.specs.Table.{length_good}
 use Rattle.limits.proofs.length_is_good.Goals as goal

@@ -6,5 +6,4 @@ use Rattle.numbers.proofs.read4.Goals as goal
 
 pub returns : goal.returns
 returns c =
-    let s = c in
-    omega (arith, c.join4.ensures, field4 s.args.bytes.now s.args.at (search rules))
+    omega (arith, c.join4.ensures, field4 c.args.bytes.now c.args.at (search rules))

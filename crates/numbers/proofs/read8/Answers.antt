@@ -6,5 +6,4 @@ use Rattle.numbers.proofs.read8.Goals as goal
 
 pub returns : goal.returns
 returns c =
-    let s = c in
-    omega (arith, field8 s.args.bytes.now s.args.at (search rules))
+    omega (arith, field8 c.args.bytes.now c.args.at (search rules))

@@ -1,5 +1,4 @@
 -- `numbers::write1` meets its contract: one store is the byte of a number.
-use borrow.Author.Rules.{rules}
 use Rattle.numbers.proofs.NumberLaws.{sets1}
 use Rattle.numbers.proofs.write1.Goals as goal
 

@@ -1,6 +1,4 @@
 -- `numbers::write2` meets its contract: two stores side by side are the bytes of a number.
-use lib.ListN.{length-set}
-use borrow.Author.Rules.{rules}
 use Rattle.numbers.proofs.NumberLaws.{sets2}
 use Rattle.numbers.proofs.write2.Goals as goal
 

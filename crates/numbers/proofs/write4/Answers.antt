@@ -1,6 +1,4 @@
 -- `numbers::write4` meets its contract: four stores side by side are the bytes of a number.
-use lib.ListN.{length-set}
-use borrow.Author.Rules.{rules}
 use Rattle.numbers.proofs.NumberLaws.{sets4}
 use Rattle.numbers.proofs.write4.Goals as goal
 

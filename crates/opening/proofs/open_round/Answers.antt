@@ -1,6 +1,4 @@
 -- `open_round` meets its contract.
-use borrow.Author.Rules.{rules}
-use borrow.Author.Tests.{not-true, not-false}
 use mathlib.Core.Path.{◌≡◌, sym, ◌∙◌}
 use mathlib.Core.Bool.{true}
 use native.Mathlib.Omega.{arith}
@@ -15,35 +13,30 @@ use Rattle.opening.proofs.open_round.Goals as goal
 
 pub returns-then-not-length_is_good : goal.returns-then-not-length_is_good
 returns-then-not-length_is_good c =
-    let s = c in
-    says_refused (opening (until s.args.last.0)) s.args.table.now 2
-    (opening_length (until s.args.last.0) s.args.table.now (sym c.length_is_good.ensures ∙ c.if-not-length_is_good.true)) (λ z. omega (arith, z))
+    says_refused (opening (until c.args.last.0)) c.args.table.now 2
+    (opening_length (until c.args.last.0) c.args.table.now (sym c.length_is_good.ensures ∙ c.if-not-length_is_good.true)) (λ z. omega (arith, z))
 
 pub returns-then-refusal-gt0 : goal.returns-then-refusal-gt0
 returns-then-refusal-gt0 c =
     let good : length_good (length c.args.table.now) ≡ true = sym c.length_is_good.ensures ∙ c.if-not-length_is_good.false in
-    let s = c in
-    says_refused (opening (until s.args.last.0)) s.args.table.now _
-    (omega (arith, opening_number (until s.args.last.0) s.args.table.now good, c.opening_refusal-refusal.ensures))
+    says_refused (opening (until c.args.last.0)) c.args.table.now _
+    (omega (arith, opening_number (until c.args.last.0) c.args.table.now good, c.opening_refusal-refusal.ensures))
     (λ z. omega (arith, z))
 
 pub rows_of-requires : goal.rows_of-requires
 rows_of-requires c =
     let good : length_good (length c.args.table.now) ≡ true = sym c.length_is_good.ensures ∙ c.if-not-length_is_good.false in
-    let s = c in
-    head_fits (until s.args.last.0) s.args.table.now good
+    head_fits (until c.args.last.0) c.args.table.now good
 
 pub clear-requires : goal.clear-requires
 clear-requires c =
     let good : length_good (length c.args.table.now) ≡ true = sym c.length_is_good.ensures ∙ c.if-not-length_is_good.false in
-    let s = c in
-    omega (arith, head_fits (until s.args.last.0) s.args.table.now good)
+    omega (arith, head_fits (until c.args.last.0) c.args.table.now good)
 
 pub write_head-requires : goal.write_head-requires
 write_head-requires c =
-    let good : length_good (length c.args.table.now) ≡ true = sym c.length_is_good.ensures ∙ c.if-not-length_is_good.false in
-    let s = c in (
-      cleared_fits (until s.args.last.0) s.args.table.now good
+    let good : length_good (length c.args.table.now) ≡ true = sym c.length_is_good.ensures ∙ c.if-not-length_is_good.false in (
+      cleared_fits (until c.args.last.0) c.args.table.now good
           c.clear.new.table c.clear.ensures,
       omega (arith, c.new-round.ensures.3),
     )
@@ -52,9 +45,8 @@ pub returns : goal.returns
 returns c =
     let good : length_good (length c.args.table.now) ≡ true = sym c.length_is_good.ensures ∙ c.if-not-length_is_good.false in
     let free : first_of (open_tests (until c.args.last.0)) ≡ 0 = omega (arith, c.opening_refusal-refusal.ensures) in
-    let s = c in
     let n = c.new-round.ensures in
-    opened_says (until s.args.last.0) s.args.table.now
+    opened_says (until c.args.last.0) c.args.table.now
     good
     free _ _ _ _ _
     c.clear.new.table c.write_head.new.table

@@ -2,7 +2,6 @@
 use Rattle.replies.specs.Replies.{of_marked}
 use Rattle.packing.specs.Packing.{pack}
 use mathlib.Core.Path.{sym, ap}
-use borrow.Author.Rules.{rules}
 use Rattle.packing.proofs.pack_marked.Goals as goal
 
 pub returns-in-At : goal.returns-in-At

@@ -2,7 +2,6 @@
 use mathlib.Core.Path.{sym, ap}
 use Rattle.replies.specs.Replies.{of_opened}
 use Rattle.packing.specs.Packing.{pack}
-use borrow.Author.Rules.{rules}
 use Rattle.packing.proofs.pack_opened.Goals as goal
 
 pub returns-in-Done : goal.returns-in-Done

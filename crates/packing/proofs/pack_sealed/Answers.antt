@@ -3,7 +3,6 @@ use mathlib.Core.Path.{ap}
 use native.Mathlib.Omega.{arith}
 use Rattle.replies.specs.Replies.{of_sealed}
 use Rattle.packing.specs.Packing.{pack}
-use borrow.Author.Rules.{rules}
 use Rattle.packing.proofs.pack_sealed.Goals as goal
 
 pub returns-in-Closed : goal.returns-in-Closed

@@ -2,7 +2,6 @@
 use Rattle.replies.specs.Replies.{of_sent}
 use Rattle.packing.specs.Packing.{pack}
 use mathlib.Core.Path.{sym, ap, ◌∙◌}
-use borrow.Author.Rules.{rules}
 use Rattle.packing.proofs.pack_sent.Goals as goal
 
 pub returns-in-Went : goal.returns-in-Went

@@ -4,7 +4,6 @@ use Rattle.rules.specs.Calls.{step}
 use Prim.Native.Nat.{◌+◌}
 use Rattle.packing.specs.Packing.{pack}
 use mathlib.Core.Path.{sym, ap, ◌∙◌}
-use borrow.Author.Rules.{rules}
 use Rattle.packing.proofs.pack_step.Goals as goal
 
 pub returns-in-Ordinary : goal.returns-in-Ordinary

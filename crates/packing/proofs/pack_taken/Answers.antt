@@ -3,7 +3,6 @@ use mathlib.Core.Path.{ap}
 use native.Mathlib.Omega.{arith}
 use Rattle.replies.specs.Replies.{of_taken}
 use Rattle.packing.specs.Packing.{pack}
-use borrow.Author.Rules.{rules}
 use Rattle.packing.proofs.pack_taken.Goals as goal
 
 pub returns-in-As : goal.returns-in-As

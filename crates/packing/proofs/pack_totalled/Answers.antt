@@ -4,7 +4,6 @@ use Rattle.packing.specs.Packing.{pack, SmallAmount}
 use Prim.Native.Nat.{◌≤◌}
 use native.Mathlib.Omega.{arith}
 use mathlib.Core.Path.{ap, subst}
-use borrow.Author.Rules.{rules}
 use Rattle.packing.proofs.pack_totalled.Goals as goal
 
 pub overflow_mul-result : goal.overflow_mul-result

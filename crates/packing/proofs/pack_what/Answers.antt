@@ -4,7 +4,6 @@ use native.Mathlib.Omega.{arith}
 use Rattle.replies.specs.Replies.{of_out}
 use Rattle.packing.specs.Packing.{pack_out}
 use mathlib.Core.Path.{sym, ap, ◌∙◌}
-use borrow.Author.Rules.{rules}
 use Rattle.packing.proofs.pack_what.Goals as goal
 
 pub returns-in-Silence : goal.returns-in-Silence

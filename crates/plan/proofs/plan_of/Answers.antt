@@ -14,14 +14,12 @@ sort-far-requires c =
 
 pub leave_out-lost-requires : goal.leave_out-lost-requires
 leave_out-lost-requires c =
-    let before = c in
     let sort = c.sort-far in
-    crowd _ _ _ _ _ _ _ before.requires _ _ _ _ sort.ensures _ refl
+    crowd _ _ _ _ _ _ _ c.requires _ _ _ _ sort.ensures _ refl
 
 pub returns : goal.returns
 returns c =
-    let before = c in
     let sort = c.sort-far in
     let leave-out = c.leave_out-lost in
     let starts = c.starts-many in
-    plans _ _ _ _ _ _ _ before.requires _ _ _ _ sort.ensures _ _ _ _ _ _ refl (search rules) leave-out.ensures starts.ensures refl (search rules) (search rules)
+    plans _ _ _ _ _ _ _ c.requires _ _ _ _ sort.ensures _ _ _ _ _ _ refl (search rules) leave-out.ensures starts.ensures refl (search rules) (search rules)

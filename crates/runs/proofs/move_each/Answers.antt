@@ -1,8 +1,7 @@
 -- `runs::move_each` meets its contract.
 use Prim.Native.Nat.{◌-◌}
 use borrow.Author.Rules.{rules}
-use Rattle.rules.specs.Conditions.{row_at}
-use Rattle.runs.proofs.CopyLaws.{Moved, moved_none, moved_row, moved_rows}
+use Rattle.runs.proofs.CopyLaws.{moved_none, moved_row, moved_rows}
 use Rattle.runs.proofs.move_each.Goals as goal
 
 pub loop-i-init : goal.loop-i-init

@@ -8,24 +8,20 @@ use Rattle.runs.proofs.move_run.Goals as goal
 
 pub returns-then-out-eq1 : goal.returns-then-out-eq1
 returns-then-out-eq1 c =
-    let s = c in
-    let z : 24 ≡ row_size * (s.args.from - s.args.kept) = search rules in
+    let z : 24 ≡ row_size * (c.args.from - c.args.kept) = search rules in
     search (slid_run, rules)
 
 pub returns-then-out-eq2 : goal.returns-then-out-eq2
 returns-then-out-eq2 c =
-    let s = c in
-    let z : 48 ≡ row_size * (s.args.from - s.args.kept) = search rules in
+    let z : 48 ≡ row_size * (c.args.from - c.args.kept) = search rules in
     search (slid_run, rules)
 
 pub returns-then-out-eq3 : goal.returns-then-out-eq3
 returns-then-out-eq3 c =
-    let s = c in
-    let z : 72 ≡ row_size * (s.args.from - s.args.kept) = search rules in
+    let z : 72 ≡ row_size * (c.args.from - c.args.kept) = search rules in
     search (slid_run, rules)
 
 pub returns-then-out-eq4 : goal.returns-then-out-eq4
 returns-then-out-eq4 c =
-    let s = c in
-    let z : 96 ≡ row_size * (s.args.from - s.args.kept) = search rules in
+    let z : 96 ≡ row_size * (c.args.from - c.args.kept) = search rules in
     search (slid_run, rules)

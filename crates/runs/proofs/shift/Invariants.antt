@@ -1,7 +1,6 @@
 -- `runs::shift` meets its contract.
 use Prim.Native.Nat.{◌-◌}
-use borrow.Author.Rules.{rules}
-use Rattle.runs.proofs.CopyLaws.{Moved, moved_none, moved_byte, moved_all}
+use Rattle.runs.proofs.CopyLaws.{Moved}
 use Rattle.runs.proofs.shift.Given as goal
 
 abbrev pub invariant-loop-i : goal.invariant-loop-i

@@ -1,7 +1,7 @@
 -- `runs::slide` meets its contract.
 use Prim.Native.Nat.{◌-◌}
 use borrow.Author.Rules.{rules}
-use Rattle.runs.proofs.CopyLaws.{Moved, moved_none, moved_block, moved_last}
+use Rattle.runs.proofs.CopyLaws.{moved_none, moved_block, moved_last}
 use Rattle.runs.proofs.slide.Goals as goal
 
 pub loop-i-init : goal.loop-i-init

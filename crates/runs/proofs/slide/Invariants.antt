@@ -1,7 +1,6 @@
 -- `runs::slide` meets its contract.
 use Prim.Native.Nat.{◌-◌}
-use borrow.Author.Rules.{rules}
-use Rattle.runs.proofs.CopyLaws.{Moved, moved_none, moved_block, moved_last}
+use Rattle.runs.proofs.CopyLaws.{Moved}
 use Rattle.runs.proofs.slide.Given as goal
 
 abbrev pub invariant-loop-i : goal.invariant-loop-i

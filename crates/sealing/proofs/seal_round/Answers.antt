@@ -1,5 +1,4 @@
 -- `seal_round` meets its contract.
-use borrow.Author.Rules.{rules}
 use mathlib.Core.Path.{subst}
 use Rattle.rules.specs.Calls.{sealing, acting}
 use Rattle.round.specs.Judge.{JudgeSays}
@@ -12,6 +11,5 @@ seal_sound-requires c = subst (JudgeSays c.args.table.now)
 
 pub returns-in-Refused : goal.returns-in-Refused
 returns-in-Refused c =
-    let s = c in
-    let h = subst (JudgeSays s.args.table.now) c.in-Refused.is c.judge.ensures in
-    says_refused (acting sealing) s.args.table.now _ (by_table (acting sealing) s.args.table.now _ (act_judges sealing) h.0 h.1) h.1
+    let h = subst (JudgeSays c.args.table.now) c.in-Refused.is c.judge.ensures in
+    says_refused (acting sealing) c.args.table.now _ (by_table (acting sealing) c.args.table.now _ (act_judges sealing) h.0 h.1) h.1

@@ -1,5 +1,4 @@
 -- `seen::frames_pass` meets its contract.
-use borrow.Author.Rules.{rules}
 use Rattle.seen.proofs.frames_pass.Goals as goal
 
 pub returns : goal.returns

@@ -1,11 +1,8 @@
 -- `segments::segments_of` meets its contract. The invariant: the segments behind the open one, and what is seen of that, of whatever round is given.
 use borrow.Author.Rules.{rules}
-use mathlib.Core.Path.{◌≡◌, refl, ◌∙◌}
-use mathlib.Core.Logic.{⊎_elim}
+use mathlib.Core.Path.{refl, ◌∙◌}
 use Prim.Native.Nat.{◌-◌}
 use native.Mathlib.Omega.{arith}
-use lib.ListN.{length}
-use Rattle.segments.proofs.PassLaws.{Passing}
 use Rattle.segments.proofs.TurnLaws.{bounds, passing_first, Goes, read_there, roomy, row_there, goes_on, goes_new, says, kept_further, left_further, some_further}
 use Rattle.segments.proofs.segments_of.Goals as goal
 use Rattle.segments.proofs.segments_of.Goals.{then-ends_here, else-ends_here}

@@ -1,5 +1,4 @@
 -- `take_frame` meets its contract.
-use borrow.Author.Rules.{rules}
 use mathlib.Core.Path.{subst}
 use Rattle.rules.specs.Rows.{framed}
 use Rattle.rules.specs.Calls.{taking, acting}
@@ -13,8 +12,7 @@ take_into-requires c = subst (JudgeSays c.args.table.now)
 
 pub returns-in-Refused : goal.returns-in-Refused
 returns-in-Refused c =
-    let s = c in
-    let h = subst (JudgeSays s.args.table.now) c.in-Refused.is c.judge.ensures in
-    says_refused (acting (taking (framed s.args.due.0 s.args.weight.0 s.args.class.0))) s.args.table.now _
-    (by_table (acting (taking (framed s.args.due.0 s.args.weight.0 s.args.class.0))) s.args.table.now _
-    (act_judges (taking (framed s.args.due.0 s.args.weight.0 s.args.class.0))) h.0 h.1) h.1
+    let h = subst (JudgeSays c.args.table.now) c.in-Refused.is c.judge.ensures in
+    says_refused (acting (taking (framed c.args.due.0 c.args.weight.0 c.args.class.0))) c.args.table.now _
+    (by_table (acting (taking (framed c.args.due.0 c.args.weight.0 c.args.class.0))) c.args.table.now _
+    (act_judges (taking (framed c.args.due.0 c.args.weight.0 c.args.class.0))) h.0 h.1) h.1

@@ -1,5 +1,4 @@
 -- `take_into` meets its contract.
-use borrow.Author.Rules.{rules}
 use mathlib.Core.Path.{◌≡◌, ap, ◌∙◌}
 use native.Mathlib.Omega.{arith}
 use lib.ListN.{length}
@@ -13,52 +12,46 @@ use Rattle.taking.proofs.take_into.Goals as goal
 
 pub returns-then-refusal-gt0 : goal.returns-then-refusal-gt0
 returns-then-refusal-gt0 c =
-    let s = c in
-    says_refused (acting (taking (framed s.args.due.0 s.args.weight.0 s.args.class.0))) s.args.table.now _
+    says_refused (acting (taking (framed c.args.due.0 c.args.weight.0 c.args.class.0))) c.args.table.now _
     (omega (
       arith,
-      taking_by s.args.table.now s.args.round s.requires.0 s.requires.1 (framed s.args.due.0 s.args.weight.0 s.args.class.0),
+      taking_by c.args.table.now c.args.round c.requires.0 c.requires.1 (framed c.args.due.0 c.args.weight.0 c.args.class.0),
       c.taking_refusal-refusal.ensures,
     ))
     (λ z. omega (arith, z))
 
 pub row_at-at-requires : goal.row_at-at-requires
 row_at-at-requires c =
-    let s = c in
-    omega (arith, used_room s.args.table.now s.args.round s.requires.0 s.requires.1 (framed s.args.due.0 s.args.weight.0 s.args.class.0))
+    omega (arith, used_room c.args.table.now c.args.round c.requires.0 c.requires.1 (framed c.args.due.0 c.args.weight.0 c.args.class.0))
 
 pub write_row-requires : goal.write_row-requires
 write_row-requires c =
-    let free : let s = c in taking_number s.args.round (framed s.args.due.0 s.args.weight.0 s.args.class.0) ≡ 0 = omega (arith, c.taking_refusal-refusal.ensures) in
-    let s = c in
-    let f = row_free s.args.table.now s.args.round s.requires.0 s.requires.1 (framed s.args.due.0 s.args.weight.0 s.args.class.0)
+    let free : taking_number c.args.round (framed c.args.due.0 c.args.weight.0 c.args.class.0) ≡ 0 = omega (arith, c.taking_refusal-refusal.ensures) in
+    let f = row_free c.args.table.now c.args.round c.requires.0 c.requires.1 (framed c.args.due.0 c.args.weight.0 c.args.class.0)
     free in
     omega (arith, f.0, c.row_at-at.ensures)
 
 pub one_more-head-requires : goal.one_more-head-requires
 one_more-head-requires c =
-    let free : let s = c in taking_number s.args.round (framed s.args.due.0 s.args.weight.0 s.args.class.0) ≡ 0 = omega (arith, c.taking_refusal-refusal.ensures) in
-    let s = c in
-    let f = row_free s.args.table.now s.args.round s.requires.0 s.requires.1 (framed s.args.due.0 s.args.weight.0 s.args.class.0)
+    let free : taking_number c.args.round (framed c.args.due.0 c.args.weight.0 c.args.class.0) ≡ 0 = omega (arith, c.taking_refusal-refusal.ensures) in
+    let f = row_free c.args.table.now c.args.round c.requires.0 c.requires.1 (framed c.args.due.0 c.args.weight.0 c.args.class.0)
     free in
     (f.2, f.3)
 
 pub write_head-requires : goal.write_head-requires
 write_head-requires c =
-    let free : let s = c in taking_number s.args.round (framed s.args.due.0 s.args.weight.0 s.args.class.0) ≡ 0 = omega (arith, c.taking_refusal-refusal.ensures) in
-    let s = c in
-    let f = row_free s.args.table.now s.args.round s.requires.0 s.requires.1 (framed s.args.due.0 s.args.weight.0 s.args.class.0)
+    let free : taking_number c.args.round (framed c.args.due.0 c.args.weight.0 c.args.class.0) ≡ 0 = omega (arith, c.taking_refusal-refusal.ensures) in
+    let f = row_free c.args.table.now c.args.round c.requires.0 c.requires.1 (framed c.args.due.0 c.args.weight.0 c.args.class.0)
     free in
-    let l : length c.write_row.new.table ≡ length s.args.table.now = ap length
+    let l : length c.write_row.new.table ≡ length c.args.table.now = ap length
     c.write_row.ensures ∙ simp length-sets in
     (omega (arith, l, f.0), omega (arith, f.1, c.one_more-head.ensures.3))
 
 pub returns : goal.returns
 returns c =
-    let free : let s = c in taking_number s.args.round (framed s.args.due.0 s.args.weight.0 s.args.class.0) ≡ 0 = omega (arith, c.taking_refusal-refusal.ensures) in
-    let s = c in
+    let free : taking_number c.args.round (framed c.args.due.0 c.args.weight.0 c.args.class.0) ≡ 0 = omega (arith, c.taking_refusal-refusal.ensures) in
     let o = c.one_more-head.ensures in
-    taken_says s.args.table.now s.args.round s.requires.0 s.requires.1 (framed s.args.due.0 s.args.weight.0 s.args.class.0)
+    taken_says c.args.table.now c.args.round c.requires.0 c.requires.1 (framed c.args.due.0 c.args.weight.0 c.args.class.0)
     free
     _ _ _ _ _ c.write_row.new.table c.write_head.new.table
     c.row_at-at.result _ _ _ _ _

@@ -8,10 +8,8 @@ write_kept-requires c = search (kept_there, rules)
 
 pub close_up-requires : goal.close_up-requires
 close_up-requires c =
-    let written = c in
-    let entry = written in
-    let good = kept_good entry.requires.0 written.write_kept.ensures in
-    (good.0, good.1, search rules, kept_due entry.requires.0 written.write_kept.ensures entry.requires.1)
+    let good = kept_good c.requires.0 c.write_kept.ensures in
+    (good.0, good.1, search rules, kept_due c.requires.0 c.write_kept.ensures c.requires.1)
 
 pub returns : goal.returns
 returns c = search (kept_says, rules)

@@ -1,5 +1,4 @@
 -- `whole::choose_past` meets its contract: the second pass and the segment of the heaviest row tell the pick (`WholeLaws`).
-use borrow.Author.Rules.{rules}
 use native.Mathlib.Omega.{arith}
 use Rattle.whole.proofs.WholeLaws.{goes_first, goes_past, filled, slots_fit, past_from, past_by, past_first, past_far, past_kept}
 use Rattle.whole.proofs.choose_past.Goals as goal

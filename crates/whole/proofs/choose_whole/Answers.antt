@@ -1,5 +1,4 @@
 -- `whole::choose_whole` meets its contract: the heaviest row and the first segment tell the pick, or the second pass (`WholeLaws`).
-use borrow.Author.Rules.{rules}
 use native.Mathlib.Omega.{arith}
 use Rattle.whole.proofs.WholeLaws.{filled, slots_fit, ends_near, ends_first, far_all, first_all}
 use Rattle.whole.proofs.choose_whole.Goals as goal

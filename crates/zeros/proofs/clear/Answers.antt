@@ -1,9 +1,8 @@
 -- `zeros::clear` meets its contract. The invariant: the bytes from the start up to here are zero, and those before it as they were.
-use mathlib.Core.List.{◌++◌}
 use mathlib.Core.Path.{◌≡◌, sym, ◌∙◌}
-use Prim.Native.Nat.{◌-◌, ◌≤◌}
+use Prim.Native.Nat.{◌-◌}
 use native.Mathlib.Omega.{arith}
-use lib.ListN.{length, take, replicate, length-set}
+use lib.ListN.{length, length-set}
 use lib.Seq.{take_all}
 use borrow.Author.Rules.{rules}
 use Rattle.zeros.proofs.ZeroLaws.{cleared_none, cleared_more}
@@ -13,14 +12,13 @@ pub loop-i-init : goal.loop-i-init
 loop-i-init c = (search rules, search rules, search rules, cleared_none c.args.table.now c.args.from)
 
 pub loop-i-preserved : goal.loop-i-preserved
-loop-i-preserved c =
-    let s = c in (
-      search rules,
-      search rules,
-      simp length-set (search rules),
-      cleared_more s.args.table.now c.loop-i.table s.args.from c.loop-i.i
-          (search rules) (search rules) c.loop-i.invariant.3,
-    )
+loop-i-preserved c = (
+  search rules,
+  search rules,
+  simp length-set (search rules),
+  cleared_more c.args.table.now c.loop-i.table c.args.from c.loop-i.i
+      (search rules) (search rules) c.loop-i.invariant.3,
+)
 
 pub returns : goal.returns
 returns c =

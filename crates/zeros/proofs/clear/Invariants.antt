@@ -1,12 +1,8 @@
 -- `zeros::clear` meets its contract. The invariant: the bytes from the start up to here are zero, and those before it as they were.
 use mathlib.Core.List.{◌++◌}
-use mathlib.Core.Path.{◌≡◌, sym, ◌∙◌}
+use mathlib.Core.Path.{◌≡◌}
 use Prim.Native.Nat.{◌-◌, ◌≤◌}
-use native.Mathlib.Omega.{arith}
-use lib.ListN.{length, take, replicate, length-set}
-use lib.Seq.{take_all}
-use borrow.Author.Rules.{rules}
-use Rattle.zeros.proofs.ZeroLaws.{cleared_none, cleared_more}
+use lib.ListN.{length, take, replicate}
 use Rattle.zeros.proofs.clear.Given as goal
 
 abbrev pub invariant-loop-i : goal.invariant-loop-i

@@ -1,6 +1,5 @@
 -- `zeros::four_are_zero` meets its contract: four rows without a gap.
 use borrow.Author.Rules.{rules}
-use borrow.Author.Tests.{not-true, not-false}
 use Rattle.zeros.proofs.ZeroLaws.{four_foul, four_last}
 use Rattle.zeros.proofs.four_are_zero.Goals as goal
 

@@ -1,6 +1,5 @@
 -- `zeros::word` meets its contract: eight bytes are a word, and `WordZero` says of it what is owed.
 use native.Mathlib.Omega.{arith}
-use borrow.Author.Rules.{rules}
 use Rattle.theory.specs.Fields.{field_zeros}
 use Rattle.zeros.proofs.word.Goals as goal
 

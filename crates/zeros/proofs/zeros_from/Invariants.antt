@@ -1,12 +1,8 @@
 -- `zeros::zeros_from` meets its contract. The invariant: the bytes from the start are zero where those from here on are, and whole rows follow.
-use mathlib.Core.Bool.{true, false}
-use mathlib.Core.Path.{◌≡◌, refl, sym, ◌∙◌}
+use mathlib.Core.Path.{◌≡◌}
 use Prim.Native.Nat.{◌-◌, ◌%◌, ◌≤◌}
 use lib.ListN.{length, drop}
-use borrow.Author.Rules.{rules}
-use borrow.Author.Tests.{not-true, not-false}
 use Rattle.theory.specs.Judge.{zeros}
-use Rattle.zeros.proofs.ZeroLaws.{zeros_more, zeros_none}
 use Rattle.zeros.proofs.zeros_from.Given as goal
 
 abbrev pub invariant-loop-at : goal.invariant-loop-at

@@ -1,7 +1,6 @@
 -- `buckets::stretch::first_of` meets its contract: the loop is `Back`.
-use borrow.Author.Rules.{rules}
 use native.Mathlib.Omega.{arith}
-use Rattle.buckets.proofs.StretchLaws.{Back, back_start, back_fits, back_step, back_end}
+use Rattle.buckets.proofs.StretchLaws.{back_start, back_fits, back_step, back_end}
 use Rattle.buckets.proofs.stretch.first_of.Goals as goal
 
 pub loop-before-init : goal.loop-before-init

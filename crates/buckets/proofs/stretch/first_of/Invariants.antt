@@ -1,7 +1,5 @@
 -- `buckets::stretch::first_of` meets its contract: the loop is `Back`.
-use borrow.Author.Rules.{rules}
-use native.Mathlib.Omega.{arith}
-use Rattle.buckets.proofs.StretchLaws.{Back, back_start, back_fits, back_step, back_end}
+use Rattle.buckets.proofs.StretchLaws.{Back}
 use Rattle.buckets.proofs.stretch.first_of.Given as goal
 
 abbrev pub invariant-loop-before : goal.invariant-loop-before

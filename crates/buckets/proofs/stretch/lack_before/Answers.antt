@@ -1,10 +1,8 @@
 -- `buckets::stretch::lack_before` meets its contract: the loop adds up the first counts.
-use mathlib.Core.Path.{◌≡◌}
-use Prim.Native.Nat.{◌-◌, ◌≤◌}
+use Prim.Native.Nat.{◌-◌}
 use borrow.Author.Rules.{rules}
 use native.Mathlib.Omega.{arith}
 use native.Mathlib.Numerals.{add-one}
-use Rattle.buckets.specs.Stretch.{upto}
 use Rattle.buckets.proofs.StretchLaws.{sum_next, sum_end}
 use Rattle.buckets.proofs.stretch.lack_before.Goals as goal
 

@@ -1,11 +1,7 @@
 -- `buckets::stretch::lack_before` meets its contract: the loop adds up the first counts.
 use mathlib.Core.Path.{◌≡◌}
 use Prim.Native.Nat.{◌-◌, ◌≤◌}
-use borrow.Author.Rules.{rules}
-use native.Mathlib.Omega.{arith}
-use native.Mathlib.Numerals.{add-one}
 use Rattle.buckets.specs.Stretch.{upto}
-use Rattle.buckets.proofs.StretchLaws.{sum_next, sum_end}
 use Rattle.buckets.proofs.stretch.lack_before.Given as goal
 
 abbrev pub invariant-loop-s : goal.invariant-loop-s

@@ -1,8 +1,7 @@
 -- `buckets::stretch::stretch_of` meets its contract: the loop is `On`.
 use Prim.Native.Nat.{◌-◌}
-use borrow.Author.Rules.{rules}
 use native.Mathlib.Omega.{arith}
-use Rattle.buckets.proofs.StretchLaws.{On, full_fits, covered, on_start, on_left, on_covered, on_step, on_end}
+use Rattle.buckets.proofs.StretchLaws.{full_fits, covered, on_start, on_left, on_covered, on_step, on_end}
 use Rattle.buckets.proofs.stretch.stretch_of.Goals as goal
 
 pub lack_before-before-requires : goal.lack_before-before-requires

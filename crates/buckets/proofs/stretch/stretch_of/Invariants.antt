@@ -1,8 +1,6 @@
 -- `buckets::stretch::stretch_of` meets its contract: the loop is `On`.
 use Prim.Native.Nat.{◌-◌}
-use borrow.Author.Rules.{rules}
-use native.Mathlib.Omega.{arith}
-use Rattle.buckets.proofs.StretchLaws.{On, full_fits, covered, on_start, on_left, on_covered, on_step, on_end}
+use Rattle.buckets.proofs.StretchLaws.{On}
 use Rattle.buckets.proofs.stretch.stretch_of.Given as goal
 
 abbrev pub invariant-loop-lack : goal.invariant-loop-lack

@@ -39,11 +39,9 @@ slice_bounds-number-end c =
 
 pub number-requires : goal.number-requires
 number-requires c =
-    let turn = c in
-    let s = turn in
-    let from = turn.loop-i.from in
-    let w = get_or s.args.form.widths turn.loop-i.i 0 in
-    part_short (from + w - from) 8 (drop from s.args.line.now) (omega (arith, s.requires.0.narrow turn.loop-i.i))
+    let from = c.loop-i.from in
+    let w = get_or c.args.form.widths c.loop-i.i 0 in
+    part_short (from + w - from) 8 (drop from c.args.line.now) (omega (arith, c.requires.0.narrow c.loop-i.i))
 
 pub returns-in_default : goal.returns-in_default
 returns-in_default c =
@@ -83,6 +81,5 @@ loop-i-preserved c =
 
 pub returns : goal.returns
 returns c =
-    let s = c in
-    let all = collected_all c.loop-i.invariant (omega (arith, length_widths s.requires.0, c.loop-i-test.false)) in
+    let all = collected_all c.loop-i.invariant (omega (arith, length_widths c.requires.0, c.loop-i-test.false)) in
     record { clean = all.0; values = λ _. all.1 }

@@ -1,9 +1,6 @@
 -- `passes::look::heaviest` meets its contract: the loop is `Heaviest`.
-use Prim.Native.Nat.{◌≤◌}
 use borrow.Author.Rules.{rules}
 use native.Mathlib.Omega.{arith}
-use Rattle.rules.specs.Table.{round_in}
-use Rattle.passes.specs.Best.{Heaviest}
 use Rattle.round.proofs.ReadLaws.{known}
 use Rattle.passes.proofs.BestLaws.{best_start, best_lighter, best_sees, best_end}
 use Rattle.passes.proofs.look.heaviest.Goals as goal

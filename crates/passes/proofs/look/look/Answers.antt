@@ -1,9 +1,6 @@
 -- `passes::look::look` meets its contract: the loop is `Looks`.
-use Prim.Native.Nat.{◌≤◌}
 use borrow.Author.Rules.{rules}
 use native.Mathlib.Omega.{arith}
-use Rattle.rules.specs.Table.{round_in}
-use Rattle.passes.specs.Look.{Looks}
 use Rattle.round.proofs.ReadLaws.{known}
 use Rattle.passes.proofs.BestLaws.{look_start, look_passes, look_notes, look_end}
 use Rattle.passes.proofs.look.look.Goals as goal

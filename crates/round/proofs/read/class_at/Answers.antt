@@ -1,5 +1,4 @@
 -- `round::read::class_at` meets its contract: a row's class, by its byte.
-use borrow.Author.Rules.{rules}
 use Rattle.round.proofs.ReadLaws.{reads_within, class_read}
 use Rattle.round.proofs.read.class_at.Goals as goal
 

@@ -1,5 +1,4 @@
 -- `round::read::due_at` meets its contract: a row's due slot, by its bytes.
-use borrow.Author.Rules.{rules}
 use Rattle.round.proofs.ReadLaws.{reads_within, due_read}
 use Rattle.round.proofs.read.due_at.Goals as goal
 

@@ -1,5 +1,4 @@
 -- `round::read::kind_at` meets its contract: a row's kind, by its byte.
-use borrow.Author.Rules.{rules}
 use Rattle.round.proofs.ReadLaws.{reads_within, kind_read}
 use Rattle.round.proofs.read.kind_at.Goals as goal
 

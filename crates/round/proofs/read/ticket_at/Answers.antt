@@ -1,5 +1,4 @@
 -- `round::read::ticket_at` meets its contract: a row's ticket, by its bytes.
-use borrow.Author.Rules.{rules}
 use Rattle.round.proofs.ReadLaws.{reads_within, ticket_read}
 use Rattle.round.proofs.read.ticket_at.Goals as goal
 

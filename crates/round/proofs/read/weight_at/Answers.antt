@@ -1,5 +1,4 @@
 -- `round::read::weight_at` meets its contract: a row's weight, by its bytes.
-use borrow.Author.Rules.{rules}
 use Rattle.round.proofs.ReadLaws.{reads_within, weight_read}
 use Rattle.round.proofs.read.weight_at.Goals as goal
 

@@ -1,20 +1,19 @@
 -- `round::rows::rows_are_counted` meets its contract. The invariant: the rows before i are judged and counted (`Scanned`).
-use mathlib.Core.Path.{◌≡◌, refl}
+use mathlib.Core.Path.{refl}
 use Prim.Native.Nat.{◌-◌, ◌≤◌, ◌<◌}
 use native.Mathlib.Omega.{arith}
 use lib.ListN.{length, get_or, length-set}
 use borrow.Author.Rules.{rules}
-use borrow.Author.Tests.{not-true, not-false}
 use Rattle.rules.specs.Table.{round_in}
 use Rattle.round.proofs.CountLaws.{counting_start}
-use Rattle.round.proofs.ScanLaws.{BucketAt, judging_start, judging_on, judging_off, frames_end, bucket_there, lent_long, fewer_left, Scanned, scanned_on, scanned_room, all_late, say_none, say_off, say_all}
+use Rattle.round.proofs.ScanLaws.{BucketAt, judging_start, judging_on, judging_off, frames_end, bucket_there, lent_long, fewer_left, scanned_on, scanned_room, all_late, say_none, say_off, say_all}
 use Rattle.round.proofs.rows.rows_are_counted.Goals as goal
 
 pub returns-then-round-eq0 : goal.returns-then-round-eq0
 returns-then-round-eq0 c = say_none _ _ _ c.requires.0 c.requires.1 (search rules)
 
 pub returns-then-round : goal.returns-then-round
-returns-then-round c = let a = c in say_off _ _ _ (all_late a.args.table.now a.args.round (search rules) (search rules))
+returns-then-round c = say_off _ _ _ (all_late c.args.table.now c.args.round (search rules) (search rules))
 
 pub loop-i-init : goal.loop-i-init
 loop-i-init c = (record { judging = judging_start _ _ c.requires.0; counting = counting_start _ _ _ c.requires.0 c.requires.1 }, refl)
@@ -71,8 +70,7 @@ loop-i-smaller c = fewer_left _ _ c.loop-i-test.true
 
 pub loop-i-preserved : goal.loop-i-preserved
 loop-i-preserved c =
-    let bucket : BucketAt (round_in c.args.table.now) c.loop-i.i c.cut-b.result = bucket_there _ _ c.requires.0 c.if-round.false _ _ _ c.row_at-a.ensures refl c.loop-i-test.true _ _ c.see_row-seen.ensures _ _ _ c.row_follows.ensures c.if-not-row_follows.false c.top_of-top.ensures c.cut-b.ensures in
-    (
+    let bucket : BucketAt (round_in c.args.table.now) c.loop-i.i c.cut-b.result = bucket_there _ _ c.requires.0 c.if-round.false _ _ _ c.row_at-a.ensures refl c.loop-i-test.true _ _ c.see_row-seen.ensures _ _ _ c.row_follows.ensures c.if-not-row_follows.false c.top_of-top.ensures c.cut-b.ensures in (
       scanned_on _ _ _ _ _ _ _ c.requires.0 c.loop-i-test.true
           (judging_on _ _ c.requires.0 c.if-round.false _ _ _ c.row_at-a.ensures refl c.loop-i-test.true _ _
           c.see_row-seen.ensures _ c.row_follows.ensures c.if-not-row_follows.false c.loop-i.invariant.0.judging)

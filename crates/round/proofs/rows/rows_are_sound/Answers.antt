@@ -3,15 +3,14 @@ use mathlib.Core.Path.{refl}
 use Prim.Native.Nat.{◌-◌}
 use native.Mathlib.Omega.{arith}
 use borrow.Author.Rules.{rules}
-use borrow.Author.Tests.{not-true, not-false}
-use Rattle.round.proofs.ScanLaws.{no_row, all_late, lent_long, Judging, judging_start, judging_on, judging_off, frames_end, judging_end}
+use Rattle.round.proofs.ScanLaws.{no_row, all_late, lent_long, judging_start, judging_on, judging_off, frames_end, judging_end}
 use Rattle.round.proofs.rows.rows_are_sound.Goals as goal
 
 pub returns-then-round-eq0 : goal.returns-then-round-eq0
-returns-then-round-eq0 c = let a = c in no_row a.args.table.now a.args.round (search rules)
+returns-then-round-eq0 c = no_row c.args.table.now c.args.round (search rules)
 
 pub returns-then-round : goal.returns-then-round
-returns-then-round c = let a = c in all_late a.args.table.now a.args.round (search rules) (search rules)
+returns-then-round c = all_late c.args.table.now c.args.round (search rules) (search rules)
 
 pub loop-i-init : goal.loop-i-init
 loop-i-init c = judging_start _ _ c.requires

@@ -3,8 +3,6 @@ use mathlib.Core.Bool.{true}
 use mathlib.Core.Path.{◌≡◌, sym, ◌∙◌}
 use native.Mathlib.Omega.{arith}
 use lib.ListN.{length, drop}
-use borrow.Author.Rules.{rules}
-use borrow.Author.Tests.{not-true, not-false}
 use Rattle.rules.specs.Conditions.{Bytes, row_at}
 use Rattle.rules.specs.Table.{length_good}
 use Rattle.theory.specs.Judge.{zeros}
@@ -28,35 +26,34 @@ pub returns-then-not-head_is_sound : goal.returns-then-not-head_is_sound
 returns-then-not-head_is_sound c =
     let good : length_good (length c.args.table.now) ≡ true = sym c.length_is_good.ensures ∙ c.if-not-length_is_good.false in
     let bytes : Bytes c.args.table.now = λ i. omega (arith, c.shared_slice_known-1.given i) in
-    let s = c in
     head_refused _ bytes good (sym c.head_is_sound.ensures ∙ c.if-not-head_is_sound.true)
 
 pub rows_are_counted-requires : goal.rows_are_counted-requires
 rows_are_counted-requires c =
     let good : length_good (length c.args.table.now) ≡ true = sym c.length_is_good.ensures ∙ c.if-not-length_is_good.false in
     let bytes : Bytes c.args.table.now = λ i. omega (arith, c.shared_slice_known-1.given i) in
-    let head : HeadSound c.args.table.now c.read_head-round.result = let s = c in record { bytes = bytes; good = good; head = c.read_head-round.ensures; sound = sym c.head_is_sound.ensures ∙ c.if-not-head_is_sound.false } in
+    let head : HeadSound c.args.table.now c.read_head-round.result = record { bytes = bytes; good = good; head = c.read_head-round.ensures; sound = sym c.head_is_sound.ensures ∙ c.if-not-head_is_sound.false } in
     ((rows_fit head).lent, c.requires good)
 
 pub returns-then-not-rows_are_counted : goal.returns-then-not-rows_are_counted
 returns-then-not-rows_are_counted c =
     let good : length_good (length c.args.table.now) ≡ true = sym c.length_is_good.ensures ∙ c.if-not-length_is_good.false in
     let bytes : Bytes c.args.table.now = λ i. omega (arith, c.shared_slice_known-1.given i) in
-    let head : HeadSound c.args.table.now c.read_head-round.result = let s = c in record { bytes = bytes; good = good; head = c.read_head-round.ensures; sound = sym c.head_is_sound.ensures ∙ c.if-not-head_is_sound.false } in
+    let head : HeadSound c.args.table.now c.read_head-round.result = record { bytes = bytes; good = good; head = c.read_head-round.ensures; sound = sym c.head_is_sound.ensures ∙ c.if-not-head_is_sound.false } in
     rows_refused head c.rows_are_counted.ensures.judged c.if-not-rows_are_counted.true
 
 pub row_at-requires : goal.row_at-requires
 row_at-requires c =
     let good : length_good (length c.args.table.now) ≡ true = sym c.length_is_good.ensures ∙ c.if-not-length_is_good.false in
     let bytes : Bytes c.args.table.now = λ i. omega (arith, c.shared_slice_known-1.given i) in
-    let head : HeadSound c.args.table.now c.read_head-round.result = let s = c in record { bytes = bytes; good = good; head = c.read_head-round.ensures; sound = sym c.head_is_sound.ensures ∙ c.if-not-head_is_sound.false } in
+    let head : HeadSound c.args.table.now c.read_head-round.result = record { bytes = bytes; good = good; head = c.read_head-round.ensures; sound = sym c.head_is_sound.ensures ∙ c.if-not-head_is_sound.false } in
     omega (arith, (rows_fit head).lent.few)
 
 pub zeros_from-requires : goal.zeros_from-requires
 zeros_from-requires c =
     let good : length_good (length c.args.table.now) ≡ true = sym c.length_is_good.ensures ∙ c.if-not-length_is_good.false in
     let bytes : Bytes c.args.table.now = λ i. omega (arith, c.shared_slice_known-1.given i) in
-    let head : HeadSound c.args.table.now c.read_head-round.result = let s = c in record { bytes = bytes; good = good; head = c.read_head-round.ensures; sound = sym c.head_is_sound.ensures ∙ c.if-not-head_is_sound.false } in
+    let head : HeadSound c.args.table.now c.read_head-round.result = record { bytes = bytes; good = good; head = c.read_head-round.ensures; sound = sym c.head_is_sound.ensures ∙ c.if-not-head_is_sound.false } in
     let f = rows_fit head in
     omega (arith, f.lent.within, f.whole)
 
@@ -64,16 +61,14 @@ pub returns-then-not-zeros_from : goal.returns-then-not-zeros_from
 returns-then-not-zeros_from c =
     let good : length_good (length c.args.table.now) ≡ true = sym c.length_is_good.ensures ∙ c.if-not-length_is_good.false in
     let bytes : Bytes c.args.table.now = λ i. omega (arith, c.shared_slice_known-1.given i) in
-    let head : HeadSound c.args.table.now c.read_head-round.result = let s = c in record { bytes = bytes; good = good; head = c.read_head-round.ensures; sound = sym c.head_is_sound.ensures ∙ c.if-not-head_is_sound.false } in
+    let head : HeadSound c.args.table.now c.read_head-round.result = record { bytes = bytes; good = good; head = c.read_head-round.ensures; sound = sym c.head_is_sound.ensures ∙ c.if-not-head_is_sound.false } in
     let unused : c.zeros_from.result ≡ zeros (drop (row_at c.read_head-round.result.used) c.args.table.now) = cc (c.row_at.ensures, c.zeros_from.ensures) in
-    let s = c in
-    unused_refused head (sym s.rows_are_counted.ensures.judged ∙ s.if-not-rows_are_counted.false) unused c.if-not-zeros_from.true
+    unused_refused head (sym c.rows_are_counted.ensures.judged ∙ c.if-not-rows_are_counted.false) unused c.if-not-zeros_from.true
 
 pub returns : goal.returns
 returns c =
     let good : length_good (length c.args.table.now) ≡ true = sym c.length_is_good.ensures ∙ c.if-not-length_is_good.false in
     let bytes : Bytes c.args.table.now = λ i. omega (arith, c.shared_slice_known-1.given i) in
-    let head : HeadSound c.args.table.now c.read_head-round.result = let s = c in record { bytes = bytes; good = good; head = c.read_head-round.ensures; sound = sym c.head_is_sound.ensures ∙ c.if-not-head_is_sound.false } in
+    let head : HeadSound c.args.table.now c.read_head-round.result = record { bytes = bytes; good = good; head = c.read_head-round.ensures; sound = sym c.head_is_sound.ensures ∙ c.if-not-head_is_sound.false } in
     let unused : c.zeros_from.result ≡ zeros (drop (row_at c.read_head-round.result.used) c.args.table.now) = cc (c.row_at.ensures, c.zeros_from.ensures) in
-    let s = c in
-    scan_accepts head s.rows_are_counted.ensures s.if-not-rows_are_counted.false unused c.if-not-zeros_from.false
+    scan_accepts head c.rows_are_counted.ensures c.if-not-rows_are_counted.false unused c.if-not-zeros_from.false

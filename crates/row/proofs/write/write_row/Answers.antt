@@ -1,5 +1,5 @@
 -- `row::write::write_row` meets its contract: five stores are the row's numbers.
-use Rattle.std.proofs.Common.{arith, rules}
+use Rattle.std.proofs.Common.{arith}
 use Rattle.row.proofs.StoreLaws.{row_stored}
 use Rattle.row.proofs.write.write_row.Goals as goal
 

@@ -13,7 +13,7 @@ use Rattle.theory.specs.Flags.{with_flag}
 use Rattle.theory.specs.Segments as counted
 use Rattle.round.specs.Rows.{at}
 use Rattle.keys.specs.Sorted.{many_due, placed}
-use Rattle.keys.specs.DueOrder.{placed_row}
+use Rattle.keys.proofs.DueOrder.{placed_row}
 use Rattle.picture.specs.Picture.{Segment, segment, Heaviest, Lightest, Within}
 use Rattle.picture.specs.Near.{LeftRow, Out}
 use Rattle.picture.specs.Own.{RightOwn}

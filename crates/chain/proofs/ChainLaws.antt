@@ -19,7 +19,7 @@ use Rattle.theory.specs.Members.{RowsOfPlan, planned_rows, found_member, member?
 use Rattle.theory.specs.Chain.{HeaviestIn, Linked, shifted_to_end, moves, chain_other}
 use Rattle.theory.specs.Leaping.{rising_moves, moved_ticket}
 use Rattle.theory.specs.Whole.{length_moves}
-use Rattle.picture.specs.Places.{ends_at}
+use Rattle.picture.proofs.Places.{ends_at}
 use Rattle.round.specs.Rows.{at}
 use Rattle.keys.specs.Key.{weight_of, row_of, key_at}
 use Rattle.keys.specs.KeyLaws.{row_fine, weight_is, row_is, some_key, lesser_key, greater_key}

@@ -11,7 +11,7 @@ use Rattle.rules.specs.Rows.{Round}
 use Rattle.rules.specs.Plan.{mark}
 use Rattle.theory.specs.Tests.{eqb?}
 use Rattle.theory.specs.Full.{Fine}
-use Rattle.picture.specs.LeapMarks.{mark_first, mark_next}
+use Rattle.picture.proofs.LeapMarks.{mark_first, mark_next}
 use Rattle.chain.specs.Chain.{Pieces, start_of, LiesIn, Lowered, Marked}
 
 -- A PASS with segment k next

@@ -15,7 +15,7 @@ use Rattle.round.specs.Rows.{at}
 use Rattle.keys.specs.Key.{due_of, row_of}
 use Rattle.keys.specs.KeyLaws.{greater_key}
 use Rattle.keys.specs.Sorted.{many_due, placed}
-use Rattle.keys.specs.DueOrder.{placed_row, placed_rises}
+use Rattle.keys.proofs.DueOrder.{placed_row, placed_rises}
 use Rattle.segments.specs.Given.{Given}
 use Rattle.segments.proofs.PlaceLaws as places
 use Rattle.segments.proofs.PlaceLaws.{rows_of_it, due_told, row_told, member_there, member_place}

@@ -1,0 +1,4 @@
+pub mod KeyLaws
+pub mod DueOrder
+pub mod DueSums
+pub mod CanonicalKey

@@ -1,6 +1,5 @@
 pub mod Key
 pub mod Sorted
-pub mod KeyLaws
 pub mod DueOrder
 pub mod DueSums
 pub mod CanonicalKey

@@ -25,7 +25,7 @@ use Rattle.theory.specs.Members.{RowsOfPlan, planned_rows, of_rows_in, in_plan_i
 use Rattle.theory.specs.Sane.{sound}
 use Rattle.theory.specs.Whole.{Sends, length_moves}
 use Rattle.picture.specs.Picture.{Spans}
-use Rattle.picture.specs.LeapSends.{blank_sends, row_sends}
+use Rattle.picture.proofs.LeapSends.{blank_sends, row_sends}
 use Rattle.sorts.specs.declared.Round.{Round as Head}
 use Rattle.head.specs.Head.{HeadOf}
 use Rattle.round.specs.Rows.{at}

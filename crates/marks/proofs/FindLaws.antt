@@ -13,8 +13,9 @@ use Rattle.theory.specs.Flags.{with_flag}
 use Rattle.round.specs.Rows.{at}
 use Rattle.keys.specs.Key.{due_of, row_of, key_at, blank_key}
 use Rattle.keys.specs.Sorted.{placed}
-use Rattle.keys.specs.DueOrder.{placed_all, placed_rises}
-use Rattle.keys.specs.DueSums.{each, each_more}
+use Rattle.keys.proofs.DueOrder.{placed_all, placed_rises}
+use Rattle.keys.specs.DueSums.{each}
+use Rattle.keys.proofs.DueSums.{each_more}
 use Rattle.marks.specs.Given.{Asked, LentAsked}
 use Rattle.marks.specs.Near.{Finds, Ends}
 use Rattle.marks.proofs.KeptLaws.{flagged, flagged_yes, flagged_no, kept, kept_all, filled, fits, At, at_place, Read, key_read, from_slot}

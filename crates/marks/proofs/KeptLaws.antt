@@ -24,8 +24,9 @@ use Rattle.round.proofs.ReadLaws.{known}
 use Rattle.keys.specs.Key.{due_of, row_of, blank_key, key_at}
 use Rattle.keys.specs.KeyLaws.{row_fine, row_is, due_is, some_key}
 use Rattle.keys.specs.Sorted.{Sorted, many_due, placed}
-use Rattle.keys.specs.DueOrder.{place, placed_front}
-use Rattle.keys.specs.DueSums.{each, each_same, each_more, before_slot, placed_sum}
+use Rattle.keys.proofs.DueOrder.{place, placed_front}
+use Rattle.keys.specs.DueSums.{each, before_slot}
+use Rattle.keys.proofs.DueSums.{each_same, each_more, placed_sum}
 use Rattle.buckets.specs.Reach.{Reaches}
 use Rattle.buckets.specs.declared.Reach.{Reach}
 use Rattle.marks.specs.Given.{Given}

@@ -21,7 +21,7 @@ use Rattle.round.specs.Rows.{at}
 use Rattle.keys.specs.Key.{weight_of, due_of, row_of, blank_key, key_at}
 use Rattle.keys.specs.KeyLaws.{row_is, weight_is, some_key, greater_key}
 use Rattle.keys.specs.Sorted.{placed}
-use Rattle.keys.specs.DueOrder.{placed_all, placed_rises}
+use Rattle.keys.proofs.DueOrder.{placed_all, placed_rises}
 use Rattle.sub.specs.Substitute.{Substitutes}
 use Rattle.sub.specs.declared.Sub.TheVariants.{Row as Row-at, Blank}
 use Rattle.marks.specs.Given.{Given, Asked, Lent}

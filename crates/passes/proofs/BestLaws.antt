@@ -8,7 +8,7 @@ use Rattle.rules.specs.Rows.{Round}
 use Rattle.theory.specs.Tests.{leb?, ltb?, eqb?}
 use Rattle.round.specs.Rows.{at, DueAt, WeightAt, ClassAt}
 use Rattle.keys.specs.Key.{rank, rank_at}
-use Rattle.keys.specs.KeyLaws.{rank_due}
+use Rattle.keys.proofs.KeyLaws.{rank_due}
 use Rattle.passes.specs.Best.{RankAt, Over, Under, Sees, Behind, best_of, IsRow, Heaviest, Weighs, Least}
 use Rattle.passes.specs.Look.{Notes, Looks}
 use Rattle.passes.specs.declared.best.Best.{Best}

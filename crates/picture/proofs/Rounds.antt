@@ -8,7 +8,8 @@ use Rattle.rules.specs.Plan.{due_by, fits_from, feasible, kept, blanks_from, pla
 use Rattle.theory.specs.Full.{Fine}
 use Rattle.picture.specs.Picture.{Segment, segment, Picture}
 use Rattle.picture.specs.Chain.{over, links}
-use Rattle.picture.specs.Drawing.{heaviest_within, segment_at, picture_from, picture_of, picture_right}
+use Rattle.picture.specs.Drawing.{heaviest_within, segment_at, picture_from, picture_of}
+use Rattle.picture.proofs.Drawing.{picture_right}
 
 -- a frame that waits
 abbrev pub frame : (ticket due weight : ℕ) → Row

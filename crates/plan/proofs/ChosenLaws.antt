@@ -24,8 +24,9 @@ use Rattle.round.specs.Rows.{at}
 use Rattle.keys.specs.Key.{key_at}
 use Rattle.keys.specs.KeyLaws.{row_fine, lesser_key}
 use Rattle.keys.specs.Sorted.{many_due, placed, Sorted}
-use Rattle.keys.specs.DueOrder.{many_is, placed_row, placed_before, placed_from}
-use Rattle.keys.specs.DueSums.{each, each_le, each_same, each_more, before_slot, placed_sum}
+use Rattle.keys.proofs.DueOrder.{many_is, placed_row, placed_before, placed_from}
+use Rattle.keys.specs.DueSums.{each, before_slot}
+use Rattle.keys.proofs.DueSums.{each_le, each_same, each_more, placed_sum}
 use Rattle.leaving.specs.Sweep.{tally, before, smaller, Barred, Queue, Swept, Parted}
 use Rattle.leaving.specs.Sweep.{key_on, row_on, ahead_on, weight_on, kept?, kept_on, left_on}
 use Rattle.leaving.proofs.TallyLaws.{tally_nothing, tally_le, tally_both, tally_some, tally_more, before?, before_yes, before_no, smaller?, smaller_1}

@@ -18,7 +18,8 @@ use Rattle.round.specs.Buckets.{Counted}
 use Rattle.round.proofs.ReadLaws.{known}
 use Rattle.keys.specs.Key.{blank_key, key_at}
 use Rattle.keys.specs.Sorted.{many_due, placed, Sorted}
-use Rattle.keys.specs.DueOrder.{in_slot, many_is, place}
+use Rattle.keys.specs.DueOrder.{in_slot}
+use Rattle.keys.proofs.DueOrder.{many_is, place}
 use Rattle.buckets.specs.Reach.{Reaches}
 use Rattle.buckets.specs.declared.Reach.{Reach}
 use Rattle.plan.specs.declared.Planned.{Planned}

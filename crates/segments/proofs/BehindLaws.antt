@@ -19,9 +19,10 @@ use Rattle.keys.specs.KeyLaws.{weight_is}
 use Rattle.picture.specs.Picture.{Segment}
 use Rattle.picture.specs.Substitutes.{stand_in}
 use Rattle.picture.specs.Pick.{top_score}
-use Rattle.picture.specs.Leads.{Leads, leads_one}
+use Rattle.picture.specs.Leads.{Leads}
+use Rattle.picture.proofs.Leads.{leads_one}
 use Rattle.picture.specs.Own.{DrawnOwn}
-use Rattle.picture.specs.OwnPick.{leads_own}
+use Rattle.picture.proofs.OwnPick.{leads_own}
 use Rattle.lead.specs.Closed.{closed}
 use Rattle.lead.specs.declared.Lead.{Lead}
 use Rattle.segments.specs.Segmented.{Keyed, Named, Stored, Leader}

@@ -15,8 +15,9 @@ use Rattle.theory.specs.Index.{chosen_next}
 use Rattle.theory.specs.Flags.{raised, raised_at, length_raised, with_flag}
 use Rattle.round.specs.Rows.{at}
 use Rattle.keys.specs.Sorted.{many_due, placed}
-use Rattle.keys.specs.DueOrder.{placed_front}
-use Rattle.keys.specs.DueSums.{each, each_same, each_more, placed_sum, before_slot}
+use Rattle.keys.proofs.DueOrder.{placed_front}
+use Rattle.keys.specs.DueSums.{each, before_slot}
+use Rattle.keys.proofs.DueSums.{each_same, each_more, placed_sum}
 
 -- 1 for a row in the plan
 abbrev pub flag : List ℕ → (row : ℕ) → ℕ

@@ -13,11 +13,11 @@ use Rattle.theory.specs.Flags.{with_flag}
 use Rattle.theory.specs.Segments as counted
 use Rattle.round.specs.Rows.{at}
 use Rattle.keys.specs.Sorted.{many_due, placed}
-use Rattle.keys.specs.DueOrder.{placed_row}
+use Rattle.keys.proofs.DueOrder.{placed_row}
 use Rattle.picture.specs.Picture.{Segment, segment, Heaviest, Lightest, Within}
 use Rattle.picture.specs.Near.{LeftRow, Out}
 use Rattle.picture.specs.Own.{RightOwn}
-use Rattle.picture.specs.OwnNear.{right_own}
+use Rattle.picture.proofs.OwnNear.{right_own}
 use Rattle.segments.specs.Given.{Given}
 use Rattle.segments.specs.Segmented.{Keyed, Named}
 use Rattle.segments.proofs.PlaceLaws.{due_at, FullBy, rows_of_it, member_there, member_place, left_there, left_place, full_place}

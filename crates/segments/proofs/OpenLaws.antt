@@ -12,7 +12,7 @@ use Rattle.theory.specs.Near.{near_edge}
 use Rattle.theory.specs.Flags.{with_flag}
 use Rattle.keys.specs.Key.{blank_key, key_at}
 use Rattle.keys.specs.Sorted.{many_due, placed}
-use Rattle.keys.specs.DueOrder.{placed_row, placed_rises}
+use Rattle.keys.proofs.DueOrder.{placed_row, placed_rises}
 use Rattle.segments.specs.Given.{Given}
 use Rattle.segments.proofs.CountLaws.{kept_to, kept_next, flag_yes, flag_no}
 use Rattle.segments.proofs.PlaceLaws.{due_at, FullBy, rows_of_it, kept_all, full_here, not_full_here}

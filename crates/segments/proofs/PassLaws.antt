@@ -16,10 +16,11 @@ use Rattle.theory.specs.Flags.{with_flag}
 use Rattle.keys.specs.Key.{weight_of, due_of, row_of, blank_key}
 use Rattle.keys.specs.KeyLaws.{some_key}
 use Rattle.keys.specs.Sorted.{many_due, placed}
-use Rattle.keys.specs.DueOrder.{placed_row, placed_rises}
-use Rattle.picture.specs.Substitutes.{stand_in, stand_in_first, stand_in_later}
+use Rattle.keys.proofs.DueOrder.{placed_row, placed_rises}
+use Rattle.picture.specs.Substitutes.{stand_in}
+use Rattle.picture.proofs.Substitutes.{stand_in_first, stand_in_later}
 use Rattle.picture.specs.Own.{DrawnOwn}
-use Rattle.picture.specs.OwnPick.{own_long}
+use Rattle.picture.proofs.OwnPick.{own_long}
 use Rattle.lead.specs.Closed.{ends_here, closed}
 use Rattle.lead.specs.declared.Lead.{Lead}
 use Rattle.segments.specs.Given.{Given}

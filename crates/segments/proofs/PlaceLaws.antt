@@ -20,7 +20,7 @@ use Rattle.round.specs.Rows.{at}
 use Rattle.keys.specs.Key.{due_of, row_of, key_at}
 use Rattle.keys.specs.KeyLaws.{row_fine, due_is, row_is}
 use Rattle.keys.specs.Sorted.{many_due, placed}
-use Rattle.keys.specs.DueOrder.{many_mono, place, placed_row, placed_rises, placed_all, placed_from}
+use Rattle.keys.proofs.DueOrder.{many_mono, place, placed_row, placed_rises, placed_all, placed_from}
 use Rattle.segments.specs.Given.{Given}
 use Rattle.segments.proofs.CountLaws.{kept_to, kept_slot, kept_more}
 

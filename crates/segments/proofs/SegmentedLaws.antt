@@ -12,10 +12,10 @@ use Rattle.theory.specs.Full.{Fine}
 use Rattle.theory.specs.Members.{RowsOfPlan}
 use Rattle.theory.specs.Near.{Near}
 use Rattle.picture.specs.Picture.{Segment, Heaviest}
-use Rattle.picture.specs.Substitutes.{stand_in_later}
+use Rattle.picture.proofs.Substitutes.{stand_in_later}
 use Rattle.picture.specs.Far.{Far}
 use Rattle.picture.specs.Own.{RightOwn, DrawnOwn, Numbered}
-use Rattle.picture.specs.OwnPick.{right_own_of, numbered_among, own_leader, own_far}
+use Rattle.picture.proofs.OwnPick.{right_own_of, numbered_among, own_leader, own_far}
 use Rattle.lead.specs.declared.Lead.{Lead}
 use Rattle.segments.specs.Segmented.{Named, HoldsSegment, Stored, Segmented}
 

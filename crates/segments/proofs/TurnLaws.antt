@@ -7,7 +7,7 @@ use native.Mathlib.Omega.{arith}
 use lib.ListN.{length, get_or, set, length-set}
 use Rattle.keys.specs.Key.{weight_of, due_of, row_of, blank_key}
 use Rattle.keys.specs.Sorted.{many_due}
-use Rattle.keys.specs.DueOrder.{placed_row}
+use Rattle.keys.proofs.DueOrder.{placed_row}
 use Rattle.lead.specs.Closed.{ends_here, closed}
 use Rattle.lead.specs.declared.Lead.{Lead}
 use Rattle.segments.specs.Given.{Lent}

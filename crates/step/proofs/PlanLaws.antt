@@ -23,10 +23,10 @@ use Rattle.theory.specs.Same.{in_plan?}
 use Rattle.theory.specs.Turn.{unsealed_goes}
 use Rattle.picture.specs.Picture.{Segment, Heaviest, Among}
 use Rattle.picture.specs.Far.{Far}
-use Rattle.picture.specs.Near.{member_near}
+use Rattle.picture.proofs.Near.{member_near}
 use Rattle.picture.specs.Own.{DrawnOwn}
-use Rattle.picture.specs.OwnPick.{own_long, numbered_among}
-use Rattle.picture.specs.LeapSends.{afar_sends, ordinary_sends}
+use Rattle.picture.proofs.OwnPick.{own_long, numbered_among}
+use Rattle.picture.proofs.LeapSends.{afar_sends, ordinary_sends}
 use Rattle.sorts.specs.declared.Round.{Round as Head}
 use Rattle.round.specs.Rows.{at}
 use Rattle.round.proofs.ReadLaws.{Known, known}

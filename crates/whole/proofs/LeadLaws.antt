@@ -22,7 +22,7 @@ use Rattle.theory.specs.Near.{Near}
 use Rattle.theory.specs.Segments.{Segment, first_segment, segment_beats, segment_score_first, segment_mark}
 use Rattle.theory.specs.Lead.{Leads}
 use Rattle.round.specs.Rows.{at}
-use Rattle.keys.specs.KeyLaws.{rank_less, rank_same}
+use Rattle.keys.proofs.KeyLaws.{rank_less, rank_same}
 use Rattle.passes.specs.Best.{Behind, IsRow, Heaviest, Least}
 use Rattle.passes.specs.declared.best.Best.{Best}
 use Rattle.whole.specs.Whole.{LightestBy}

@@ -1,7 +1,7 @@
 -- `first::key_at`: the key of what is read.
 use native.Mathlib.Omega.{arith}
 use Rattle.round.proofs.ReadLaws.{known}
-use Rattle.keys.specs.KeyLaws.{key_read}
+use Rattle.keys.proofs.KeyLaws.{key_read}
 use borrow.Author.Rules.{rules}
 use Rattle.first.proofs.key_at.Goals as goal
 

@@ -1,6 +1,6 @@
 -- `keys::flagged` meets its contract.
 use borrow.Author.Rules.{rules}
-use Rattle.keys.specs.KeyLaws.{flag_fits}
+use Rattle.keys.proofs.KeyLaws.{flag_fits}
 use Rattle.keys.proofs.flagged.Goals as goal
 
 pub overflow_mul-result : goal.overflow_mul-result

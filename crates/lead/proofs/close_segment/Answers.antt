@@ -12,22 +12,20 @@ use Rattle.lead.proofs.close_segment.Goals as goal
 
 -- src/lib.rt:55:9
 pub returns-then-lead-score : goal.returns-then-lead-score
-returns-then-lead-score c =
-    (
-      closed_takes c.args.lead c.args.heavy c.args.other c.weight_of.result c.weight_of-2.result
-          c.score_of-score.result (search rules) (search rules) (search rules) (search rules),
-      search rules,
-      search rules,
-      ap (λ (v : ℕ). set c.args.lows.now c.args.lead.count v) c.weight_of-3.ensures,
-    )
+returns-then-lead-score c = (
+  closed_takes c.args.lead c.args.heavy c.args.other c.weight_of.result c.weight_of-2.result
+      c.score_of-score.result (search rules) (search rules) (search rules) (search rules),
+  search rules,
+  search rules,
+  ap (λ (v : ℕ). set c.args.lows.now c.args.lead.count v) c.weight_of-3.ensures,
+)
 
 -- src/lib.rt:33:1
 pub returns : goal.returns
-returns c =
-    (
-      closed_keeps c.args.lead c.args.heavy c.args.other c.weight_of.result c.weight_of-2.result
-          c.score_of-score.result (search rules) (search rules) (search rules) (search rules),
-      search rules,
-      search rules,
-      ap (λ (v : ℕ). set c.args.lows.now c.args.lead.count v) c.weight_of-3.ensures,
-    )
+returns c = (
+  closed_keeps c.args.lead c.args.heavy c.args.other c.weight_of.result c.weight_of-2.result
+      c.score_of-score.result (search rules) (search rules) (search rules) (search rules),
+  search rules,
+  search rules,
+  ap (λ (v : ℕ). set c.args.lows.now c.args.lead.count v) c.weight_of-3.ensures,
+)

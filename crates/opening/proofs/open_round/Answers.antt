@@ -35,8 +35,7 @@ clear-requires c =
 
 pub write_head-requires : goal.write_head-requires
 write_head-requires c =
-    let good : length_good (length c.args.table.now) ≡ true = sym c.length_is_good.ensures ∙ c.if-not-length_is_good.false in
-    (
+    let good : length_good (length c.args.table.now) ≡ true = sym c.length_is_good.ensures ∙ c.if-not-length_is_good.false in (
       cleared_fits (until c.args.last.0) c.args.table.now good
           c.clear.new.table c.clear.ensures,
       omega (arith, c.new-round.ensures.3),

@@ -23,11 +23,10 @@ overflow_cast-expiring c =
     omega (arith, few_now _ _ _ c.requires.0 c.requires.1)
 
 pub send_all-requires : goal.send_all-requires
-send_all-requires c =
-    (
-      whole_given _ _ _ _ c.requires.0 (λ z. omega (arith, z)) c.requires.1 c.reach_of-reach.ensures (omega arith),
-      due_now _ _ _ c.requires.0 c.requires.1 _ refl,
-    )
+send_all-requires c = (
+  whole_given _ _ _ _ c.requires.0 (λ z. omega (arith, z)) c.requires.1 c.reach_of-reach.ensures (omega arith),
+  due_now _ _ _ c.requires.0 c.requires.1 _ refl,
+)
 
 pub send_few-requires : goal.send_few-requires
 send_few-requires c =

@@ -12,14 +12,13 @@ pub loop-i-init : goal.loop-i-init
 loop-i-init c = (search rules, search rules, search rules, cleared_none c.args.table.now c.args.from)
 
 pub loop-i-preserved : goal.loop-i-preserved
-loop-i-preserved c =
-    (
-      search rules,
-      search rules,
-      simp length-set (search rules),
-      cleared_more c.args.table.now c.loop-i.table c.args.from c.loop-i.i
-          (search rules) (search rules) c.loop-i.invariant.3,
-    )
+loop-i-preserved c = (
+  search rules,
+  search rules,
+  simp length-set (search rules),
+  cleared_more c.args.table.now c.loop-i.table c.args.from c.loop-i.i
+      (search rules) (search rules) c.loop-i.invariant.3,
+)
 
 pub returns : goal.returns
 returns c =

@@ -15,13 +15,12 @@ returns-then-not-four_are_zero c =
     c.loop-at.invariant.2)
 
 pub loop-at-preserved : goal.loop-at-preserved
-loop-at-preserved c =
-    (
-      search rules,
-      search rules,
-      zeros_more c.args.table.now c.args.from c.loop-at.at _ _ true c.four_are_zero.ensures c.if-not-four_are_zero.false
-          c.loop-at.invariant.2,
-    )
+loop-at-preserved c = (
+  search rules,
+  search rules,
+  zeros_more c.args.table.now c.args.from c.loop-at.at _ _ true c.four_are_zero.ensures c.if-not-four_are_zero.false
+      c.loop-at.invariant.2,
+)
 
 pub loop-at-2-init : goal.loop-at-2-init
 loop-at-2-init c = (c.loop-at.invariant.0, c.loop-at.invariant.1, c.loop-at.invariant.2)
@@ -32,13 +31,12 @@ returns-then-not-row_is_zero c =
     c.loop-at-2.invariant.2)
 
 pub loop-at-2-preserved : goal.loop-at-2-preserved
-loop-at-2-preserved c =
-    (
-      search rules,
-      search rules,
-      zeros_more c.args.table.now c.args.from c.loop-at-2.at _ _ true c.row_is_zero.ensures c.if-not-row_is_zero.false
-          c.loop-at-2.invariant.2,
-    )
+loop-at-2-preserved c = (
+  search rules,
+  search rules,
+  zeros_more c.args.table.now c.args.from c.loop-at-2.at _ _ true c.row_is_zero.ensures c.if-not-row_is_zero.false
+      c.loop-at-2.invariant.2,
+)
 
 pub returns : goal.returns
 returns c = sym (c.loop-at-2.invariant.2 ∙ zeros_none c.args.table.now c.loop-at-2.at (search rules))

@@ -70,8 +70,7 @@ loop-i-smaller c = fewer_left _ _ c.loop-i-test.true
 
 pub loop-i-preserved : goal.loop-i-preserved
 loop-i-preserved c =
-    let bucket : BucketAt (round_in c.args.table.now) c.loop-i.i c.cut-b.result = bucket_there _ _ c.requires.0 c.if-round.false _ _ _ c.row_at-a.ensures refl c.loop-i-test.true _ _ c.see_row-seen.ensures _ _ _ c.row_follows.ensures c.if-not-row_follows.false c.top_of-top.ensures c.cut-b.ensures in
-    (
+    let bucket : BucketAt (round_in c.args.table.now) c.loop-i.i c.cut-b.result = bucket_there _ _ c.requires.0 c.if-round.false _ _ _ c.row_at-a.ensures refl c.loop-i-test.true _ _ c.see_row-seen.ensures _ _ _ c.row_follows.ensures c.if-not-row_follows.false c.top_of-top.ensures c.cut-b.ensures in (
       scanned_on _ _ _ _ _ _ _ c.requires.0 c.loop-i-test.true
           (judging_on _ _ c.requires.0 c.if-round.false _ _ _ c.row_at-a.ensures refl c.loop-i-test.true _ _
           c.see_row-seen.ensures _ c.row_follows.ensures c.if-not-row_follows.false c.loop-i.invariant.0.judging)

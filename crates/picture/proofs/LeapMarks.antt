@@ -10,7 +10,7 @@ use Rattle.theory.specs.Order.{not_over_weight}
 use Rattle.theory.specs.Full.{Fine, plan_due}
 use Rattle.theory.specs.Picks.{mark_least, mark_attained}
 use Rattle.picture.specs.Picture.{Spans, Lightest, Within}
-use Rattle.picture.specs.Places.{ends_at}
+use Rattle.picture.proofs.Places.{ends_at}
 
 -- one mark for all slots of a segment
 pub mark_end : (r : Round) → Fine r → (b e : ℕ) → Spans r b e → (d : ℕ) → b ≤ d → d ≤ e → mark r d ≡ mark r e

@@ -13,13 +13,17 @@ use Rattle.theory.specs.Best.{Beaten}
 use Rattle.theory.specs.Near.{Near}
 use Rattle.theory.specs.Members.{RowsOfPlan}
 use Rattle.picture.specs.Picture.{Segment, segment, Heaviest, Lightest, Within, By, Among}
-use Rattle.picture.specs.One.{one, member_known}
-use Rattle.picture.specs.Join.{low_start}
-use Rattle.picture.specs.Substitutes.{stand_in, stand_in_first, stand_in_later}
+use Rattle.picture.proofs.One.{one, member_known}
+use Rattle.picture.proofs.Join.{low_start}
+use Rattle.picture.specs.Substitutes.{stand_in}
+use Rattle.picture.proofs.Substitutes.{stand_in_first, stand_in_later}
 use Rattle.picture.specs.Pick.{top_score}
-use Rattle.picture.specs.Leads.{Leads, score_top, earlier_beaten, leads_next, leads_still}
-use Rattle.picture.specs.Far.{Far, pick_leader, pick_far}
-use Rattle.picture.specs.Own.{RightOwn, DrawnOwn, whole, whole_right, whole_drawn, Numbered}
+use Rattle.picture.specs.Leads.{Leads}
+use Rattle.picture.proofs.Leads.{score_top, earlier_beaten, leads_next, leads_still}
+use Rattle.picture.specs.Far.{Far}
+use Rattle.picture.proofs.Far.{pick_leader, pick_far}
+use Rattle.picture.specs.Own.{RightOwn, DrawnOwn, whole, Numbered}
+use Rattle.picture.proofs.Own.{whole_right, whole_drawn}
 
 pub beaten_score : (r : Round) (q p : Row) → Beaten r q p → score_of r q ≤ score_of r p
 beaten_score r q p (inl h) = omega arith

@@ -7,7 +7,8 @@ use Rattle.theory.specs.Members.{RowsOfPlan, found_member}
 use Rattle.theory.specs.Near.{Near}
 use Rattle.theory.specs.Segments as counted
 use Rattle.picture.specs.Picture.{Segment, Heaviest, Lightest, Within}
-use Rattle.picture.specs.Near.{Out, out_right, member_near, spans_near}
+use Rattle.picture.specs.Near.{Out}
+use Rattle.picture.proofs.Near.{out_right, member_near, spans_near}
 use Rattle.picture.specs.Own.{RightOwn}
 
 pub right_own : (r : Round) (f : Fine r) (rs : List Row) (c : RowsOfPlan r rs) (z : ℕ) (k : Near r z) (g : Segment) → g.last < z →

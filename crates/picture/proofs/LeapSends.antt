@@ -16,9 +16,9 @@ use Rattle.theory.specs.Near.{Near, far_sent}
 use Rattle.theory.specs.Picks.{later_substitute}
 use Rattle.theory.specs.Whole.{Sends, length_moves}
 use Rattle.picture.specs.Picture.{Spans, Heaviest}
-use Rattle.picture.specs.One.{no_heavier, one, outside_known}
-use Rattle.picture.specs.Places.{ends_at, starts_at, first_ends, later_starts}
-use Rattle.picture.specs.LeapMarks.{mark_end}
+use Rattle.picture.proofs.One.{no_heavier, one, outside_known}
+use Rattle.picture.proofs.Places.{ends_at, starts_at, first_ends, later_starts}
+use Rattle.picture.proofs.LeapMarks.{mark_end}
 
 module _ (r : Round) (f : Fine r) (o : r.slot ≤ r.last) (rs : List Row) (c : RowsOfPlan r rs) where
   -- A LEAP FROM AFAR: nothing stays behind

@@ -13,10 +13,11 @@ use Rattle.theory.specs.Leap.{no_shift}
 use Rattle.theory.specs.Members.{RowsOfPlan}
 use Rattle.theory.specs.Chain.{shifted_to_end, moves, chain_is}
 use Rattle.picture.specs.Picture.{Segment, Right, Drawn}
-use Rattle.picture.specs.Places.{ends_at, first_ends, later_starts}
-use Rattle.picture.specs.Marks.{mark_low}
-use Rattle.picture.specs.Substitutes.{substitute_out}
-use Rattle.picture.specs.Chain.{links, chain_rows}
+use Rattle.picture.proofs.Places.{ends_at, first_ends, later_starts}
+use Rattle.picture.proofs.Marks.{mark_low}
+use Rattle.picture.proofs.Substitutes.{substitute_out}
+use Rattle.picture.specs.Chain.{links}
+use Rattle.picture.proofs.Chain.{chain_rows}
 
 module _ (r : Round) (f : Fine r) (g : Segment) (w : Right r g) where
   -- THE KIND of step

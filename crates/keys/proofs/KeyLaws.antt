@@ -111,7 +111,6 @@ heavier_by_key a b i j h k m n o p q s e = elim (heavier? a b) [
     below (inr (u, inr (v, inl w))) = omega arith
     below (inr (u, inr (v, inr (w, x)))) = let c : j ≤ i = ltb-false i j (sym e ∙ le-ltb a.ticket b.ticket x) in omega arith
 
--- A ROUND'S ROWS by index
 module _ (r : Round) (f : Fine r) (small : length r.rows ≤ 1024) (cap : r.last ≤ 4095) where
   pub row_fine : (i : ℕ) → i < length r.rows → RowFine r (at r i)
   row_fine i h = all_in (RowFine r) (at r i) r.rows f.fine (getD_in r.rows (blank 0) i h)

@@ -22,7 +22,7 @@ use Rattle.theory.specs.Whole.{length_moves}
 use Rattle.picture.proofs.Places.{ends_at}
 use Rattle.round.specs.Rows.{at}
 use Rattle.keys.specs.Key.{weight_of, row_of, key_at}
-use Rattle.keys.specs.KeyLaws.{row_fine, weight_is, row_is, some_key, lesser_key, greater_key}
+use Rattle.keys.proofs.KeyLaws.{row_fine, weight_is, row_is, some_key, lesser_key, greater_key}
 use Rattle.chain.specs.Chain.{Piece, Named, linked, having, Shifts}
 use Rattle.chain.proofs.MoveLaws.{moves_changed, moves_other, length_having, table_shift}
 

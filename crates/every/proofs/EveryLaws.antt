@@ -24,8 +24,7 @@ use Rattle.sorts.specs.declared.Round.{Round as Head}
 use Rattle.round.specs.Rows.{DueAt, WeightAt, ClassAt, at}
 use Rattle.round.proofs.ReadLaws.{known}
 use Rattle.keys.specs.Key.{key, row_of, key_at}
-use Rattle.keys.specs.KeyLaws.{row_is, some_key, greater_key}
-use Rattle.keys.proofs.KeyLaws.{key_read}
+use Rattle.keys.proofs.KeyLaws.{row_is, some_key, greater_key, key_read}
 use Rattle.buckets.specs.declared.Reach.{Reach}
 use Rattle.buckets.specs.Stretch.{Full, Stretches}
 use Rattle.buckets.proofs.SegmentLaws.{whole_rows, full, stretch_segment}

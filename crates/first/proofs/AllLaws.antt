@@ -12,7 +12,7 @@ use Rattle.theory.specs.Keys.{getD_in}
 use Rattle.theory.specs.Index.{each_row}
 use Rattle.round.specs.Rows.{at, DueAt}
 use Rattle.keys.specs.Key.{key_at, row_of}
-use Rattle.keys.specs.KeyLaws.{row_is, greater_key}
+use Rattle.keys.proofs.KeyLaws.{row_is, greater_key}
 use Rattle.first.specs.First.{IsFirst, Behind, Ahead, first_of, Sees, Leads}
 use Rattle.first.specs.declared.First.{First}
 

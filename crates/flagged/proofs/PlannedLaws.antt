@@ -13,7 +13,7 @@ use Rattle.theory.specs.Near.{near_edge}
 use Rattle.theory.specs.Picks.{with_due}
 use Rattle.round.specs.Rows.{at}
 use Rattle.keys.specs.Key.{due_of, row_of}
-use Rattle.keys.specs.KeyLaws.{greater_key}
+use Rattle.keys.proofs.KeyLaws.{greater_key}
 use Rattle.keys.specs.Sorted.{many_due, placed}
 use Rattle.keys.proofs.DueOrder.{placed_row, placed_rises}
 use Rattle.segments.specs.Given.{Given}

@@ -30,7 +30,7 @@ use Rattle.sorts.specs.declared.Round.{Round as Head}
 use Rattle.head.specs.Head.{HeadOf}
 use Rattle.round.specs.Rows.{at}
 use Rattle.round.proofs.ReadLaws.{Known, known}
-use Rattle.keys.specs.KeyLaws.{row_fine, due_is, row_is}
+use Rattle.keys.proofs.KeyLaws.{row_fine, due_is, row_is}
 use Rattle.keys.specs.Key.{due_of, row_of}
 use Rattle.closing.specs.Close.{DueNow, gone_ticket, closed_up}
 use Rattle.lead.specs.declared.Lead.{Lead}

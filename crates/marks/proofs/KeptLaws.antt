@@ -22,7 +22,7 @@ use Rattle.sorts.specs.declared.Round.{Round as Head}
 use Rattle.round.specs.Rows.{Ready, at}
 use Rattle.round.proofs.ReadLaws.{known}
 use Rattle.keys.specs.Key.{due_of, row_of, blank_key, key_at}
-use Rattle.keys.specs.KeyLaws.{row_fine, row_is, due_is, some_key}
+use Rattle.keys.proofs.KeyLaws.{row_fine, row_is, due_is, some_key}
 use Rattle.keys.specs.Sorted.{Sorted, many_due, placed}
 use Rattle.keys.proofs.DueOrder.{place, placed_front}
 use Rattle.keys.specs.DueSums.{each, before_slot}

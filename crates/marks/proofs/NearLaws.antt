@@ -19,7 +19,7 @@ use Rattle.theory.specs.Substitute.{first_row}
 use Rattle.theory.specs.Flags.{raised, with_flag}
 use Rattle.round.specs.Rows.{at}
 use Rattle.keys.specs.Key.{weight_of, due_of, row_of, blank_key, key_at}
-use Rattle.keys.specs.KeyLaws.{row_is, weight_is, some_key, greater_key}
+use Rattle.keys.proofs.KeyLaws.{row_is, weight_is, some_key, greater_key}
 use Rattle.keys.specs.Sorted.{placed}
 use Rattle.keys.proofs.DueOrder.{placed_all, placed_rises}
 use Rattle.sub.specs.Substitute.{Substitutes}

@@ -22,7 +22,7 @@ use Rattle.theory.specs.Index.{sum_next, chosen_next}
 use Rattle.theory.specs.Flags.{raised, length_raised, raised_at, Chosen, with_flag}
 use Rattle.round.specs.Rows.{at}
 use Rattle.keys.specs.Key.{key_at}
-use Rattle.keys.specs.KeyLaws.{row_fine, lesser_key}
+use Rattle.keys.proofs.KeyLaws.{row_fine, lesser_key}
 use Rattle.keys.specs.Sorted.{many_due, placed, Sorted}
 use Rattle.keys.proofs.DueOrder.{many_is, placed_row, placed_before, placed_from}
 use Rattle.keys.specs.DueSums.{each, before_slot}

@@ -15,7 +15,7 @@ use Rattle.theory.specs.Tests.{leb?, both_ways}
 use Rattle.theory.specs.All.{blank_weight, blank_is}
 use Rattle.theory.specs.Full.{Fine}
 use Rattle.keys.specs.Key.{weight_of}
-use Rattle.keys.specs.KeyLaws.{weight_is}
+use Rattle.keys.proofs.KeyLaws.{weight_is}
 use Rattle.picture.specs.Picture.{Segment}
 use Rattle.picture.specs.Substitutes.{stand_in}
 use Rattle.picture.specs.Pick.{top_score}

@@ -10,7 +10,7 @@ use Rattle.theory.specs.Order.{NotOver, heavier_no}
 use Rattle.theory.specs.Full.{Fine}
 use Rattle.round.specs.Rows.{at}
 use Rattle.keys.specs.Key.{blank_key, key_at}
-use Rattle.keys.specs.KeyLaws.{some_key, greater_key}
+use Rattle.keys.proofs.KeyLaws.{some_key, greater_key}
 use Rattle.picture.specs.Picture.{Heaviest, Lightest}
 use Rattle.segments.specs.Segmented.{Keyed}
 

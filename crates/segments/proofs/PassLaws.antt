@@ -14,7 +14,7 @@ use Rattle.theory.specs.Feas.{num_none}
 use Rattle.theory.specs.Members.{of_rows_fine}
 use Rattle.theory.specs.Flags.{with_flag}
 use Rattle.keys.specs.Key.{weight_of, due_of, row_of, blank_key}
-use Rattle.keys.specs.KeyLaws.{some_key}
+use Rattle.keys.proofs.KeyLaws.{some_key}
 use Rattle.keys.specs.Sorted.{many_due, placed}
 use Rattle.keys.proofs.DueOrder.{placed_row, placed_rises}
 use Rattle.picture.specs.Substitutes.{stand_in}

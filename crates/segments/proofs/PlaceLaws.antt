@@ -18,7 +18,7 @@ use Rattle.theory.specs.Index.{index_of, flag_in, chosen_index, at_flag}
 use Rattle.theory.specs.Flags.{raised, raised_at, with_flag, chosen_rows}
 use Rattle.round.specs.Rows.{at}
 use Rattle.keys.specs.Key.{due_of, row_of, key_at}
-use Rattle.keys.specs.KeyLaws.{row_fine, due_is, row_is}
+use Rattle.keys.proofs.KeyLaws.{row_fine, due_is, row_is}
 use Rattle.keys.specs.Sorted.{many_due, placed}
 use Rattle.keys.proofs.DueOrder.{many_mono, place, placed_row, placed_rises, placed_all, placed_from}
 use Rattle.segments.specs.Given.{Given}

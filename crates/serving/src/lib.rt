@@ -1,4 +1,6 @@
 // What the program does between a read and a write, on lent buffers: one read served.
+#![tactic(auto)]
+
 ghost use Rattle.std.specs.Prelude.{◌≡◌};
 ghost use Rattle.rules.specs.Lines.{fresh_table};
 

@@ -30,7 +30,7 @@ use Rattle.picture.proofs.LeapSends.{afar_sends, ordinary_sends}
 use Rattle.sorts.specs.declared.Round.{Round as Head}
 use Rattle.round.specs.Rows.{at}
 use Rattle.round.proofs.ReadLaws.{Known, known}
-use Rattle.keys.specs.KeyLaws.{row_fine, weight_is, row_is, some_key, greater_key}
+use Rattle.keys.proofs.KeyLaws.{row_fine, weight_is, row_is, some_key, greater_key}
 use Rattle.keys.specs.Key.{weight_of, row_of, blank_key}
 use Rattle.lead.specs.declared.Lead.{Lead}
 use Rattle.segments.specs.Segmented.{Stored}

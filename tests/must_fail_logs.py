@@ -5,7 +5,8 @@
 They keep no other message. This script reads those lines and accepts one only where the edit was refused, and
 
   - not only because a proof file names what is not there any more, and not only by a limit of the prover: rt says both; and
-  - the message shown is not of a text that does not parse, or of a definition that is not to be opened any more.
+  - the message shown is not of a text that does not parse, of a definition that is not to be opened any more, or of an equation that only
+    does not fit its place.
 
 It also holds the last line of `rt ci`, `rt: ok`, to the edits that are in the tree: as many refused, and none bad.
 
@@ -37,6 +38,8 @@ FIT = [
     (re.compile(r'follows the signature of'), 'a clause has another name than its signature'),
     (re.compile(r'no `mod` line names this file'), 'a file is in no module'),
     (re.compile(r'was not admitted'), 'only what rests on a refused declaration'),
+    (re.compile(r"`rw`: no occurrence"), 'an equation does not fit'),
+    (re.compile(r'a trial run of this declaration was admitted'), 'only a trial run differs'),
 ]
 
 
@@ -98,6 +101,8 @@ SAMPLES = [
     (False, 'a limit', 'refused, as it must be (only by a limit of the prover, which gave no verdict, so this says less of the contract: choose a change that it refuses sooner): antt ran out of stack'),
     (False, 'does not parse', 'refused, as it must be: ./proofs/f/Answers.antt:10:18: error: `)` cannot continue the declaration here'),
     (False, 'kept shut', 'refused, as it must be: ./proofs/Laws.antt:10:18: error: `law`: `heavier` cannot be unfolded'),
+    (False, 'no occurrence', "refused, as it must be: ./proofs/f/Answers.antt:9:5: error: `returns`: `rw`: no occurrence of the path's left endpoint in the goal"),
+    (False, 'a trial run', 'refused, as it must be: ./proofs/Laws.antt:9:5: error: `law`: a trial run of this declaration was admitted, and the whole is not'),
     (False, 'nothing shown', 'refused, as it must be'),
     (False, 'still proved', 'NOT REFUSED: the crate is still proved with this edit (one that means the same as before cannot be refused: remove it)'),
     (False, 'cannot be applied', "BAD EDIT: an 'old:' text is in src/lib.rt 2 times, and not once"),

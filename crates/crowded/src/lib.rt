@@ -13,10 +13,11 @@ ghost use Rattle.crowded.specs.Crowded.{Crowded, Led};
 use buckets::Reach;
 use flagged::first_planned;
 use plan::{Planned, plan_of};
+use replies::Step;
 use segments::segments_of;
 use sorts::Round;
 use step::send_planned;
-use went::{Went, send_row};
+use went::send_row;
 
 // Sealed: the plan's first. Else by its segments: counts and heap have served once the plan is made, and take their ends and tops.
 fn send_led(
@@ -30,13 +31,13 @@ fn send_led(
     reach: Reach,
     planned: Planned,
     expiring: usize,
-) -> Went
+) -> Step
     requires { Led table.old counts.old keys.now flags.now heap.old lows.old round reach planned expiring }
     ensures { SentSays table.old table.new result }
 {
     if round.sealed == 1 {
         let row = first_planned(keys, flags, planned.many);
-        return send_row(table, round, row, false, expiring);
+        return Step::Ordinary(send_row(table, round, row, expiring));
     }
     let lead = segments_of(
         keys,
@@ -71,7 +72,7 @@ fn send_crowded(
     round: Round,
     reach: Reach,
     expiring: usize,
-) -> Went
+) -> Step
     requires { Crowded table.old counts.old keys.old flags.old heap.old lows.old round reach expiring }
     ensures { SentSays table.old table.new result }
 {
@@ -89,7 +90,7 @@ pub fn send_in_arrays<const PLACES: usize>(
     round: Round,
     reach: Reach,
     expiring: usize,
-) -> Went
+) -> Step
     requires { Ready table.old round × Counted (round_in table.old) counts.old × ReachSays counts.old (head_top round) reach
         × (reach.over ≢ 0) × DueNow table.old expiring × (round.used + 2 ≤ PLACES) × (PLACES ≤ 1026) }
     ensures { SentSays table.old table.new result }

@@ -13,12 +13,9 @@ fn sum_all(table: &[u8], round: Round) -> u64
     requires { Ready table.now round }
     ensures { result ≡ total_weight (round_in table.now).rows }
 {
-    let used = round.used;
     let mut sum: u64 = 0;
-    let mut i: usize = 0;
-    while i < used {
-        sum += weight_at(table, round, i) as u64;
-        i += 1;
+    for i in 0..round.used {
+        sum += u64::from(weight_at(table, round, i));
     }
     sum
 }

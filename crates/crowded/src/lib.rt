@@ -38,15 +38,7 @@ fn send_led(
         let row = first_planned(keys, flags);
         return send_row(table, round, row, false, expiring);
     }
-    let lead = segments_of(
-        keys,
-        flags,
-        round.slot,
-        reach.free,
-        counts,
-        heap,
-        lows,
-    );
+    let lead = segments_of(keys, flags, round.slot, reach.free, counts, heap, lows);
     send_planned(
         table,
         counts,

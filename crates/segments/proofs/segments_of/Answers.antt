@@ -55,8 +55,7 @@ overflow_sub-edge c =
 
 pub loop-i-preserved-then-flags-row_of-eq1 : goal.loop-i-preserved-then-flags-row_of-eq1
 loop-i-preserved-then-flags-row_of-eq1 c =
-    let g = meets (goal.at.loop-i-preserved-then-flags-row_of-eq1 c).After-row_of in
-    (
+    let g = meets (goal.at.loop-i-preserved-then-flags-row_of-eq1 c).After-row_of in (
       kept_further g refl c.row_of.ensures
           c.if-flags-row_of-eq1.true (omega (arith, c.min-heavy.ensures)) (omega (arith, c.max-light.ensures))
           (omega arith),
@@ -67,8 +66,7 @@ loop-i-preserved-then-flags-row_of-eq1 c =
 
 pub loop-i-preserved : goal.loop-i-preserved
 loop-i-preserved c =
-    let g = meets (goal.at.loop-i-preserved c).After-row_of in
-    (
+    let g = meets (goal.at.loop-i-preserved c).After-row_of in (
       left_further g refl c.row_of.ensures
           c.if-flags-row_of-eq1.false (omega (arith, c.min-out.ensures)),
       g.ends,

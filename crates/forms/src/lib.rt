@@ -19,13 +19,6 @@ pub enum Command {
     Classed(Slot, Weight, Class),
 }
 
-// What a line is read as: a command, or refusal 1.
-#[derive(Clone, Copy)]
-pub enum Reading {
-    Is(Command),
-    Broken,
-}
-
 // The most numbers that a line has behind its own.
 pub const MOST_NUMBERS: usize = 3;
 
@@ -74,17 +67,17 @@ fn formed(count: usize, widths: [usize; MOST_NUMBERS], front: usize, payload: bo
     }
 }
 
-// The command of a line number and its values, or refusal 1.
-pub fn command_of(number: u32, values: [u32; MOST_NUMBERS]) -> Reading
+// The command of a line number and its values; none is refusal 1.
+pub fn command_of(number: u32, values: [u32; MOST_NUMBERS]) -> Option<Command>
     ensures { of_reading result ≡ command_of number values }
 {
     match number {
-        0 => Reading::Is(Command::Open(Slot(values[0]))),
-        1 => Reading::Is(Command::Take(Slot(values[0]), Weight(values[1]))),
-        2 => Reading::Is(Command::Send),
-        3 => Reading::Is(Command::Seal),
-        4 => Reading::Is(Command::Classed(Slot(values[0]), Weight(values[1]), Class(values[2]))),
-        _ => Reading::Broken,
+        0 => Some(Command::Open(Slot(values[0]))),
+        1 => Some(Command::Take(Slot(values[0]), Weight(values[1]))),
+        2 => Some(Command::Send),
+        3 => Some(Command::Seal),
+        4 => Some(Command::Classed(Slot(values[0]), Weight(values[1]), Class(values[2]))),
+        _ => None,
     }
 }
 

@@ -15,10 +15,3 @@ pub struct Place {
     pub start: usize,
     pub end: usize,
 }
-
-// Where a line ends.
-#[derive(Clone, Copy)]
-pub enum LineEnd {
-    At(usize),
-    Nowhere,
-}

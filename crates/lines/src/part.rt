@@ -3,7 +3,7 @@ ghost use Rattle.std.specs.Prelude.{◌≡◌};
 ghost use Rattle.lines.specs.Part.{PayloadPart, PayloadPlaced};
 
 use crate::{Place, read_command};
-use forms::{Reading, form_of, line_number};
+use forms::{form_of, line_number};
 
 // From start up to end; 0 and 0 with no payload digits, and of a line that is refused.
 pub fn payload_place(line: &[u8]) -> Place
@@ -11,7 +11,7 @@ pub fn payload_place(line: &[u8]) -> Place
     ensures line_value { line.now ≡ line.now }
 {
     let none = Place { start: 0, end: 0 };
-    let Reading::Is(command) = read_command(line) else {
+    let Some(command) = read_command(line) else {
         return none;
     };
     let form = form_of(line_number(command));

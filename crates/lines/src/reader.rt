@@ -7,38 +7,38 @@ ghost use Rattle.forms.specs.Forms.{Small, widths_in};
 ghost use Rattle.lines.specs.Numbers.{Collects};
 
 use digits::{LINE_END, SHORT_DIGITS, Spelt, digits_only, number, payload_fits};
-use forms::{Form, MOST_NUMBERS, Reading, command_of, form_of};
+use forms::{Command, Form, MOST_NUMBERS, command_of, form_of};
 
-// A command, or refusal 1.
-pub fn read_command(line: &[u8]) -> Reading
+// A command; none is refusal 1.
+pub fn read_command(line: &[u8]) -> Option<Command>
     ensures result_value { of_reading result ≡ read line.now }
     ensures line_value { line.now ≡ line.now }
 {
     let n = line.len();
     if n <= SHORT_DIGITS {
-        return Reading::Broken;
+        return None;
     }
     let end = n - 1;
     if line[end] != LINE_END {
-        return Reading::Broken;
+        return None;
     }
     let Spelt::Number(kind) = number(&line[0..SHORT_DIGITS]) else {
-        return Reading::Broken;
+        return None;
     };
     let form = form_of(kind);
     let front = form.front;
     if end < front {
-        return Reading::Broken;
+        return None;
     }
     if !payload_fits(form.payload, end - front) {
-        return Reading::Broken;
+        return None;
     }
     if !digits_only(&line[front..end]) {
-        return Reading::Broken;
+        return None;
     }
     let numbers = read_numbers(line, form);
     if !numbers.good {
-        return Reading::Broken;
+        return None;
     }
     let values = numbers.at;
     command_of(kind, values)

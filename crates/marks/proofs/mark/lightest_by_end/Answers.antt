@@ -1,10 +1,10 @@
 -- `marks::mark::lightest_by_end` meets its contract: both loops are `Passing`, up to the slot asked about from the edge on, then from that slot on.
 use mathlib.Core.Path.{◌≡◌, refl, ap, ◌∙◌}
-use Prim.Native.Nat.{ℕ, ◌+◌, ◌*◌, ◌≤◌, ◌<◌, max}
+use Prim.Native.Nat.{ℕ, ◌+◌, ◌≤◌, ◌<◌, max}
 use native.Mathlib.Omega.{arith}
 use lib.ListN.{length, get_or}
 use Rattle.std.proofs.Common.{add-zero, add_assoc}
-use Rattle.keys.specs.Key.{due_of, row_of, blank_key}
+use Rattle.keys.specs.Key.{blank_key}
 use Rattle.keys.proofs.SliceLaws.{from_place, from_in, from_at, from_by, from_end}
 use Rattle.marks.proofs.FindLaws.{pass_start, pass_out, pass_on, pass_flag, pass_asked, pass_found, pass_end, key_there, flag_there, flag_small, edge_fits}
 use borrow.Author.Rules.{rules}

@@ -1,7 +1,7 @@
 -- `marks::substitute::heaviest_out` meets its contract: the loop is `Backing`, for every round that the arrays are given for.
 use mathlib.Core.Path.{refl}
 use native.Mathlib.Omega.{arith}
-use Rattle.marks.proofs.NearLaws.{back_start, stops, stays, takes, back_over, left_there}
+use Rattle.marks.proofs.NearLaws.{stops, stays, takes, back_over, left_there}
 use Rattle.marks.proofs.substitute.heaviest_out.Goals as goal
 
 pub returns-then-due_of-from : goal.returns-then-due_of-from

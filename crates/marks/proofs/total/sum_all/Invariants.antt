@@ -4,4 +4,4 @@ use Rattle.marks.proofs.TotalLaws.{Summing}
 use Rattle.marks.proofs.total.sum_all.Given as goal
 
 abbrev pub invariant-loop-i : goal.invariant-loop-i
-invariant-loop-i l = Summing (round_in l.table) l.i l.sum
+invariant-loop-i l = Summing (round_in l.sound.table.now) l.i l.sum

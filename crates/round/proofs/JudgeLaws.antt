@@ -16,7 +16,8 @@ use Rattle.theory.specs.Judge.{zeros, head_judged, judged}
 use Rattle.theory.specs.Judged.{judged_refusal}
 use Rattle.theory.specs.Checks.{refusal_two}
 use Rattle.sorts.specs.declared.Round.{Round as Head}
-use Rattle.round.specs.declared.sound.Judged.TheVariants.{Sound}
+use Rattle.std.specs.Prelude.{Result, Ok, Err}
+use Rattle.refusals.specs.declared.Refusal.{Refusal}
 use Rattle.head.specs.Head.{HeadOf}
 use Rattle.round.specs.Scan.{RowsLent, all_judged, RowsSay}
 use Rattle.round.specs.Judge.{Refuses, JudgeSays, ScanSays}
@@ -87,10 +88,10 @@ pub unused_refused : {t : List ℕ} {h : Head} {x : Bool} → HeadSound t h → 
 unused_refused {t} {h} k e p q = (sym (refusal_is t h k ∙ rw (e, sym p ∙ q)), λ g. omega arith)
 
 pub judge_accepts : {t : List ℕ} {h : Head} {x : Bool} → HeadSound t h → all_judged t h ≡ true →
-    x ≡ zeros (drop (row_at h.used) t) → x ≡ true → JudgeSays t (Sound h)
+    x ≡ zeros (drop (row_at h.used) t) → x ≡ true → JudgeSays t (Ok h)
 judge_accepts {t} {h} k e p q = (refusal_is t h k ∙ rw (e, sym p ∙ q), k.head)
 
 -- THE SCAN accepts what the judge accepts, and has counted
 pub scan_accepts : {t cs : List ℕ} {h : Head} {x y : Bool} → HeadSound t h → RowsSay t h cs x → x ≡ true →
-    y ≡ zeros (drop (row_at h.used) t) → y ≡ true → ScanSays t cs (Sound h)
+    y ≡ zeros (drop (row_at h.used) t) → y ≡ true → ScanSays t cs (Ok h)
 scan_accepts k s e p q = let j = judge_accepts k (sym s.judged ∙ e) p q in (j.0, j.1, s.counted e)

@@ -4,53 +4,48 @@ ghost use Rattle.round.specs.Judge.{JudgeSays, ScanAsks, ScanSays};
 use crate::rows::{rows_are_counted, rows_are_sound};
 use head::{head_is_sound, read_head};
 use limits::length_is_good;
+use refusals::Refusal;
 use row::row_at;
 use sorts::Round;
 use zeros::zeros_from;
 
-// A sound table's head as a value, or the number of the refusal: 2 or 3.
-#[derive(Clone, Copy)]
-pub enum Judged {
-    Sound(Round),
-    Refused(u32),
-}
-
-pub fn judge(table: &[u8]) -> Judged
+// A sound table's head as a value; else BadLength or NotSound.
+pub fn judge(table: &[u8]) -> Result<Round, Refusal>
     ensures { JudgeSays table.now result }
 {
     if !length_is_good(table.len()) {
-        return Judged::Refused(2);
+        return Err(Refusal::BadLength);
     }
     let round = read_head(table);
     if !head_is_sound(table, round) {
-        return Judged::Refused(3);
+        return Err(Refusal::NotSound);
     }
     if !rows_are_sound(table, round) {
-        return Judged::Refused(3);
+        return Err(Refusal::NotSound);
     }
     if !zeros_from(table, row_at(round.used)) {
-        return Judged::Refused(3);
+        return Err(Refusal::NotSound);
     }
-    Judged::Sound(round)
+    Ok(round)
 }
 
 // Where a slot is left, counts gets 2,048 for each row in its bucket.
-pub fn scan(table: &[u8], counts: &mut [u32]) -> Judged
+pub fn scan(table: &[u8], counts: &mut [u32]) -> Result<Round, Refusal>
     requires { ScanAsks table.now counts.old }
     ensures { ScanSays table.now counts.new result }
 {
     if !length_is_good(table.len()) {
-        return Judged::Refused(2);
+        return Err(Refusal::BadLength);
     }
     let round = read_head(table);
     if !head_is_sound(table, round) {
-        return Judged::Refused(3);
+        return Err(Refusal::NotSound);
     }
     if !rows_are_counted(table, counts, round) {
-        return Judged::Refused(3);
+        return Err(Refusal::NotSound);
     }
     if !zeros_from(table, row_at(round.used)) {
-        return Judged::Refused(3);
+        return Err(Refusal::NotSound);
     }
-    Judged::Sound(round)
+    Ok(round)
 }

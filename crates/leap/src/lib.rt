@@ -11,6 +11,7 @@ use closing::close_up;
 use keys::{due_of, row_of};
 use lead::Lead;
 use replies::Step;
+use round::read::Sound;
 use row::write::write_weight;
 use sorts::{Round, Slot, Weight};
 use went::{out_of, send_kept};
@@ -50,7 +51,11 @@ pub fn send_swapped(
     ensures { SentSays table.old table.new result }
 {
     let sent = row_of(lead.key);
-    let out = out_of(table, round, sent);
+    let sound = Sound {
+        table: &*table,
+        round,
+    };
+    let out = out_of(&sound, sent);
     let own = lead.segment;
     let to = segment_by(ends, own, Slot(due_of(lead.other)));
     lower_marks(lows, lead.count, to);

@@ -5,9 +5,8 @@ use mathlib.Core.List.{List, [], ◌∷◌}
 use Prim.Native.Nat.{ℕ, suc, ◌≤◌, ◌<◌}
 use native.Mathlib.Omega.{arith}
 use lib.ListN.{length}
-use borrow.Author.Tests.{eq-eqb, ne_eqb}
+use borrow.Author.Tests.{ne_eqb}
 use Rattle.sorts.specs.declared.Ticket.{Ticket}
-use mathlib.Core.Logic.{◌≢◌}
 use Rattle.rules.specs.Rows.{Row, Round, row, blank}
 use Rattle.rules.specs.Plan.{planned}
 use Rattle.rules.specs.Steps.{kept_at, changed}
@@ -21,7 +20,7 @@ use Rattle.theory.specs.Sane.{sound}
 use Rattle.theory.specs.Whole.{Sends, sends_silence}
 use Rattle.sorts.specs.declared.Round.{Round as Head}
 use Rattle.head.specs.Head.{HeadOf}
-use Rattle.round.specs.Rows.{Ready, at}
+use Rattle.round.specs.Rows.{Ready, TicketAt, KeptAt, at}
 use Rattle.round.proofs.ReadLaws.{known, reads_within}
 use Rattle.closing.specs.Close.{DueNow, gone_ticket, closed_up}
 use Rattle.chain.proofs.MoveLaws.{table_kept}
@@ -36,13 +35,13 @@ use Rattle.went.proofs.StandLaws.{Stood, stood, stood_closed, alone_closed, self
 use Rattle.went.proofs.LeaveLaws.{gone_row, gone_none, late_changed, due_stood}
 
 -- WHAT GOES OUT
-pub frame_goes : {p : Row} {k : Ticket} → k.0 ≡ p.ticket → 1 ≤ k.0 → p.tail.kind ≡ 0 → OutOf p (Frame k)
+pub kept_goes : {r : Round} {i : ℕ} {k : Ticket} → TicketAt r i k.0 → KeptAt r i true → OutOf (at r i) (KeptBlank k)
 unfolding rules.out_of
-frame_goes {p} {k} e s z = record { is = rw (ne_eqb p.ticket 0 (λ q. omega (arith, q, e, s)), eq-eqb p.tail.kind 0 z) (ap rules.frame e) }
+kept_goes {r} {i} {k} a b = record { is = rw (ne_eqb (at r i).ticket 0 (λ q. omega (arith, q, a.is, a.some)), b) (ap rules.kept_blank a.is) }
 
-pub kept_goes : {p : Row} {k : Ticket} → k.0 ≡ p.ticket → 1 ≤ k.0 → p.tail.kind ≢ 0 → OutOf p (KeptBlank k)
+pub frame_goes : {r : Round} {i : ℕ} {k : Ticket} → TicketAt r i k.0 → KeptAt r i false → OutOf (at r i) (Frame k)
 unfolding rules.out_of
-kept_goes {p} {k} e s z = record { is = rw (ne_eqb p.ticket 0 (λ q. omega (arith, q, e, s)), ne_eqb p.tail.kind 0 z) (ap rules.kept_blank e) }
+frame_goes {r} {i} {k} a b = record { is = rw (ne_eqb (at r i).ticket 0 (λ q. omega (arith, q, a.is, a.some)), b) (ap rules.frame a.is) }
 
 -- SILENCE
 no_rows : (xs : List Row) → length xs ≡ 0 → xs ≡ []

@@ -10,20 +10,20 @@ ghost use Rattle.went.specs.Send.{OutOf, Silent, SentSays, Gone, KeepsBlank};
 
 use closing::close_up;
 use replies::{Out, Step};
-use round::read::{kind_at, ticket_at};
+use round::read::Sound;
 use row::write::write_kept;
 use sorts::{Round, Slot, Weight};
 
 // What goes out of a row. Read before anything is written.
-pub fn out_of(table: &[u8], round: Round, row: usize) -> Out
-    requires { Ready table.now round × (row < round.used) }
-    ensures { OutOf (at (round_in table.now) row) result }
+pub fn out_of(sound: &Sound, row: usize) -> Out
+    requires { row < sound.now.round.used }
+    ensures { OutOf (at (round_in sound.now.table.now) row) result }
 {
-    let ticket = ticket_at(table, round, row);
-    if kind_at(table, round, row) == 0 {
-        return Out::Frame(ticket);
+    let ticket = sound.ticket_at(row);
+    if sound.is_kept(row) {
+        return Out::KeptBlank(ticket);
     }
-    Out::KeptBlank(ticket)
+    Out::Frame(ticket)
 }
 
 // The slot alone moves on: right where no row waits, or where a sealed round has none to send yet.
@@ -40,7 +40,11 @@ pub fn send_row(table: &mut [u8], round: Round, row: usize, expiring: usize) -> 
     requires { Ready table.old round × (row < round.used) × DueNow table.old expiring }
     ensures { Gone table.old table.new row result }
 {
-    let out = out_of(table, round, row);
+    let sound = Sound {
+        table: &*table,
+        round,
+    };
+    let out = out_of(&sound, row);
     close_up(table, round, expiring, row);
     out
 }
@@ -57,7 +61,11 @@ pub fn send_kept(
     requires { KeepsBlank table.old round row first.0 mark.0 × DueNow table.old expiring }
     ensures { SentSays table.old table.new result }
 {
-    let out = out_of(table, round, row);
+    let sound = Sound {
+        table: &*table,
+        round,
+    };
+    let out = out_of(&sound, row);
     write_kept(table, row, first, mark);
     close_up(table, round, expiring, round.used); // no row goes
     Step::Leap(out)

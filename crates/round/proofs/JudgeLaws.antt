@@ -37,6 +37,13 @@ pub record HeadSound (t : List ℕ) (h : Head) : Type 0 where
   pub head : HeadOf t h
   pub sound : head_judged t ≡ true
 
+-- a length that is found good has a head; a head found sound in it, with the bytes that the slice has
+pub good_here : (t : List ℕ) (x : Bool) → x ≡ length_good (length t) → x ≡ true → length_good (length t) ≡ true
+good_here t x e f = sym e ∙ f
+
+pub head_here : (t : List ℕ) (h : Head) (x y : Bool) → Bytes t → x ≡ length_good (length t) → x ≡ true → HeadOf t h → y ≡ head_judged t → y ≡ true → HeadSound t h
+head_here t h x y b e f k p q = record { bytes = b; good = sym e ∙ f; head = k; sound = sym p ∙ q }
+
 -- the used rows of a sound head lie within the table, and whole rows follow them
 pub record RowsFit (t : List ℕ) (h : Head) : Type 0 where
   pub lent : RowsLent t h

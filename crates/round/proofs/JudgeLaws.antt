@@ -2,7 +2,7 @@
 use mathlib.Core.Path.{◌≡◌, sym, ap, ◌∙◌}
 use mathlib.Core.Bool.{Bool, true, false, ◌&&◌, cond}
 use mathlib.Core.List.{List}
-use Prim.Native.Nat.{ℕ, ◌+◌, ◌-◌, ◌/◌, ◌%◌, ◌≤◌, ◌<◌}
+use Prim.Native.Nat.{ℕ, ◌+◌, ◌-◌, ◌/◌, ◌%◌, ◌≤◌}
 use native.Mathlib.Omega.{arith}
 use lib.Dec.{leb, eqb}
 use borrow.Author.Tests.{leb-true, eqb-true}
@@ -16,8 +16,7 @@ use Rattle.theory.specs.Judge.{zeros, head_judged, judged}
 use Rattle.theory.specs.Judged.{judged_refusal}
 use Rattle.theory.specs.Checks.{refusal_two}
 use Rattle.sorts.specs.declared.Round.{Round as Head}
-use Rattle.std.specs.Prelude.{Result, Ok, Err}
-use Rattle.refusals.specs.declared.Refusal.{Refusal}
+use Rattle.std.specs.Prelude.{Ok}
 use Rattle.head.specs.Head.{HeadOf}
 use Rattle.round.specs.Scan.{RowsLent, all_judged, RowsSay}
 use Rattle.round.specs.Judge.{Refuses, JudgeSays, ScanSays}

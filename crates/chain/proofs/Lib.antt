@@ -1,5 +1,4 @@
 pub mod MarkLaws
-mod LinkLaws
 pub mod MoveLaws
 mod ChainLaws
 mod ShiftLaws

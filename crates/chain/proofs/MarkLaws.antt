@@ -1,18 +1,15 @@
 -- Marks: the least from the first segment on, and that these are the plan's.
-use mathlib.Core.Path.{◌≡◌, refl, sym, ap, ◌∙◌}
-use mathlib.Core.Logic.{inl, inr, ◌≢◌}
+use mathlib.Core.Path.{◌≡◌, sym, ap}
 use mathlib.Core.List.{List}
 use Prim.Native.Nat.{ℕ, zero, suc, ◌+◌, ◌-◌, ◌≤◌, ◌<◌, min}
 use native.Mathlib.Omega.{arith}
 use borrow.Author.Tests.{eq-eqb, ne_eqb}
-use lib.ListN.{length, get_or, set, length-set}
-use lib.Seq.{get_or-set_same, get_or-set_other}
+use lib.ListN.{length, get_or}
 use Rattle.rules.specs.Rows.{Round}
 use Rattle.rules.specs.Plan.{mark}
-use Rattle.theory.specs.Tests.{eqb?}
 use Rattle.theory.specs.Full.{Fine}
 use Rattle.picture.proofs.LeapMarks.{mark_first, mark_next}
-use Rattle.chain.specs.Chain.{Pieces, start_of, LiesIn, Lowered, Marked}
+use Rattle.chain.specs.Chain.{Pieces, start_of, Lowered, Marked}
 
 -- A PASS with segment k next
 pub record Lowering (n to : ℕ) (ls us : List ℕ) (k : ℕ) : Type 0 where
@@ -22,52 +19,6 @@ pub record Lowering (n to : ℕ) (ls us : List ℕ) (k : ℕ) : Type 0 where
   pub rest : (j : ℕ) → j < k → get_or us j 0 ≡ get_or ls j 0
   pub first : get_or us (n - 1) 0 ≡ get_or ls (n - 1) 0
   pub next : (j : ℕ) → k ≤ j → suc j < n → get_or us j 0 ≡ min (get_or us (suc j) 0) (get_or ls j 0)
-
-pub lowering_start : (n to : ℕ) (ls : List ℕ) → to < n → Lowering n to ls ls (n - 1)
-lowering_start n to ls h =
-    record {
-      size = refl;
-      by = omega arith;
-      under = omega arith;
-      rest = λ j i. refl;
-      first = refl;
-      next = λ j i l. absurd (omega arith);
-    }
-
-pub lowering_step : (n to : ℕ) (ls us : List ℕ) (k m : ℕ) → n ≤ length ls → Lowering n to ls us k → to < k → m ≡ min (get_or us k 0) (get_or us (k - 1) 0) →
-    Lowering n to ls (set us (k - 1) m) (k - 1)
-lowering_step n to ls us k m z w h e =
-    let l : k - 1 < length us = omega (arith, w.size, w.under) in
-    let same = get_or-set_same us (k - 1) m 0 l in
-    record {
-      size = length-set us (k - 1) m ∙ w.size;
-      by = omega arith;
-      under = omega (arith, w.under);
-      rest = λ j i. let d : j ≢ k - 1 = λ q. omega (arith, q, i) in get_or-set_other us (k - 1) j m 0 d ∙ w.rest j (omega (arith, i));
-      first = let d : n - 1 ≢ k - 1 = λ q. omega (arith, q, w.under, h) in get_or-set_other us (k - 1) (n - 1) m 0 d ∙ w.first;
-      next = λ j i v. elim (eqb? j (k - 1)) [
-        | inl q ↦
-            let p : suc j ≡ k = omega (arith, q.1, h) in
-            let d : k ≢ k - 1 = λ u. omega (arith, u, h) in
-            omega (
-              arith,
-              ap (λ (x : ℕ). get_or (set us (k - 1) m) x 0) q.1,
-              same,
-              e,
-              ap (λ (x : ℕ). get_or (set us (k - 1) m) x 0) p,
-              get_or-set_other us (k - 1) k m 0 d,
-              w.rest (k - 1) (omega (arith, h)),
-              ap (λ (x : ℕ). get_or ls x 0) q.1,
-            )
-        | inr q ↦
-            let n1 = q.1 in
-            let d : suc j ≢ k - 1 = λ u. omega (arith, u, i) in
-            omega (arith, get_or-set_other us (k - 1) j m 0 n1, get_or-set_other us (k - 1) (suc j) m 0 d, w.next j (omega (arith, i, n1)) v)
-      ];
-    }
-
-pub lowering_end : (n to : ℕ) (ls us : List ℕ) (k : ℕ) → Lowering n to ls us k → k ≤ to → Lowered n to ls us
-lowering_end n to ls us k w h = record { size = w.size; first = w.first; next = λ j i l. w.next j (omega (arith, h, i)) l }
 
 -- THE FIRST SLOT of the first segment, and of a later one
 pub start_first : (t n : ℕ) (es : List ℕ) (k : ℕ) → suc k ≡ n → start_of t n es k ≡ t
@@ -134,18 +85,3 @@ module _ (r : Round) (f : Fine r) (n to : ℕ) (es ts ls us : List ℕ) (p : Pie
 pub record Walking (es : List ℕ) (own d k : ℕ) : Type 0 where
   pub by : k ≤ own
   pub behind : k < own → get_or es (suc k) 0 < d
-
-pub walk_start : (es : List ℕ) (own d : ℕ) → Walking es own d own
-walk_start es own d = record { by = omega arith; behind = λ h. absurd (omega arith) }
-
-pub walk_some : (es : List ℕ) (own d k : ℕ) → d ≤ get_or es 0 0 → Walking es own d k → get_or es k 0 < d → 1 ≤ k
-walk_some es own d zero h w l = absurd (omega arith)
-walk_some es own d (suc k) h w l = omega arith
-
-pub walk_step : (es : List ℕ) (own d k : ℕ) → Walking es own d k → 1 ≤ k → get_or es k 0 < d → Walking es own d (k - 1)
-walk_step es own d k w h l =
-    let e : suc (k - 1) ≡ k = omega arith in
-    record { by = omega (arith, w.by); behind = λ i. omega (arith, l, ap (λ (x : ℕ). get_or es x 0) e) }
-
-pub walk_end : (es : List ℕ) (own d k : ℕ) → Walking es own d k → d ≤ get_or es k 0 → LiesIn es own d k
-walk_end es own d k w h = record { by = w.by; end = h; behind = w.behind }

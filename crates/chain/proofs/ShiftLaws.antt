@@ -6,7 +6,6 @@ use Prim.Native.Nat.{ℕ, suc, ◌+◌, ◌≤◌, ◌<◌, min}
 use native.Mathlib.Omega.{arith}
 use lib.ListN.{length, get_or}
 use Rattle.rules.specs.Rows.{Round, round}
-use Rattle.rules.specs.Plan.{mark}
 use Rattle.rules.specs.Table.{round_in}
 use Rattle.theory.specs.Tests.{leb?}
 use Rattle.theory.specs.Back.{length_table}

@@ -1,5 +1,5 @@
 -- A leap's chain: segments by their numbers, counted from the back; their marks; and the links between two segments' ends.
-use Rattle.std.specs.Prelude.{◌≡◌, cond, List, ℕ, suc, ◌+◌, ◌-◌, ◌≤◌, ◌<◌, max, min, leb, eqb, length, get_or}
+use Rattle.std.specs.Prelude.{◌≡◌, cond, List, ℕ, suc, ◌-◌, ◌≤◌, ◌<◌, max, min, leb, eqb, length, get_or}
 use Rattle.rules.specs.Rows.{Row, Round, going_on}
 use Rattle.rules.specs.Plan.{plan, planned, mark}
 use Rattle.rules.specs.Conditions.{row_at}

@@ -1,9 +1,8 @@
 // A leap's marks and shifts, by segments numbered from the back: 0 is the last, and a larger number is an earlier one.
 #![tactic(auto)]
 
-ghost use Rattle.std.specs.Prelude.{◌≡◌, ◌≤◌, ◌<◌, min, max, length, get_or};
+ghost use Rattle.std.specs.Prelude.{◌≡◌, ◌≤◌, ◌<◌, min, length, get_or};
 ghost use Rattle.rules.specs.Table.{round_in};
-ghost use Rattle.keys.specs.Key.{weight_of, blank_key};
 ghost use Rattle.chain.specs.Chain.{LiesIn, Lowered, Named, linked, passed, Chained, Shifts};
 
 use keys::{row_of, weight_of};
@@ -16,19 +15,11 @@ pub fn segment_by(ends: &[u32], own: usize, slot: Slot) -> usize
     ensures { LiesIn ends.now own slot.0 result }
 {
     let mut k = own;
+    // Kept: the last segment's end stops the search, so it tests no bound of a range.
     while ends[k] < slot.0 {
         k -= 1;
     }
     k
-}
-
-fn smaller(a: u32, b: u32) -> u32
-    ensures { result ≡ min a b }
-{
-    if b < a {
-        return b;
-    }
-    a
 }
 
 // Each segment's lightest weight becomes its mark, the least from the first segment on, up to segment to.
@@ -36,23 +27,10 @@ pub fn lower_marks(lows: &mut [u32], count: usize, to: usize)
     requires { (to < count) × (count ≤ length lows.old) }
     ensures { Lowered count to lows.old lows.new }
 {
-    let mut k = count - 1;
-    while to < k {
-        let mark = lows[k];
-        k -= 1;
-        lows[k] = smaller(mark, lows[k]);
+    for k in (to..count - 1).rev() {
+        let mark = lows[k + 1];
+        lows[k] = mark.min(lows[k]);
     }
-}
-
-fn raised(key: u64, mark: u32) -> u32
-    requires { key ≤ blank_key }
-    ensures { result ≡ max (weight_of key) mark }
-{
-    let weight = weight_of(key);
-    if weight < mark {
-        return mark;
-    }
-    weight
 }
 
 // A link moves to an end, its weight raised to that end's mark.
@@ -61,7 +39,7 @@ fn shift_link(table: &mut [u8], key: u64, end: u32, mark: u32)
     ensures { table.new ≡ linked key end mark table.old }
 {
     let row = row_of(key);
-    write_shift(table, row, Slot(end), Weight(raised(key, mark)));
+    write_shift(table, row, Slot(end), Weight(weight_of(key).max(mark)));
 }
 
 // From a segment to the one before it: if its heaviest row is heavier than the link that waits, it is the next link, and the other moves to its end.
@@ -101,10 +79,8 @@ pub fn shift_chain(
         return;
     }
     let mut waiting = tops[to];
-    let mut k = to + 1;
-    while k < own {
+    for k in to + 1..own {
         waiting = pass_segment(table, ends, tops, marks, waiting, k);
-        k += 1;
     }
     shift_link(table, waiting, ends[own], marks[own]);
 }

@@ -6,20 +6,19 @@ use native.Mathlib.Omega.{arith}
 use lib.ListN.{length, take, drop, length-drop}
 use lib.Seq.{length-take-le}
 use denote.Ref.{Bor}
+use Rattle.std.specs.Prelude.{Option, Some, None}
 use Rattle.rules.specs.Lines.{form_of, front_size, read, payload_place, payload}
 use Rattle.theory.specs.Reader.{payload_behind, payload_bare, payload_broken, place_within}
 use Rattle.forms.specs.declared.Command.{Command}
-use Rattle.forms.specs.declared.Reading.{Reading}
-use Rattle.forms.specs.declared.Reading.TheVariants.{Is, Broken}
 use Rattle.forms.specs.Cases.{of_command, of_reading}
 use Rattle.lines.specs.Part.{PayloadPlaced, PayloadPart}
 
 -- THE PLACE, by what the line is read as
-module _ (line : List ℕ) {r : Reading} (reads : of_reading r ≡ read line) {start end : ℕ} where
-  pub placed_broken : r ≡ Broken → start ≡ 0 → end ≡ 0 → PayloadPlaced line start end
+module _ (line : List ℕ) {r : Option Command} (reads : of_reading r ≡ read line) {start end : ℕ} where
+  pub placed_broken : r ≡ None → start ≡ 0 → end ≡ 0 → PayloadPlaced line start end
   placed_broken e p q = let h = payload_broken line (sym reads ∙ ap of_reading e) in record { starts = rw (p, h); ends = rw (q, h) }
 
-  module _ {c : Command} (is : r ≡ Is c) {f : ℕ} (before : f ≡ front_size (form_of (of_command c))) where
+  module _ {c : Command} (is : r ≡ Some c) {f : ℕ} (before : f ≡ front_size (form_of (of_command c))) where
     pub placed_behind : f + 1 < length line → start ≡ f → end ≡ length line - 1 → PayloadPlaced line start end
     placed_behind l p q =
         let h = payload_behind (of_command c) line (sym reads ∙ ap of_reading is) (omega arith) in

@@ -1,8 +1,6 @@
 -- Where a line of an input ends.
-use Rattle.std.specs.Prelude.{◌≡◌, List, ℕ, ◌≤◌, ◌<◌, length, get_or}
+use Rattle.std.specs.Prelude.{◌≡◌, Option, Some, None, List, ℕ, ◌≤◌, ◌<◌, length, get_or}
 use Rattle.rules.specs.Lines.{line_end}
-use Rattle.lines.specs.declared.LineEnd.{LineEnd}
-use Rattle.lines.specs.declared.LineEnd.TheVariants.{At, Nowhere}
 
 -- no 0A from a place up to another
 abbrev pub NoEnd : List ℕ → (from end : ℕ) → Type 0
@@ -14,6 +12,6 @@ pub record FirstEnd (input : List ℕ) (from at : ℕ) : Type 0 where
   pub ends : get_or input at 0 ≡ line_end
   pub first : NoEnd input from at
 
-abbrev pub LineEnds : List ℕ → (from : ℕ) → LineEnd → Type 0
-LineEnds input from (At i) = FirstEnd input from i
-LineEnds input from Nowhere = NoEnd input from (length input)
+abbrev pub LineEnds : List ℕ → (from : ℕ) → Option ℕ → Type 0
+LineEnds input from (Some i) = FirstEnd input from i
+LineEnds input from None = NoEnd input from (length input)

@@ -1,6 +1,6 @@
 -- The heaviest row and the least weight, row by row.
 use mathlib.Core.Path.{◌≡◌, sym, subst}
-use mathlib.Core.Logic.{◌⊎◌, inl, inr}
+use mathlib.Core.Logic.{inl, inr}
 use Prim.Native.Nat.{ℕ, ◌+◌, ◌≤◌, ◌<◌, min}
 use native.Mathlib.Omega.{arith}
 use lib.ListN.{length}
@@ -84,9 +84,6 @@ module _ (r : Round) (i n e : ℕ) (q : i ≡ n + 1) (b : Best) (g : Heaviest r 
         kept (inr u) = inr (omega (arith, u.0, a.is), inl (omega (arith, u.1, k.is)))
     best_sees x (inr v) = subst (λ (z : Best). Heaviest r n e z) (sym v.1) (best_new v.0)
 
-pub best_end : (r : Round) (i e : ℕ) (b : Best) → i ≤ 0 → Heaviest r i e b → Heaviest r 0 e b
-best_end r i e b h g = let q : i ≡ 0 = omega (arith, h) in subst (λ (m : ℕ). Heaviest r m e b) q g
-
 -- THE LEAST WEIGHT
 pub least_start : (r : Round) (n e : ℕ) → length r.rows ≤ n → Least r n e 16777216
 least_start r n e l = record { small = omega arith; least = λ j h k. absurd (omega (arith, h, k, l)); some = λ h. absurd (omega (arith, h)) }
@@ -120,14 +117,6 @@ pub look_start : (r : Round) (n e o : ℕ) → length r.rows ≤ n → Looks r n
 look_start r n e o l = record { first = best_start r n e l; lightest = least_start r n e l; mark = least_start r n o l }
 
 module _ (r : Round) (i n e o : ℕ) (q : i ≡ n + 1) (f : Found) (g : Looks r i e o f) (d : ℕ) (k : DueAt r n d) (l : e ≤ o) where
-  pub look_passes : o < d → Looks r n e o f
-  look_passes h =
-      record {
-        first = best_passes r i n e q f.first g.first d k (omega (arith, h, l));
-        lightest = least_passes r i n e f.lightest q g.lightest d k (omega (arith, h, l));
-        mark = least_passes r i n o f.mark q g.mark d k h;
-      }
-
   pub look_notes : n < length r.rows → (w y : ℕ) → WeightAt r n w → RankAt r n y → d ≤ o → (x : Found) → Notes f w d y n e x → Looks r n e o x
   look_notes m w y a b h x (inl v) =
       record {
@@ -141,6 +130,3 @@ module _ (r : Round) (i n e o : ℕ) (q : i ≡ n + 1) (f : Found) (g : Looks r 
         lightest = subst (λ (z : ℕ). Least r n e z) (sym v.lightest) (least_passes r i n e f.lightest q g.lightest d k v.past);
         mark = least_sees r i n o f.mark q g.mark m w d a k h x.mark v.mark;
       }
-
-pub look_end : (r : Round) (i e o : ℕ) (f : Found) → i ≤ 0 → Looks r i e o f → Looks r 0 e o f
-look_end r i e o f h g = let q : i ≡ 0 = omega (arith, h) in subst (λ (m : ℕ). Looks r m e o f) q g

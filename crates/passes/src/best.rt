@@ -1,5 +1,4 @@
-// The heavier of two rows, of equal weights the one of the lesser rank, then the one before in the table; and the lesser of two weights.
-ghost use Rattle.std.specs.Prelude.{◌≡◌, min};
+// The heavier of two rows, of equal weights the one of the lesser rank, then the one before in the table.
 ghost use Rattle.passes.specs.Best.{Sees};
 
 // The heaviest row so far; it weighs nothing before there is one.
@@ -10,26 +9,26 @@ pub struct Best {
     pub row: usize,
 }
 
+impl Best {
+    pub const NONE: Best = Best {
+        weight: 0,
+        rank: 0,
+        row: 0,
+    };
+}
+
 // A row before the best one in the table is compared.
-pub fn see(best: Best, weight: u32, rank: u32, row: usize) -> Best
-    ensures { Sees best weight rank row result }
+pub fn see(best: Best, next: Best) -> Best
+    ensures { Sees best next.weight next.rank next.row result }
 {
-    if weight < best.weight {
+    // Kept: the greater weight but the lesser rank wins, so a derived order would turn one of them round.
+    if next.weight < best.weight {
         return best;
     }
-    if weight == best.weight {
-        if best.rank < rank {
+    if next.weight == best.weight {
+        if best.rank < next.rank {
             return best;
         }
     }
-    Best { weight, rank, row }
-}
-
-pub fn least(a: u32, b: u32) -> u32
-    ensures { result ≡ min a b }
-{
-    if b < a {
-        return b;
-    }
-    a
+    next
 }

@@ -1,38 +1,31 @@
--- The numbers and values that document 01 gives each reply enum forget nothing: equal ones come from equal replies.
-use mathlib.Core.Path.{◌≡◌, refl, ap}
+-- What document 01 says of each call's result forgets nothing: equal replies come from equal results.
+use Rattle.std.proofs.Common.{◌≡◌, ℕ, refl, ap}
+use Rattle.std.specs.Prelude.{Result, Ok, Err}
 use Rattle.theory.specs.Tests.{clash}
+use Rattle.sorts.specs.declared.Ticket.{Ticket}
+use Rattle.sorts.specs.declared.Weight.{Weight}
 use Rattle.sorts.proofs.Sorts.{slot_read, weight_read, ticket_read}
-use Rattle.replies.specs.declared.Opened.{Opened}
-use Rattle.replies.specs.declared.Opened.TheVariants as opened
-use Rattle.replies.specs.declared.Taken.{Taken}
-use Rattle.replies.specs.declared.Taken.TheVariants as taken
+use Rattle.refusals.specs.declared.Refusal.{Refusal}
+use Rattle.refusals.proofs.Numbers.{refusal_read}
 use Rattle.replies.specs.declared.Out.{Out}
 use Rattle.replies.specs.declared.Out.TheVariants.{Silence, Frame, KeptBlank}
 use Rattle.replies.specs.declared.Step.{Step}
 use Rattle.replies.specs.declared.Step.TheVariants.{Ordinary, Leap}
-use Rattle.replies.specs.declared.Sent.{Sent}
-use Rattle.replies.specs.declared.Sent.TheVariants as sent
-use Rattle.replies.specs.declared.Sealed.{Sealed}
-use Rattle.replies.specs.declared.Sealed.TheVariants as sealed
-use Rattle.replies.specs.declared.Marked.{Marked}
-use Rattle.replies.specs.declared.Marked.TheVariants as marked
-use Rattle.replies.specs.declared.Totalled.{Totalled}
-use Rattle.replies.specs.declared.Totalled.TheVariants as totalled
-use Rattle.replies.specs.declared.Substituted.{Substituted}
-use Rattle.replies.specs.declared.Substituted.TheVariants as substituted
-use Rattle.replies.specs.Replies.{of_opened, of_taken, of_out, of_step, of_sent, of_sealed, of_marked, of_totalled, of_substituted}
+use Rattle.replies.specs.declared.Substitute.{Substitute}
+use Rattle.replies.specs.declared.Substitute.TheVariants.{Row, Blank}
+use Rattle.replies.specs.Replies.{of_opened, of_taken, of_out, of_step, of_sent, of_sealed, of_marked, of_totalled, of_substitute, of_substituted}
 
-pub opened_read : (a b : Opened) → of_opened a ≡ of_opened b → a ≡ b
-opened_read opened.Done opened.Done e = refl
-opened_read opened.Done (opened.Refused n) e = clash cc
-opened_read (opened.Refused m) opened.Done e = clash cc
-opened_read (opened.Refused m) (opened.Refused n) e = cc
+pub opened_read : (a b : Result (Unit {0}) Refusal) → of_opened a ≡ of_opened b → a ≡ b
+opened_read (Ok k) (Ok m) e = refl
+opened_read (Ok k) (Err n) e = clash cc
+opened_read (Err m) (Ok k) e = clash cc
+opened_read (Err m) (Err n) e = ap Err (refusal_read m n cc)
 
-pub taken_read : (a b : Taken) → of_taken a ≡ of_taken b → a ≡ b
-taken_read (taken.As k) (taken.As m) e = ap taken.As (ticket_read k m cc)
-taken_read (taken.As k) (taken.Refused n) e = clash cc
-taken_read (taken.Refused m) (taken.As k) e = clash cc
-taken_read (taken.Refused m) (taken.Refused n) e = cc
+pub taken_read : (a b : Result Ticket Refusal) → of_taken a ≡ of_taken b → a ≡ b
+taken_read (Ok k) (Ok m) e = ap Ok (ticket_read k m cc)
+taken_read (Ok k) (Err n) e = clash cc
+taken_read (Err m) (Ok k) e = clash cc
+taken_read (Err m) (Err n) e = ap Err (refusal_read m n cc)
 
 pub out_read : (a b : Out) → of_out a ≡ of_out b → a ≡ b
 out_read Silence Silence e = refl
@@ -51,37 +44,40 @@ step_read (Ordinary o) (Leap p) e = clash cc
 step_read (Leap o) (Ordinary p) e = clash cc
 step_read (Leap o) (Leap p) e = ap Leap (out_read o p cc)
 
-pub sent_read : (a b : Sent) → of_sent a ≡ of_sent b → a ≡ b
-sent_read (sent.Went s) (sent.Went u) e = ap sent.Went (step_read s u cc)
-sent_read (sent.Went s) (sent.Refused n) e = clash cc
-sent_read (sent.Refused m) (sent.Went u) e = clash cc
-sent_read (sent.Refused m) (sent.Refused n) e = cc
+pub sent_read : (a b : Result Step Refusal) → of_sent a ≡ of_sent b → a ≡ b
+sent_read (Ok k) (Ok m) e = ap Ok (step_read k m cc)
+sent_read (Ok k) (Err n) e = clash cc
+sent_read (Err m) (Ok k) e = clash cc
+sent_read (Err m) (Err n) e = ap Err (refusal_read m n cc)
 
-pub sealed_read : (a b : Sealed) → of_sealed a ≡ of_sealed b → a ≡ b
-sealed_read sealed.Closed sealed.Closed e = refl
-sealed_read sealed.Closed (sealed.Refused n) e = clash cc
-sealed_read (sealed.Refused m) sealed.Closed e = clash cc
-sealed_read (sealed.Refused m) (sealed.Refused n) e = cc
+pub sealed_read : (a b : Result (Unit {0}) Refusal) → of_sealed a ≡ of_sealed b → a ≡ b
+sealed_read (Ok k) (Ok m) e = refl
+sealed_read (Ok k) (Err n) e = clash cc
+sealed_read (Err m) (Ok k) e = clash cc
+sealed_read (Err m) (Err n) e = ap Err (refusal_read m n cc)
 
-pub marked_read : (a b : Marked) → of_marked a ≡ of_marked b → a ≡ b
-marked_read (marked.At v) (marked.At w) e = ap marked.At (weight_read v w cc)
-marked_read (marked.At v) (marked.Refused n) e = clash cc
-marked_read (marked.Refused m) (marked.At w) e = clash cc
-marked_read (marked.Refused m) (marked.Refused n) e = cc
+pub marked_read : (a b : Result Weight Refusal) → of_marked a ≡ of_marked b → a ≡ b
+marked_read (Ok k) (Ok m) e = ap Ok (weight_read k m cc)
+marked_read (Ok k) (Err n) e = clash cc
+marked_read (Err m) (Ok k) e = clash cc
+marked_read (Err m) (Err n) e = ap Err (refusal_read m n cc)
 
-pub totalled_read : (a b : Totalled) → of_totalled a ≡ of_totalled b → a ≡ b
-totalled_read (totalled.Of m) (totalled.Of n) e = cc
-totalled_read (totalled.Of m) (totalled.Refused n) e = clash cc
-totalled_read (totalled.Refused m) (totalled.Of n) e = clash cc
-totalled_read (totalled.Refused m) (totalled.Refused n) e = cc
+pub totalled_read : (a b : Result ℕ Refusal) → of_totalled a ≡ of_totalled b → a ≡ b
+totalled_read (Ok k) (Ok m) e = cc
+totalled_read (Ok k) (Err n) e = clash cc
+totalled_read (Err m) (Ok k) e = clash cc
+totalled_read (Err m) (Err n) e = ap Err (refusal_read m n cc)
 
-pub substituted_read : (a b : Substituted) → of_substituted a ≡ of_substituted b → a ≡ b
-substituted_read (substituted.Row k) (substituted.Row m) e = ap substituted.Row (ticket_read k m cc)
-substituted_read (substituted.Row k) (substituted.Blank u) e = clash cc
-substituted_read (substituted.Row k) (substituted.Refused n) e = clash cc
-substituted_read (substituted.Blank s) (substituted.Row m) e = clash cc
-substituted_read (substituted.Blank s) (substituted.Blank u) e = ap substituted.Blank (slot_read s u cc)
-substituted_read (substituted.Blank s) (substituted.Refused n) e = clash cc
-substituted_read (substituted.Refused m) (substituted.Row k) e = clash cc
-substituted_read (substituted.Refused m) (substituted.Blank u) e = clash cc
-substituted_read (substituted.Refused m) (substituted.Refused n) e = cc
+pub substitute_read : (a b : Substitute) → of_substitute a ≡ of_substitute b → a ≡ b
+substitute_read (Row k) (Row m) e = ap Row (ticket_read k m cc)
+substitute_read (Row k) (Blank u) e = clash cc
+substitute_read (Blank s) (Row m) e = clash cc
+substitute_read (Blank s) (Blank u) e = ap Blank (slot_read s u cc)
+
+pub substituted_read : (a b : Result Substitute Refusal) → of_substituted a ≡ of_substituted b → a ≡ b
+substituted_read (Ok s) (Ok u) e = ap Ok (substitute_read s u e)
+substituted_read (Ok (Row k)) (Err n) e = clash cc
+substituted_read (Ok (Blank s)) (Err n) e = clash cc
+substituted_read (Err m) (Ok (Row k)) e = clash cc
+substituted_read (Err m) (Ok (Blank s)) e = clash cc
+substituted_read (Err m) (Err n) e = ap Err (refusal_read m n cc)

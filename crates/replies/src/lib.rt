@@ -1,61 +1,25 @@
-// What each call answers: done, a ticket, a step, closed, an amount or a blank's due slot; or the number of its refusal.
+// What the calls answer where they are accepted: what went out in which step, and who stands in for a row.
 #![tactic(auto)]
 
-use sorts::{Slot, Ticket, Weight};
-
-#[derive(Clone, Copy)]
-pub enum Opened {
-    Done,
-    Refused(u32),
-}
-
-#[derive(Clone, Copy)]
-pub enum Taken {
-    As(Ticket),
-    Refused(u32),
-}
+use sorts::{Slot, Ticket};
 
 // What went out; a kept blank goes out as an empty slot.
-#[derive(Clone, Copy)]
+#[derive(Clone, Copy, Debug, PartialEq, Eq)]
 pub enum Out {
     Silence,
     Frame(Ticket),
     KeptBlank(Ticket),
 }
 
-#[derive(Clone, Copy)]
+#[derive(Clone, Copy, Debug, PartialEq, Eq)]
 pub enum Step {
     Ordinary(Out),
     Leap(Out),
 }
 
-#[derive(Clone, Copy)]
-pub enum Sent {
-    Went(Step),
-    Refused(u32),
-}
-
-#[derive(Clone, Copy)]
-pub enum Sealed {
-    Closed,
-    Refused(u32),
-}
-
-#[derive(Clone, Copy)]
-pub enum Marked {
-    At(Weight),
-    Refused(u32),
-}
-
-#[derive(Clone, Copy)]
-pub enum Totalled {
-    Of(u64),
-    Refused(u32),
-}
-
-#[derive(Clone, Copy)]
-pub enum Substituted {
+// Who stands in for a row of the plan: another row, or the blank due at a slot.
+#[derive(Clone, Copy, Debug, PartialEq, Eq)]
+pub enum Substitute {
     Row(Ticket),
     Blank(Slot),
-    Refused(u32),
 }

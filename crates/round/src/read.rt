@@ -11,47 +11,53 @@ pub fn top_of(round: Round) -> usize
     requires { round.slot.0 ≤ round.last.0 }
     ensures { result ≡ min round.used (round.last.0 - round.slot.0) }
 {
-    let left = (round.last.0 - round.slot.0) as usize;
-    if round.used < left {
-        return round.used;
+    round.used.min((round.last.0 - round.slot.0) as usize)
+}
+
+// A sound table in whose round a slot is left, with its head as a value.
+#[derive(Clone, Copy)]
+pub struct Sound<'a> {
+    pub table: &'a [u8],
+    pub round: Round,
+    ghost ready: { Ready table.now round },
+}
+
+impl<'a> Sound<'a> {
+    pub fn ticket_at(&self, row: usize) -> Ticket
+        requires { row < self.now.round.used }
+        ensures { TicketAt (round_in self.now.table.now) row result.0 }
+    {
+        Ticket(ticket_in(self.table, row))
     }
-    left
-}
 
-pub fn ticket_at(table: &[u8], round: Round, row: usize) -> Ticket
-    requires { Ready table.now round × (row < round.used) }
-    ensures { TicketAt (round_in table.now) row result.0 }
-{
-    Ticket(ticket_in(table, row))
-}
+    pub fn due_at(&self, row: usize) -> u32
+        requires { row < self.now.round.used }
+        ensures { DueAt (round_in self.now.table.now) row result }
+    {
+        due_in(self.table, row)
+    }
 
-pub fn due_at(table: &[u8], round: Round, row: usize) -> u32
-    requires { Ready table.now round × (row < round.used) }
-    ensures { DueAt (round_in table.now) row result }
-{
-    due_in(table, row)
-}
+    pub fn weight_at(&self, row: usize) -> u32
+        requires { row < self.now.round.used }
+        ensures { WeightAt (round_in self.now.table.now) row result }
+    {
+        weight_in(self.table, row)
+    }
 
-pub fn weight_at(table: &[u8], round: Round, row: usize) -> u32
-    requires { Ready table.now round × (row < round.used) }
-    ensures { WeightAt (round_in table.now) row result }
-{
-    weight_in(table, row)
-}
+    // 1 for a kept blank, 0 for a frame.
+    pub fn kind_at(&self, row: usize) -> u8
+        requires { row < self.now.round.used }
+        ensures { KindAt (round_in self.now.table.now) row result }
+    {
+        kind_in(self.table, row)
+    }
 
-// 1 for a kept blank, 0 for a frame.
-pub fn kind_at(table: &[u8], round: Round, row: usize) -> u8
-    requires { Ready table.now round × (row < round.used) }
-    ensures { KindAt (round_in table.now) row result }
-{
-    kind_in(table, row)
-}
-
-pub fn class_at(table: &[u8], round: Round, row: usize) -> u32
-    requires { Ready table.now round × (row < round.used) }
-    ensures { ClassAt (round_in table.now) row result }
-{
-    class_in(table, row)
+    pub fn class_at(&self, row: usize) -> u32
+        requires { row < self.now.round.used }
+        ensures { ClassAt (round_in self.now.table.now) row result }
+    {
+        class_in(self.table, row)
+    }
 }
 
 // The bucket of a slot so far ahead.

@@ -5,16 +5,16 @@ ghost use Rattle.std.specs.Prelude.{◌≡◌, ◌+◌, ◌<◌};
 ghost use Rattle.rules.specs.Limits.{ticket_limit};
 
 // Four sorts of count, so that none can stand in another's place.
-#[derive(Clone, Copy)]
+#[derive(Clone, Copy, Debug, PartialEq, Eq)]
 pub struct Slot(pub u32);
 
-#[derive(Clone, Copy)]
+#[derive(Clone, Copy, Debug, PartialEq, Eq)]
 pub struct Weight(pub u32);
 
-#[derive(Clone, Copy)]
+#[derive(Clone, Copy, Debug, PartialEq, Eq)]
 pub struct Ticket(pub u32);
 
-#[derive(Clone, Copy)]
+#[derive(Clone, Copy, Debug, PartialEq, Eq)]
 pub struct Class(pub u32);
 
 // The head, with the rows that the table has room for.
@@ -23,7 +23,8 @@ pub struct Round {
     pub slot: Slot,
     pub last: Slot,
     pub next: Ticket,
-    // 1 for a sealed round, else 0. A number of 32 bits here, so that the value has no gap.
+    // 1 for a sealed round, else 0.
+    // Kept: a number, since read_head tells any byte that a table holds here, and head_is_good then judges it; of 32 bits, so that the value has no gap.
     pub sealed: u32,
     pub used: usize,
     pub room: usize,
@@ -102,15 +103,10 @@ impl Round {
         ensures { (result.slot.0 ≡ self.slot.0) × (result.last.0 ≡ self.last.0) × (result.next.0 ≡ self.next.0 + 1)
             × (result.used ≡ self.used + 1) × (result.room ≡ self.room) × (result.sealed ≡ self.sealed) }
     {
-        let slot = self.slot;
-        let last = self.last;
         Round {
-            slot,
-            last,
             next: Ticket(self.next.0 + 1),
-            sealed: self.sealed,
             used: self.used + 1,
-            room: self.room,
+            ..self
         }
     }
 }

@@ -4,6 +4,3 @@ use Rattle.chain.proofs.lower_marks.Given as goal
 
 abbrev pub invariant-loop-k : goal.invariant-loop-k
 invariant-loop-k l = Lowering l.count l.to l.initial.lows l.lows l.k
-
-abbrev pub decreases-loop-k : goal.decreases-loop-k
-decreases-loop-k l = l.k

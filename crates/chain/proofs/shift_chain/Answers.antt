@@ -1,6 +1,5 @@
 -- `chain::shift_chain` meets its contract.
 use borrow.Author.Rules.{rules}
-use Prim.Native.Nat.{◌-◌}
 use Rattle.chain.proofs.ShiftLaws.{shift_none, shift_start, shift_named, shift_long, shift_fair, shift_again, shift_end}
 use Rattle.chain.proofs.shift_chain.Goals as goal
 

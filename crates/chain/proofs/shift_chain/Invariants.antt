@@ -1,11 +1,7 @@
 -- `chain::shift_chain` meets its contract.
-use Prim.Native.Nat.{◌-◌}
 use Rattle.rules.specs.Table.{round_in}
 use Rattle.chain.proofs.ShiftLaws.{Linking}
 use Rattle.chain.proofs.shift_chain.Given as goal
 
 abbrev pub invariant-loop-k : goal.invariant-loop-k
 invariant-loop-k l = Linking (round_in l.initial.table) l.ends l.to l.own l.k l.waiting l.table
-
-abbrev pub decreases-loop-k : goal.decreases-loop-k
-decreases-loop-k l = l.own - l.k

@@ -1,9 +1,0 @@
--- `round::read::class_at` meets its contract: a row's class, by its byte.
-use Rattle.round.proofs.ReadLaws.{reads_within, class_read}
-use Rattle.round.proofs.read.class_at.Goals as goal
-
-pub class_in-requires : goal.class_in-requires
-class_in-requires c = reads_within _ _ c.requires.0 _ c.requires.1
-
-pub returns : goal.returns
-returns c = class_read _ _ _ _ c.requires.0 c.requires.1 (search c.class_in.ensures)

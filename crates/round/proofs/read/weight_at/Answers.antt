@@ -1,9 +1,0 @@
--- `round::read::weight_at` meets its contract: a row's weight, by its bytes.
-use Rattle.round.proofs.ReadLaws.{reads_within, weight_read}
-use Rattle.round.proofs.read.weight_at.Goals as goal
-
-pub weight_in-requires : goal.weight_in-requires
-weight_in-requires c = reads_within _ _ c.requires.0 _ c.requires.1
-
-pub returns : goal.returns
-returns c = weight_read _ _ _ _ c.requires.0 c.requires.1 c.weight_in.ensures

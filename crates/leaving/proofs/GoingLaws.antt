@@ -1,20 +1,20 @@
 -- The sweep on its way, with its heap: its top is the lightest row kept, and it follows the sweep's steps.
 use mathlib.Core.Path.{◌≡◌, refl, sym, ap, ◌∙◌}
 use mathlib.Core.Logic.{◌⊎◌, inl, inr}
-use mathlib.Core.Bool.{Bool, true, cond}
+use mathlib.Core.Bool.{true, cond}
 use mathlib.Core.List.{List}
-use Prim.Native.Nat.{ℕ, zero, suc, ◌+◌, ◌*◌, ◌-◌, ◌/◌, ◌%◌, ◌≤◌, ◌<◌, max}
+use Prim.Native.Nat.{ℕ, zero, suc, ◌+◌, ◌-◌, ◌≤◌, ◌<◌, max}
 use native.Mathlib.Omega.{arith}
 use native.Mathlib.Numerals.{add-one}
 use lib.Dec.{eqb}
-use lib.ListN.{length, get_or, set, replicate, length-set, length-replicate}
+use lib.ListN.{length, get_or, set, replicate}
 use Rattle.keys.specs.Key.{weight_of, due_of, row_of, blank_key}
 use Rattle.theory.specs.Tests.{leb?, ltb?, eqb?}
 use Rattle.keys.specs.DueSums.{each}
 use Rattle.heap.specs.Heap.{Heap, heaped, Grown, Replaced}
 use Rattle.heap.proofs.HeapLaws.{heaped_at, heaped_some, top_most}
-use Rattle.leaving.specs.Sweep.{tally, Queue, Swept, Heaped, Leaves, Crowds, FirstCrowded, Filled, Greatest, Lightest, EmptyHeap, Fills, Crowd, Parted}
-use Rattle.leaving.specs.Sweep.{key_on, row_on, ahead_on, weight_on, kept_on, left_on}
+use Rattle.leaving.specs.Sweep.{Queue, Swept, Heaped, Leaves, Crowds, FirstCrowded, Filled, Greatest, Lightest, EmptyHeap, Fills, Crowd, Parted}
+use Rattle.leaving.specs.Sweep.{key_on, row_on, ahead_on, weight_on, kept_on}
 use Rattle.leaving.proofs.TallyLaws.{tally_yes, tally_at, tally_some, tally_all}
 use Rattle.leaving.proofs.SweepLaws.{keys_differ, count_few, kept_less, swept_joins, swept_leaves, swept_none, swept_front, crowded_in}
 

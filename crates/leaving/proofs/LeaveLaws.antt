@@ -3,7 +3,7 @@ use mathlib.Core.Path.{◌≡◌, refl, ap, ◌∙◌}
 use mathlib.Core.List.{List}
 use Prim.Native.Nat.{ℕ, ◌+◌, ◌-◌, ◌≤◌, ◌<◌}
 use native.Mathlib.Omega.{arith}
-use lib.ListN.{length, set, length-set}
+use lib.ListN.{length, set}
 use Rattle.keys.specs.Key.{weight_of, lack_of, due_of, row_of, blank_key, MayLack, Lacks}
 use Rattle.keys.proofs.KeyLaws.{lacks_none, lacks_more, lacks_once, may_lack, lack_fits}
 use Rattle.heap.specs.Heap.{Heap, Grown}

@@ -10,6 +10,7 @@ use keys::weight_of;
 use sorts::{Slot, Weight};
 
 // How many segments there are, and of the one whose top goes before all others': score, top, number, and its substitute (BLANK for none).
+// Kept: a substitute is a key, BLANK for none, since the pass takes the least of keys and a score is worked from either alike.
 #[derive(Clone, Copy)]
 pub struct Lead {
     pub count: usize,

@@ -11,11 +11,7 @@ pub fn top_of(round: Round) -> usize
     requires { round.slot.0 ≤ round.last.0 }
     ensures { result ≡ min round.used (round.last.0 - round.slot.0) }
 {
-    let left = (round.last.0 - round.slot.0) as usize;
-    if round.used < left {
-        return round.used;
-    }
-    left
+    round.used.min((round.last.0 - round.slot.0) as usize)
 }
 
 // A sound table in whose round a slot is left, with its head as a value.

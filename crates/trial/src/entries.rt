@@ -3,7 +3,7 @@ ghost use Rattle.std.specs.Prelude.{◌≡◌, ◌≤◌, ◌<◌, length};
 
 use crate::small;
 use listing::{Entry, Listed, View, list};
-use numbers::write4;
+use numbers::write;
 use sorts::{Slot, Ticket, Weight};
 
 pub fn try_list(table: &[u8], room: usize, out: &mut [u8]) -> usize
@@ -68,15 +68,15 @@ fn put_reply(reply: Listed, out: &mut [u8])
 fn put_two(refusal: u32, count: u32, out: &mut [u8])
     requires { length out.old ≡ 12296 }
 {
-    write4(out, 0, refusal);
-    write4(out, 4, count);
+    write::<4>(out, 0, refusal);
+    write::<4>(out, 4, count);
 }
 
 fn put_entry(entry: Entry, i: usize, out: &mut [u8])
     requires { (length out.old ≡ 12296) × (i < 1024) }
 {
     let at = 8 + 12 * i;
-    write4(out, at, entry.ticket.0);
-    write4(out, at + 4, entry.due.0);
-    write4(out, at + 8, entry.weight.0);
+    write::<4>(out, at, entry.ticket.0);
+    write::<4>(out, at + 4, entry.due.0);
+    write::<4>(out, at + 8, entry.weight.0);
 }

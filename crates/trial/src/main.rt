@@ -6,7 +6,7 @@ ghost use Rattle.std.specs.Prelude.{◌≡◌, ◌≤◌, length};
 use crate::entries::try_list;
 use crate::reading::try_read;
 use crate::writing::try_write;
-use numbers::read4;
+use numbers::read;
 use sorts::{Class, Slot, Weight};
 use std::io::{Read, Stdin, Stdout, Write};
 
@@ -88,13 +88,13 @@ fn request_of(head: &[u8]) -> Request
     requires { length head.now ≡ 28 }
 {
     Request {
-        kind: read4(head, 0),
-        size: read4(head, 4) as usize,
-        room: read4(head, 8) as usize,
-        command: read4(head, 12),
-        slot: Slot(read4(head, 16)),
-        weight: Weight(read4(head, 20)),
-        class: Class(read4(head, 24)),
+        kind: read::<4>(head, 0),
+        size: read::<4>(head, 4) as usize,
+        room: read::<4>(head, 8) as usize,
+        command: read::<4>(head, 12),
+        slot: Slot(read::<4>(head, 16)),
+        weight: Weight(read::<4>(head, 20)),
+        class: Class(read::<4>(head, 24)),
     }
 }
 

@@ -4,7 +4,7 @@ ghost use Rattle.std.specs.Prelude.{◌≡◌, ◌≤◌, length};
 use crate::small;
 use forms::{Command, Reading};
 use lines::{payload, payload_place, read_command};
-use numbers::write4;
+use numbers::write;
 use sorts::{Class, Slot, Weight};
 
 // Refusal, command, slot, weight and class, the payload's place, and the payload with its length.
@@ -17,9 +17,9 @@ pub fn try_read(line: &[u8], out: &mut [u8]) -> usize
     put_reading(read_command(line), out);
     let place = payload_place(line);
     let part = payload(line);
-    write4(out, 20, small(place.start));
-    write4(out, 24, small(place.end));
-    write4(out, 28, small(part.len()));
+    write::<4>(out, 20, small(place.start));
+    write::<4>(out, 24, small(place.end));
+    write::<4>(out, 28, small(part.len()));
     put_part(part, out)
 }
 
@@ -47,11 +47,11 @@ fn put_command(command: Command, out: &mut [u8])
 fn put_numbers(refusal: u32, command: u32, slot: Slot, weight: Weight, class: Class, out: &mut [u8])
     requires { length out.old ≡ 65536 }
 {
-    write4(out, 0, refusal);
-    write4(out, 4, command);
-    write4(out, 8, slot.0);
-    write4(out, 12, weight.0);
-    write4(out, 16, class.0);
+    write::<4>(out, 0, refusal);
+    write::<4>(out, 4, command);
+    write::<4>(out, 8, slot.0);
+    write::<4>(out, 12, weight.0);
+    write::<4>(out, 16, class.0);
 }
 
 // No payload has more digits.

@@ -3,7 +3,7 @@ ghost use Rattle.std.specs.Prelude.{◌≡◌, ◌≤◌, length};
 
 use crate::{Request, small};
 use forms::Command;
-use numbers::write4;
+use numbers::write;
 use writer::{Written, write_line};
 
 // What each byte of the buffer is before the call.
@@ -36,12 +36,12 @@ fn put_line(command: Command, payload: &[u8], room: usize, out: &mut [u8]) -> us
     fill(out, 8, end);
     match write_line(command, payload, &mut out[8..end]) {
         Written::Length(n) => {
-            write4(out, 0, 0);
-            write4(out, 4, small(n));
+            write::<4>(out, 0, 0);
+            write::<4>(out, 4, small(n));
         }
         Written::Refused(n) => {
-            write4(out, 0, n);
-            write4(out, 4, 0);
+            write::<4>(out, 0, n);
+            write::<4>(out, 4, 0);
         }
     }
     end

@@ -11,6 +11,7 @@ ghost use Rattle.went.specs.Send.{SentSays};
 ghost use Rattle.crowded.specs.Crowded.{Crowded, Led};
 
 use buckets::Reach;
+use chain::Segments;
 use flagged::first_planned;
 use plan::{Planned, plan_of};
 use replies::Step;
@@ -40,16 +41,12 @@ fn send_led(
         return Step::Ordinary(send_row(table, round, row, expiring));
     }
     let lead = segments_of(keys, flags, round.slot, reach.free, counts, heap, lows);
-    send_planned(
-        table,
-        counts,
-        heap,
+    let segments = Segments {
+        ends: counts,
+        tops: heap,
         lows,
-        round,
-        planned.far,
-        lead,
-        expiring,
-    )
+    };
+    send_planned(table, segments, round, planned.far, lead, expiring)
 }
 
 // Some rows are left out. A far row goes in no sealed round.

@@ -8,6 +8,7 @@ ghost use Rattle.closing.specs.Close.{DueNow};
 ghost use Rattle.went.specs.Send.{SentSays};
 ghost use Rattle.step.specs.Step.{PlannedStep, WholeStep};
 
+use chain::Segments;
 use keys::{BLANK, row_of, weight_of};
 use lead::Lead;
 use leap::{send_blank, send_swapped};
@@ -27,15 +28,13 @@ fn far_score(far: u64) -> u64
 // The heaviest far row goes if it scores more than the segment that leads; else that segment's heaviest row: in an ordinary step from the first, else in a leap.
 pub fn send_planned(
     table: &mut [u8],
-    ends: &[u32],
-    tops: &[u64],
-    lows: &mut [u32],
+    segments: Segments,
     round: Round,
     far: u64,
     lead: Lead,
     expiring: usize,
 ) -> Step
-    requires { PlannedStep table.old round ends.now tops.now lows.old far lead × DueNow table.old expiring }
+    requires { PlannedStep table.old round segments.ends.now segments.tops.now segments.lows.now far lead × DueNow table.old expiring }
     ensures { SentSays table.old table.new result }
 {
     if lead.score < far_score(far) {
@@ -45,9 +44,9 @@ pub fn send_planned(
         return Step::Ordinary(send_row(table, round, row_of(lead.key), expiring));
     }
     if lead.other == BLANK {
-        return send_blank(table, ends, tops, lows, round, lead, expiring);
+        return send_blank(table, segments, round, lead, expiring);
     }
-    send_swapped(table, ends, tops, lows, round, lead, expiring)
+    send_swapped(table, segments, round, lead, expiring)
 }
 
 // The same where no row is left out: as the passes over the table found it.

@@ -85,10 +85,11 @@ KINDS = [
 CONTRACTS = {
     "rules": "the definitions, held to the rounds, bytes and lines worked out by hand in crates/rules/proofs",
     "sorts": "a head as a value: just opened (`new`), and with one more row (`one_more`)",
+    "refusals": "each refusal's number (`refusal_number`), and no two alike (`refusal_read`)",
     "numbers": "numbers in bytes: read (`field`) and written (`low`)",
     "limits": "a table's length (`length_good`), and a head's numbers (`head_tests`)",
     "checks": "each call's refusals in their order (`first_of`)",
-    "replies": "each reply enum read as document 01's number and values, and no two replies as one (`opened_read` and its like)",
+    "replies": "each call's result read as document 01's number and values, and no two results as one (`opened_read` and its like)",
     "packing": "each reply packed (`pack`), and read back (`Unpacks`)",
     "zeros": "`zeros_from`: all bytes from a place on are zero; `word`: 0 exactly when its eight bytes are",
     "seen": "`row_follows`, `numbers_pass`, `words_pass`, `frames_pass`, `goes_with`: what is asked of the rows so far, by numbers alone",

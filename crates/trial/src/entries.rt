@@ -4,7 +4,7 @@ ghost use Rattle.std.specs.Prelude.{◌≤◌, ◌<◌};
 use crate::request::MOST_ROOM;
 use crate::{OUT_SIZE, put_counted};
 use listing::{Entry, View, list};
-use numbers::write4;
+use numbers::write;
 use sorts::{Slot, Ticket, Weight};
 
 // What each entry is before the call.
@@ -29,7 +29,7 @@ pub fn try_list(table: &[u8], room: usize, out: &mut [u8; OUT_SIZE]) -> usize
 fn put_entry(entry: Entry, at: usize, out: &mut [u8; OUT_SIZE])
     requires { at + 12 ≤ 65536 }
 {
-    write4(out, at, entry.ticket.0);
-    write4(out, at + 4, entry.due.0);
-    write4(out, at + 8, entry.weight.0);
+    write::<4>(out, at, entry.ticket.0);
+    write::<4>(out, at + 4, entry.due.0);
+    write::<4>(out, at + 8, entry.weight.0);
 }

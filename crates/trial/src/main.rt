@@ -7,7 +7,7 @@ use crate::entries::try_list;
 use crate::reading::try_read;
 use crate::request::{Asked, HEAD_SIZE, MOST_SIZE, Request};
 use crate::writing::try_write;
-use numbers::write4;
+use numbers::write;
 use refusals::Refusal;
 use std::io::{Read, Stdin, Stdout, Write};
 
@@ -65,8 +65,8 @@ pub fn put_counted(counted: Result<usize, Refusal>, out: &mut [u8; OUT_SIZE]) {
         Ok(count) => (0, small(count)),
         Err(refusal) => (u32::from(refusal), 0),
     };
-    write4(out, 0, refusal);
-    write4(out, 4, count);
+    write::<4>(out, 0, refusal);
+    write::<4>(out, 4, count);
 }
 
 // A length or a place as a number of 4 bytes; one that is out of all bounds shows as FFFFFFFF.

@@ -4,7 +4,7 @@ ghost use Rattle.std.specs.Prelude.{◌≤◌};
 use crate::{OUT_SIZE, small};
 use forms::{MOST_NUMBERS, line_number, values_of};
 use lines::{payload, payload_place, read_command};
-use numbers::write4;
+use numbers::write;
 use refusals::Refusal;
 
 // Behind the refusal, the command with its three values, the payload's place and its length.
@@ -29,13 +29,13 @@ fn put_read(line: &[u8], out: &mut [u8; OUT_SIZE]) {
         Some(command) => (0, line_number(command), values_of(command)),
         None => (u32::from(Refusal::BadLine), 0, [0; MOST_NUMBERS]),
     };
-    write4(out, 0, refusal);
-    write4(out, 4, number);
+    write::<4>(out, 0, refusal);
+    write::<4>(out, 4, number);
     for i in 0..MOST_NUMBERS {
-        write4(out, 8 + 4 * i, values[i]);
+        write::<4>(out, 8 + 4 * i, values[i]);
     }
     let place = payload_place(line);
-    write4(out, 20, small(place.start));
-    write4(out, 24, small(place.end));
-    write4(out, 28, small(payload(line).len()));
+    write::<4>(out, 20, small(place.start));
+    write::<4>(out, 24, small(place.end));
+    write::<4>(out, 28, small(payload(line).len()));
 }

@@ -2,7 +2,7 @@
 ghost use Rattle.std.specs.Prelude.{◌≤◌};
 
 use forms::{Command, command_of};
-use numbers::read4;
+use numbers::read;
 
 pub const HEAD_SIZE: usize = 28;
 
@@ -31,17 +31,17 @@ pub struct Request {
 impl Request {
     // None where the kind or the command is none, or a size is too large.
     pub fn of(head: &[u8; HEAD_SIZE]) -> Option<Request> {
-        let asked = match read4(head, 0) {
+        let asked = match read::<4>(head, 0) {
             0 => Asked::List,
             1 => Asked::Write(command_of(
-                read4(head, 12),
-                [read4(head, 16), read4(head, 20), read4(head, 24)],
+                read::<4>(head, 12),
+                [read::<4>(head, 16), read::<4>(head, 20), read::<4>(head, 24)],
             )?),
             2 => Asked::Read,
             _ => return None,
         };
-        let size = read4(head, 4) as usize;
-        let room = read4(head, 8) as usize;
+        let size = read::<4>(head, 4) as usize;
+        let room = read::<4>(head, 8) as usize;
         if MOST_SIZE < size || MOST_ROOM < room {
             return None;
         }

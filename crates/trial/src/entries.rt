@@ -1,5 +1,5 @@
 // A listing into entries that are all alike before the call: the reply, and every entry lent.
-ghost use Rattle.std.specs.Prelude.{◌≤◌, ◌<◌};
+ghost use Rattle.std.specs.Prelude.{◌+◌, ◌≤◌};
 
 use crate::request::MOST_ROOM;
 use crate::{OUT_SIZE, put_counted};

@@ -35,7 +35,11 @@ impl Request {
             0 => Asked::List,
             1 => Asked::Write(command_of(
                 read::<4>(head, 12),
-                [read::<4>(head, 16), read::<4>(head, 20), read::<4>(head, 24)],
+                [
+                    read::<4>(head, 16),
+                    read::<4>(head, 20),
+                    read::<4>(head, 24),
+                ],
             )?),
             2 => Asked::Read,
             _ => return None,

@@ -27,16 +27,7 @@ pub enum Command {
 pub const MOST_NUMBERS: usize = 3;
 
 // The form of a line number; a number that no line has would stand alone, and makes no command.
-#[tactic(
-    auto,
-    using(std::proofs::lemmas::Bool::Decides::nat_tests),
-    unfolding(
-        rules::specs::Lines::forms,
-        rules::specs::Lines::found,
-        rules::specs::Lines::count_digits,
-        rules::specs::Lines::front_size
-    )
-)]
+#[tactic(auto, unfolding(rules::specs::Lines::forms, rules::specs::Lines::found, rules::specs::Lines::count_digits, rules::specs::Lines::front_size))]
 pub fn form_of(number: u32) -> Form
     ensures { HasForm (form_numbered number) result }
 {

@@ -48,12 +48,7 @@ fn lightest_by(sound: &Sound, by: u32) -> u64
     for row in 0..sound.round.used {
         let due = sound.due_at(row);
         let class = sound.class_at(row);
-        let key = key_of(
-            Weight(sound.weight_at(row)),
-            Slot(due),
-            Class(class),
-            row,
-        );
+        let key = key_of(Weight(sound.weight_at(row)), Slot(due), Class(class), row);
         if due <= by {
             low = low.max(key);
         }
@@ -68,11 +63,7 @@ pub fn substitute_every(sound: &Sound, counts: &[u32], reach: Reach, row: usize)
     ensures { Substitutes (round_in sound.now.table.now) row result }
 {
     let current = sound.round.slot.0;
-    let stretch = stretch_of(
-        counts,
-        reach.free,
-        (sound.due_at(row) - current) as usize,
-    );
+    let stretch = stretch_of(counts, reach.free, (sound.due_at(row) - current) as usize);
     if stretch.first != 0 {
         return Sub::Blank(Slot(current + stretch.first as u32));
     }

@@ -16,9 +16,9 @@ signatures() {
     cat <<'EOF'
 sorts::Round { slot: <Slot>, last: <Slot>, next: <Ticket>, used: 0, room: 1, sealed: 0 }
 sorts::Round::new(<Slot>, 1)
-checks::opening_refusal(<Slot>)
-checks::taking_refusal(round, <Slot>, <Weight>, <Class>)
-checks::marking_refusal(round, <Slot>)
+checks::may_open(<Slot>)
+checks::may_take(round, <Slot>, <Weight>, <Class>)
+checks::may_mark(round, <Slot>)
 replies::Taken::As(<Ticket>)
 replies::Out::Frame(<Ticket>)
 replies::Out::KeptBlank(<Ticket>)

@@ -147,5 +147,5 @@ fn mark_planned(
     ensures { result.0 ≡ mark (round_in table.now) slot.0 }
 {
     let planned = plan_of(table, counts, keys, flags, heap, round, reach, false);
-    mark_near(keys, flags, planned.many, round.slot, slot)
+    mark_near(&keys[..planned.many], flags, round.slot, slot)
 }

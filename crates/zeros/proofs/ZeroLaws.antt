@@ -2,14 +2,13 @@
 use mathlib.Core.Path.{◌≡◌, refl, sym, ap, ◌∙◌}
 use mathlib.Core.Logic.{inl, inr, ◌≢◌}
 use mathlib.Core.Bool.{Bool, true, false, ◌&&◌, false≢true}
-use mathlib.Core.List.{List, [], ◌∷◌, ◌++◌, append_assoc, append-nil}
-use Prim.Native.Nat.{ℕ, suc, ◌+◌, ◌*◌, ◌-◌, ◌≤◌, ◌<◌}
+use mathlib.Core.List.{List, [], ◌∷◌, ◌++◌}
+use Prim.Native.Nat.{ℕ, ◌+◌, ◌*◌, ◌≤◌, ◌<◌}
 use native.Mathlib.Omega.{arith}
-use native.Mathlib.Numerals.{add-one}
 use lib.Dec.{ltb, leb, eqb}
 use borrow.Author.Tests.{lt-ltb, le-ltb}
-use lib.ListN.{length, set, take, drop, replicate, take-append-drop, drop_of_length-le, replicate-append-replicate}
-use lib.Seq.{take-add, drop-drop, take-suc-set}
+use lib.ListN.{length, take, drop, take-append-drop, drop_of_length-le}
+use lib.Seq.{take-add, drop-drop}
 use Rattle.rules.specs.Table.{value, field}
 use Rattle.rules.specs.Conditions.{◌⟺◌}
 use Rattle.theory.specs.Tests.{either, leb?, eqb?}
@@ -118,24 +117,6 @@ zeros_more bs f a n x v e k inv =
 pub zeros_none : (bs : List ℕ) (a : ℕ) → length bs ≤ a → zeros (drop a bs) ≡ true
 unfolding zeros
 zeros_none bs a h = rw (drop_of_length-le bs h)
-
--- CLEARED from f up to i, and one byte more
-pub cleared_none : (t : List ℕ) (f : ℕ) → take f t ≡ take f t ++ replicate (f - f) 0
-cleared_none t f =
-    let e : f - f ≡ 0 = omega arith in
-    rw e (sym (append-nil (take f t)))
-
-pub cleared_more : (t z : List ℕ) (f i : ℕ) → f ≤ i → i < length z → take i z ≡ take f t ++ replicate (i - f) 0 →
-    take (i + 1) (set z i 0) ≡ take f t ++ replicate (i + 1 - f) 0
-cleared_more t z f i h k inv =
-    let e : i + 1 - f ≡ i - f + 1 = omega arith in
-    let n : take (i + 1) (set z i 0) ≡ take (suc i) (set z i 0) = rw add-one in
-    n
-    ∙ take-suc-set z i 0 k
-    ∙ ap (λ (bs : List ℕ). bs ++ replicate 1 0) inv
-    ∙ append_assoc (take f t) (replicate (i - f) 0) (replicate 1 0)
-    ∙ ap (λ (bs : List ℕ). take f t ++ bs) (replicate-append-replicate (i - f) 1 0)
-    ∙ ap (λ (m : ℕ). take f t ++ replicate m 0) (sym e)
 
 -- A WORD IS BELOW 1,024 when its second byte is at most 3 and those behind it are zero
 pub word_in_two : (b c : ℕ) (bs : List ℕ) → b < 256 → ltb (value (b ∷ c ∷ bs)) 1024 ≡ leb c 3 && zeros bs

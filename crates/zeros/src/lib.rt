@@ -75,9 +75,5 @@ pub fn clear(table: &mut [u8], from: usize)
     requires { from ≤ length table.old }
     ensures { table.new ≡ take from table.old ++ replicate (length table.old - from) 0 }
 {
-    let mut i = from;
-    while i < table.len() {
-        table[i] = 0;
-        i += 1;
-    }
+    table[from..].fill(0);
 }

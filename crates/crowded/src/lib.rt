@@ -11,10 +11,10 @@ ghost use Rattle.went.specs.Send.{SentSays};
 ghost use Rattle.crowded.specs.Crowded.{Crowded, Led};
 
 use buckets::Reach;
-use chain::Segments;
 use flagged::first_planned;
 use plan::{Planned, plan_of};
 use replies::Step;
+use round::read::Sound;
 use segments::segments_of;
 use sorts::Round;
 use step::send_planned;
@@ -41,12 +41,16 @@ fn send_led(
         return Step::Ordinary(send_row(table, round, row, expiring));
     }
     let lead = segments_of(keys, flags, round.slot, reach.free, counts, heap, lows);
-    let segments = Segments {
-        ends: counts,
-        tops: heap,
+    send_planned(
+        table,
+        counts,
+        heap,
         lows,
-    };
-    send_planned(table, segments, round, planned.far, lead, expiring)
+        round,
+        planned.far,
+        lead,
+        expiring,
+    )
 }
 
 // Some rows are left out. A far row goes in no sealed round.
@@ -65,7 +69,11 @@ fn send_crowded(
     ensures { SentSays table.old table.new result }
 {
     let asked = round.sealed != 1;
-    let planned = plan_of(table, counts, keys, flags, heap, round, reach, asked);
+    let sound = Sound {
+        table: &*table,
+        round,
+    };
+    let planned = plan_of(&sound, counts, keys, flags, heap, reach, asked);
     send_led(
         table,
         counts,

@@ -26,15 +26,18 @@ fn far_score(far: u64) -> u64
 }
 
 // The heaviest far row goes if it scores more than the segment that leads; else that segment's heaviest row: in an ordinary step from the first, else in a leap.
+// Kept: three slices, since the check does not follow a struct that lends one to be written if it is passed on; a leap's is made here.
 pub fn send_planned(
     table: &mut [u8],
-    segments: Segments,
+    ends: &[u32],
+    tops: &[u64],
+    lows: &mut [u32],
     round: Round,
     far: u64,
     lead: Lead,
     expiring: usize,
 ) -> Step
-    requires { PlannedStep table.old round segments.ends.now segments.tops.now segments.lows.now far lead × DueNow table.old expiring }
+    requires { PlannedStep table.old round ends.now tops.now lows.old far lead × DueNow table.old expiring }
     ensures { SentSays table.old table.new result }
 {
     if lead.score < far_score(far) {
@@ -43,6 +46,7 @@ pub fn send_planned(
     if lead.segment + 1 == lead.count {
         return Step::Ordinary(send_row(table, round, row_of(lead.key), expiring));
     }
+    let segments = Segments { ends, tops, lows };
     if lead.other == BLANK {
         return send_blank(table, segments, round, lead, expiring);
     }

@@ -136,7 +136,7 @@ CONTRACTS = {
     "lines": "`read_command` (`read`), `payload` (`PayloadPart`), `line_end` (`LineEnds`)",
     "writer": "`write_line` (`Writes`): the reply, and each byte of the buffer",
     "replying": "the writers of reply lines (`Replies`): the line's length, and each byte of the buffer",
-    "saying": "`say_opened`, `say_taken`, `say_sent`, `say_sealed` (`Replies`): the line of a call's reply, and each byte of the buffer",
+    "saying": "`say`, `say_refusal` (`Replies`): the line of a call's reply, and each byte of the buffer",
     "turns": "`take_turn_in_room` (`Turns`): a command's call on the table, and its reply's line",
     "answering": "`answer_lines_in_room` (`Answers`): the complete lines of a buffer, their replies and their calls on the table",
     "serving": "`serve_in_room` (`Serves`): one read, and every byte it leaves; `fresh_table`",

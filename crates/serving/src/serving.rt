@@ -5,7 +5,8 @@ ghost use Rattle.serving.specs.Serving.{Serves, Ending, RefusedBehind};
 
 use crate::{LONGEST_LINE, Served};
 use answering::answer_lines_in_room;
-use replying::write_refusal_in_room;
+use refusals::Refusal;
+use saying::say_refusal;
 
 // The bytes got stand behind those held; no bytes are the end of the input.
 pub fn serve_in_room(
@@ -53,7 +54,7 @@ fn end_input(held: usize, out: &mut [u8]) -> usize
     if held == 0 {
         return 0;
     }
-    write_refusal_in_room(1, out)
+    say_refusal(Refusal::BadLine, out)
 }
 
 // A line begun that is longer than any command's: refusal 1 behind the replies. It answers how many bytes are written then.
@@ -61,5 +62,5 @@ fn refuse_behind(wrote: usize, out: &mut [u8]) -> usize
     requires { wrote + reply_room ≤ length out.old }
     ensures { RefusedBehind wrote out.old out.new result }
 {
-    wrote + write_refusal_in_room(1, &mut out[wrote..])
+    wrote + say_refusal(Refusal::BadLine, &mut out[wrote..])
 }

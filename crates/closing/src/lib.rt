@@ -57,6 +57,7 @@ fn next_leaving(
 }
 
 // How many rows due now there can be beside the one that goes: this one need not be searched for.
+// Kept: the table changes under what calls this, so a struct that holds it with these facts would break at the first store.
 fn left_beside(table: &[u8], round: Round, expiring: usize, gone: usize) -> usize
     requires { (table_refusal table.now ≡ 0) × HeadOf table.now round × (gone ≤ round.used) × DueNow table.now expiring }
     ensures { DueBeside table.now gone result }

@@ -1,4 +1,5 @@
 // A row's numbers read, by its bytes alone.
+// Kept: callers hold a table that changes and a row that counts up, so a struct of both would be made anew for each number.
 ghost use Rattle.std.specs.Prelude.{◌≡◌, suc, ◌<◌, ◌≤◌, length};
 ghost use Rattle.rules.specs.Limits.{most_rows};
 ghost use Rattle.rules.specs.Conditions.{row_at, ticket_in, due_in, weight_in, kind_in, class_in};
@@ -30,6 +31,7 @@ pub fn weight_in(table: &[u8], row: usize) -> u32
 }
 
 // 1 for a kept blank, 0 for a frame.
+// Kept: any byte may stand here in a table that is not judged yet, so a kind is a number and no enum.
 pub fn kind_in(table: &[u8], row: usize) -> u8
     requires { (row < most_rows) × (row_at (suc row) ≤ length table.now) }
     ensures { result ≡ kind_in table.now row }

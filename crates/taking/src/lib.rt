@@ -13,6 +13,7 @@ use row::row_at;
 use row::write::write_row;
 use sorts::{Class, Slot, Ticket, Weight};
 
+// Kept: a due slot, a weight and a class each on their own, as document 01 and the C interface name them; their types tell them apart.
 pub fn take_frame(
     due: Slot,
     weight: Weight,

@@ -4,6 +4,7 @@ use Prim.Native.Nat.{◌+◌, ◌-◌}
 use native.Mathlib.Omega.{arith}
 use native.Mathlib.Nat.{sub-zero}
 use lib.ListN.{length}
+use borrow.Author.Rules.{rules}
 use Rattle.rules.specs.Lines.{form_of, front_size, stands}
 use Rattle.theory.specs.Lines.{front_small}
 use Rattle.digits.proofs.Filling.{put_part}
@@ -58,6 +59,6 @@ returns c =
     record {
       writes =
           write_on (of_command c.args.command) c.args.payload.now c.args.buffer.now (sym ask ∙ c.if-not-can_stand.false)
-          (front here.After-values_of-values) c.if-buffer-end.false filled copied refl;
+          (front here.After-values_of-values) c.if-buffer-end.false filled copied (search rules);
       payload_value = refl;
     }

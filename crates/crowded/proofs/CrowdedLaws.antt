@@ -6,7 +6,7 @@ use mathlib.Core.List.{List}
 use Prim.Native.Nat.{ℕ, ◌+◌, ◌≤◌}
 use native.Mathlib.Omega.{arith}
 use lib.Dec.{eqb}
-use lib.ListN.{length, replicate, length-replicate}
+use lib.ListN.{length, take, replicate, length-replicate}
 use borrow.Author.Tests.{ne_eqb}
 use Rattle.rules.specs.Rows.{Round}
 use Rattle.rules.specs.Table.{round_in}
@@ -19,6 +19,7 @@ use Rattle.round.specs.Rows.{Ready, top_of}
 use Rattle.round.specs.Buckets.{Counted}
 use Rattle.round.proofs.ReadLaws.{known}
 use Rattle.keys.specs.Key.{row_of, blank_key}
+use Rattle.keys.proofs.SliceLaws.{front_many, front_sorted}
 use Rattle.buckets.specs.Reach.{Reaches, ReachSays, head_top}
 use Rattle.buckets.specs.declared.Reach.{Reach}
 use Rattle.buckets.proofs.ReachLaws.{reaches}
@@ -65,12 +66,13 @@ is_asked b u = ap not (ne_eqb b 1 u)
 -- THE PLAN MADE: its segments are given
 pub led : (t cs ks fs hs ls : List ℕ) (h : Head) (x : Reach) (e : ℕ) → Crowded t cs ks fs hs ls h x e → (ks2 fs2 : List ℕ) (p : Planned) →
     (asked : Bool) → (h.sealed ≢ 1 → asked ≡ true) → Plans (round_in t) x asked ks2 fs2 p → (cs2 hs2 : List ℕ) → length cs2 ≡ length cs →
-    length hs2 ≡ length hs → Led t cs2 ks2 fs2 hs2 ls h x p e
+    length hs2 ≡ length hs → Led t cs2 (take p.many ks2) fs2 hs2 ls h x p e
 led t cs ks fs hs ls h x e c ks2 fs2 p k m q cs2 hs2 a b =
-    let g = given-laws.given t h ks2 fs2 p.many x.free c.lent.ready q.chosen q.sorted c.lent.reaches.near
-    (some_slot t x c.lent.reaches c.lent.some) q.many in
+    let g = given-laws.given t h (take p.many ks2) fs2 (length (take p.many ks2)) x.free c.lent.ready q.chosen
+    (front_sorted (round_in t) x.free ks2 p.many q.many q.sorted) c.lent.reaches.near
+    (some_slot t x c.lent.reaches c.lent.some) (front_many (round_in t) x.free ks2 p.many q.many q.sorted) in
     let v = known t h c.lent.ready in
-    let n = given-laws.slots_most (round_in t) ks2 fs2 p.many h.slot.0 x.free g in
+    let n = given-laws.slots_most (round_in t) (take p.many ks2) fs2 (length (take p.many ks2)) h.slot.0 x.free g in
     record {
       ready = c.lent.ready;
       given = g;
@@ -82,11 +84,11 @@ led t cs ks fs hs ls h x e c ks2 fs2 p k m q cs2 hs2 a b =
     }
 
 -- SEALED, the plan's first goes
-pub first_lent : {t cs ks fs hs ls : List ℕ} {h : Head} {x : Reach} {p : Planned} {e : ℕ} → Led t cs ks fs hs ls h x p e → flagged.Lent ks fs p.many
+pub first_lent : {t cs ks fs hs ls : List ℕ} {h : Head} {x : Reach} {p : Planned} {e : ℕ} → Led t cs ks fs hs ls h x p e → flagged.Lent ks fs (length ks)
 first_lent {t} {h = h} {x = x} g = record { of = round_in t; slot = h.slot.0; free = x.free; given = g.given }
 
 pub first_alone : {t cs ks fs hs ls : List ℕ} {h : Head} {x : Reach} {p : Planned} {e : ℕ} → Led t cs ks fs hs ls h x p e → h.sealed ≡ 1 →
-    {i : ℕ} → flagged.FirstSays ks fs p.many i → LeavesAlone t h false i
+    {i : ℕ} → flagged.FirstSays ks fs (length ks) i → LeavesAlone t h false i
 first_alone {t} {ks = ks} {fs} {h = h} {x} {p} g u {i} s =
     let r = round_in t in
     let n = known t h g.ready in
@@ -100,7 +102,7 @@ first_alone {t} {ks = ks} {fs} {h = h} {x} {p} g u {i} s =
 
 -- THE STEP goes by them
 pub planned_step : {t cs ks fs hs ls : List ℕ} {h : Head} {x : Reach} {p : Planned} {e : ℕ} → Led t cs ks fs hs ls h x p e → h.sealed ≢ 1 →
-    (es ts ms : List ℕ) (l : Lead) → SegmentsSay ks fs p.many h.slot.0 x.free es ts ms l → PlannedStep t h es ts ms p.far l
+    (es ts ms : List ℕ) (l : Lead) → SegmentsSay ks fs (length ks) h.slot.0 x.free es ts ms l → PlannedStep t h es ts ms p.far l
 planned_step {t} {h = h} {x = x} {p = p} g u es ts ms l s =
     record {
       ready = g.ready;

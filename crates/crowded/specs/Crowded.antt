@@ -18,7 +18,7 @@ pub record Crowded (t cs ks fs hs ls : List ℕ) (h : Head) (x : Reach) (expirin
 -- THE PLAN MADE, unsealed with the heaviest far row, and a place for each segment's end, top and lightest
 pub record Led (t cs ks fs hs ls : List ℕ) (h : Head) (x : Reach) (p : Planned) (expiring : ℕ) : Type 0 where
   pub ready : Ready t h
-  pub given : Given (round_in t) ks fs p.many h.slot.0 x.free
+  pub given : Given (round_in t) ks fs (length ks) h.slot.0 x.free
   pub far : h.sealed ≢ 1 → HeaviestFrom (round_in t) ((round_in t).slot + x.free) p.far
   pub ends : x.free ≤ length cs
   pub tops : x.free ≤ length hs

@@ -35,19 +35,10 @@ fn send_led(
     ensures { SentSays table.old table.new result }
 {
     if round.sealed == 1 {
-        let row = first_planned(keys, flags, planned.many);
+        let row = first_planned(keys, flags);
         return send_row(table, round, row, false, expiring);
     }
-    let lead = segments_of(
-        keys,
-        flags,
-        planned.many,
-        round.slot,
-        reach.free,
-        counts,
-        heap,
-        lows,
-    );
+    let lead = segments_of(keys, flags, round.slot, reach.free, counts, heap, lows);
     send_planned(
         table,
         counts,
@@ -78,7 +69,16 @@ fn send_crowded(
     let asked = round.sealed != 1;
     let planned = plan_of(table, counts, keys, flags, heap, round, reach, asked);
     send_led(
-        table, counts, keys, flags, heap, lows, round, reach, planned, expiring,
+        table,
+        counts,
+        &keys[..planned.many],
+        flags,
+        heap,
+        lows,
+        round,
+        reach,
+        planned,
+        expiring,
     )
 }
 

@@ -1,14 +1,19 @@
 -- A buffer filled from its start, part by part.
 use mathlib.Core.Path.{◌≡◌, refl, sym, ◌∙◌}
-use mathlib.Core.List.{List, [], ◌∷◌, ◌++◌}
+use mathlib.Core.List.{List, [], ◌∷◌, ◌++◌, append_assoc}
 use Prim.Native.Nat.{ℕ, suc, ◌+◌, ◌≤◌, ◌<◌}
 use native.Mathlib.Omega.{arith}
 use native.Mathlib.Numerals.{add-one}
+use borrow.Rule.Slice.PartMut.{put_mid}
 use lib.ListN.{length, get_or, set, take, drop, length-append}
 use lib.Seq.{take_at, drop_at, drop-cons, drop-drop, set_at, append_snoc}
 use Rattle.rules.specs.Lines.{digits}
 use Rattle.theory.specs.Digits.{length_digits}
 use Rattle.digits.specs.Spelling.{put, Puts}
+
+-- bytes written through a part of the buffer
+pub put_part : (a k : ℕ) (z : List ℕ) {ys xs : List ℕ} → ys ≡ xs → k ≡ length xs → put_mid a k z ys ≡ put a xs z
+put_part a k z {ys} {xs} e h = rw (e, h) (sym (append_assoc (take a z) xs (drop (length xs) (drop a z))) ∙ rw drop-drop)
 
 -- xs stand at the buffer's start, and the bytes past them are those of zs
 pub record Filled (xs zs buffer : List ℕ) : Type 0 where

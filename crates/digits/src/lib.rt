@@ -3,7 +3,7 @@
 
 ghost use Rattle.std.specs.Prelude.{◌≡◌, ◌+◌, ◌^◌, ◌≤◌, ◌<◌, ltb, length};
 ghost use Rattle.rules.specs.Lines.{all_digits, digit, payload_fits};
-ghost use Rattle.digits.specs.Spelling.{Puts, put, spelt, value_or};
+ghost use Rattle.digits.specs.Spelling.{Puts, put, spelt, value_of};
 
 // How many digits a line's or a refusal's number, a slot, and a weight or a ticket have.
 pub const SHORT_DIGITS: usize = 2;
@@ -13,102 +13,71 @@ pub const SLOT_DIGITS: usize = 4;
 pub const WIDE_DIGITS: usize = 8;
 
 // The byte that ends a line.
-pub const LINE_END: u8 = 10;
+pub const LINE_END: u8 = b'\n';
 
-// What bytes spell: a number, or nothing where one is no digit.
-#[derive(Clone, Copy)]
-pub enum Spelt {
-    Number(u32),
-    Nothing,
-}
-
-const NO_DIGIT: u32 = 16;
-
-// A digit's value, and NO_DIGIT of any other byte.
-fn value(b: u8) -> u32
-    ensures { result ≡ value_or 16 b }
+// A digit's value; none of any other byte.
+#[tactic(auto, using(std::proofs::lemmas::Bool::Decides::nat_tests), unfolding(crate::specs::Spelling::value_of, rules::specs::Lines::is_digit, rules::specs::Lines::digit_value))]
+fn value(b: u8) -> Option<u32>
+    ensures { result ≡ value_of b }
 {
-    if b < 48 {
-        return NO_DIGIT;
+    match b {
+        b'0'..=b'9' => Some(u32::from(b - b'0')),
+        b'A'..=b'F' => Some(10 + u32::from(b - b'A')),
+        _ => None,
     }
-    if b <= 57 {
-        return b as u32 - 48;
-    }
-    if b < 65 {
-        return NO_DIGIT;
-    }
-    if b <= 70 {
-        return b as u32 - 55;
-    }
-    NO_DIGIT
 }
 
-// The number that up to eight digits spell.
-pub fn number(digits: &[u8]) -> Spelt
+// The number that up to eight digits spell; none where a byte is no digit.
+pub fn number(digits: &[u8]) -> Option<u32>
     requires { length digits.now ≤ 8 }
     ensures { result ≡ spelt digits.now }
 {
     let mut sum: u32 = 0;
-    let mut i = 0;
-    while i < digits.len() {
-        let v = value(digits[i]);
-        if v == NO_DIGIT {
-            return Spelt::Nothing;
-        }
-        sum = 16 * sum + v;
-        i += 1;
+    for b in digits {
+        sum = 16 * sum + value(*b)?;
     }
-    Spelt::Number(sum)
+    Some(sum)
 }
 
 // Whether every byte is a digit.
 pub fn digits_only(bytes: &[u8]) -> bool
     ensures { result ≡ all_digits bytes.now }
 {
-    let mut i = 0;
-    while i < bytes.len() {
-        if value(bytes[i]) == NO_DIGIT {
-            return false;
-        }
-        i += 1;
-    }
-    true
+    bytes.iter().all(|b| value(*b).is_some())
 }
 
 const MOST_PAYLOAD: usize = 48;
 
 // Whether there can be so many payload digits in a line that may have a payload, or may not.
+#[tactic(auto, using(std::proofs::lemmas::Bool::Decides::nat_tests), unfolding(rules::specs::Lines::payload_fits))]
 pub fn payload_fits(may: bool, count: usize) -> bool
     ensures { result ≡ payload_fits may count }
 {
-    if !may {
-        return count == 0;
+    if may {
+        count % 2 == 0 && count <= MOST_PAYLOAD
+    } else {
+        count == 0
     }
-    if count % 2 != 0 {
-        return false;
-    }
-    count <= MOST_PAYLOAD
 }
 
-// Whether so many digits hold a number.
+// Whether so many digits hold a number; eight hold each.
 pub fn fits(value: u32, count: usize) -> bool
     ensures { result ≡ ltb value (16 ^ count) }
 {
-    let mut rest = value;
-    let mut left = count;
-    while left > 0 {
-        rest /= 16;
-        left -= 1;
-    }
-    rest == 0
+    count >= WIDE_DIGITS || value < 16u32.pow(count as u32)
 }
 
 // The digit of a value below 16.
+#[tactic(auto, using(std::proofs::lemmas::Bool::Decides::nat_tests), unfolding(rules::specs::Lines::digit))]
 fn digit(v: u32) -> u8
     requires { v < 16 }
     ensures { result ≡ digit v }
 {
-    if v < 10 { 48 + v as u8 } else { 55 + v as u8 }
+    if v < 10 {
+        b'0' + v as u8
+    } else {
+        b'A' - 10 + v as u8
+    }
 }
 
 // A number in so many digits, from a place of the buffer on.
@@ -117,9 +86,7 @@ pub fn put_number(value: u32, count: usize, at: usize, buffer: &mut [u8])
     ensures { Puts value count at buffer.old buffer.new }
 {
     let mut rest = value;
-    let mut i = at + count;
-    while at < i {
-        i -= 1;
+    for i in (at..at + count).rev() {
         buffer[i] = digit(rest % 16);
         rest /= 16;
     }

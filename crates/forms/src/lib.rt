@@ -4,9 +4,13 @@
 ghost use Rattle.std.specs.Prelude.{◌≡◌};
 ghost use Rattle.rules.specs.Lines.{command_of, form_numbered, line_number};
 ghost use Rattle.forms.specs.Cases.{of_command, of_reading};
-ghost use Rattle.forms.specs.Forms.{HasForm, HasValues};
+ghost use Rattle.forms.specs.Forms.{Formed, HasForm, HasValues};
+ghost use Rattle.forms.specs.Small.{Small};
+
+mod form; // form.rt: the struct
 
 use digits::{SHORT_DIGITS, SLOT_DIGITS, WIDE_DIGITS};
+pub use form::Form;
 use sorts::{Class, Slot, Weight};
 
 // A command, one for each line number.
@@ -22,45 +26,44 @@ pub enum Command {
 // The most numbers that a line has behind its own.
 pub const MOST_NUMBERS: usize = 3;
 
-// How many numbers a line has, the digits of each, the digits before the payload, and whether a payload may follow.
-#[derive(Clone, Copy)]
-pub struct Form {
-    pub count: usize,
-    pub widths: [usize; MOST_NUMBERS],
-    pub front: usize,
-    pub payload: bool,
-}
-
 // The form of a line number; a number that no line has would stand alone, and makes no command.
+#[tactic(
+    auto,
+    using(std::proofs::lemmas::Bool::Decides::nat_tests),
+    unfolding(
+        rules::specs::Lines::forms,
+        rules::specs::Lines::found,
+        rules::specs::Lines::count_digits,
+        rules::specs::Lines::front_size
+    )
+)]
 pub fn form_of(number: u32) -> Form
     ensures { HasForm (form_numbered number) result }
 {
     match number {
-        0 => formed(1, [SLOT_DIGITS, 0, 0], SHORT_DIGITS + SLOT_DIGITS, false),
+        0 => formed(&[SLOT_DIGITS], SHORT_DIGITS + SLOT_DIGITS, false),
         1 => formed(
-            2,
-            [SLOT_DIGITS, WIDE_DIGITS, 0],
+            &[SLOT_DIGITS, WIDE_DIGITS],
             SHORT_DIGITS + SLOT_DIGITS + WIDE_DIGITS,
             true,
         ),
-        2 => formed(0, [0, 0, 0], SHORT_DIGITS, false),
-        3 => formed(0, [0, 0, 0], SHORT_DIGITS, false),
+        2 => formed(&[], SHORT_DIGITS, false),
+        3 => formed(&[], SHORT_DIGITS, false),
         4 => formed(
-            3,
-            [SLOT_DIGITS, WIDE_DIGITS, SHORT_DIGITS],
+            &[SLOT_DIGITS, WIDE_DIGITS, SHORT_DIGITS],
             SHORT_DIGITS + SLOT_DIGITS + WIDE_DIGITS + SHORT_DIGITS,
             true,
         ),
-        _ => formed(0, [0, 0, 0], SHORT_DIGITS, false),
+        _ => formed(&[], SHORT_DIGITS, false),
     }
 }
 
 // A form from its parts, so that the table above has a line for each.
-fn formed(count: usize, widths: [usize; MOST_NUMBERS], front: usize, payload: bool) -> Form
-    ensures { result ≡ record { count = count; widths = widths; front = front; payload = payload } }
+fn formed(widths: &'static [usize], front: usize, payload: bool) -> Form
+    requires { Small widths.now }
+    ensures { Formed widths.now front payload result }
 {
     Form {
-        count,
         widths,
         front,
         payload,
@@ -68,6 +71,7 @@ fn formed(count: usize, widths: [usize; MOST_NUMBERS], front: usize, payload: bo
 }
 
 // The command of a line number and its values; none is refusal 1.
+#[tactic(auto, unfolding(rules::specs::Lines::command_of))]
 pub fn command_of(number: u32, values: [u32; MOST_NUMBERS]) -> Option<Command>
     ensures { of_reading result ≡ command_of number values }
 {
@@ -81,6 +85,7 @@ pub fn command_of(number: u32, values: [u32; MOST_NUMBERS]) -> Option<Command>
     }
 }
 
+#[tactic(auto, unfolding(rules::specs::Lines::line_number))]
 pub fn line_number(command: Command) -> u32
     ensures { result ≡ line_number (of_command command) }
 {
@@ -94,6 +99,7 @@ pub fn line_number(command: Command) -> u32
 }
 
 // A command's values, and 0 for those that its line does not have.
+#[tactic(auto, unfolding(rules::specs::Lines::values_of))]
 pub fn values_of(command: Command) -> [u32; MOST_NUMBERS]
     ensures { HasValues (of_command command) result }
 {

@@ -64,11 +64,6 @@ key_read r i d w c k a b s e =
     ∙ ap (λ (x : ℕ). key (at r i).weight (at r i).due x i) s.is
 
 -- a flag is 1 or 0
-pub flag_fits : (k f : ℕ) → k ≤ blank_key → f ≤ 1 → k * f < 18446744073709551616
-flag_fits k zero h l = omega arith
-flag_fits k (suc zero) h l = omega arith
-flag_fits k (suc (suc f)) h l = absurd (omega arith)
-
 -- MANY ROWS, one by one
 pub lacks_none : Lacks 0 0 0
 lacks_none = omega arith

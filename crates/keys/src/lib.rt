@@ -9,6 +9,7 @@ use sorts::{Class, Slot, Weight};
 pub mod canonical; // canonical.rt: one number for a row's place in canonical order
 
 // No row: what a blank would have, which weighs nothing.
+// Kept: passes take the least and the greatest of bare numbers, without a branch; an Option, or a type of its own for keys, would ask at each.
 pub const BLANK: u64 = 281474993487872;
 
 // Due slot and class as one number: rows of one weight go by it. The due slot that it tells.
@@ -25,13 +26,15 @@ pub fn rank_due(rank: u32) -> u32
     rank / 4
 }
 
+#[tactic(auto, unfolding(crate::specs::Key::ranked))]
 pub fn key_by(weight: Weight, rank: u32, row: usize) -> u64
     requires { (weight.0 ≤ 16777216) × (rank ≤ 16383) × (row < 1024) }
     ensures { result ≡ ranked weight.0 rank row }
 {
-    BLANK - weight.0 as u64 * 16777216 + (rank as u64 * 1024 + row as u64)
+    BLANK - u64::from(weight.0) * 16777216 + (u64::from(rank) * 1024 + row as u64)
 }
 
+#[tactic(auto, unfolding(crate::specs::Key::key, crate::specs::Key::ranked))]
 pub fn key_of(weight: Weight, due: Slot, class: Class, row: usize) -> u64
     requires { (weight.0 ≤ 16777216) × (due.0 ≤ 4095) × (class.0 ≤ 3) × (row < 1024) }
     ensures { result ≡ key weight.0 due.0 class.0 row }
@@ -79,7 +82,7 @@ pub fn flagged(key: u64, flag: u8) -> u64
     requires { (key ≤ blank_key) × (flag ≤ 1) }
     ensures { result ≡ key * flag }
 {
-    key * flag as u64
+    key * u64::from(flag)
 }
 
 // The lighter of two rows, and the heavier.

@@ -7,15 +7,16 @@ use Prim.Native.Nat.{ℕ, zero, suc, ◌+◌, ◌-◌, ◌≤◌, ◌<◌}
 use native.Mathlib.Omega.{arith}
 use native.Mathlib.Numerals.{add-one}
 use lib.ListN.{length, get_or, set, take, drop, replicate, length-set, length-replicate, length-drop}
-use lib.Seq.{length-take-le, take_all, take-add, get_or-take, get_or-set_same, get_or-set_other, drop-drop}
+use lib.Seq.{take_all, take-add, get_or-take, get_or-set_same, get_or-set_other, drop-drop}
 use Rattle.rules.specs.Limits.{short_digits}
 use Rattle.rules.specs.Lines.{number_from, all_digits, count_digits, number_at, numbers_at, command_of}
 use Rattle.theory.specs.Tests.{either, eqb?}
 use Rattle.theory.specs.Digits.{all_digits_join, all_digits_part}
 use Rattle.theory.specs.Numerals.{length_numbers, count_more, count_least, number_in}
-use Rattle.forms.specs.declared.Form.{Form}
-use Rattle.forms.specs.Forms.{most_numbers, widths_in, Small}
-use Rattle.lines.proofs.ReadLines.{Says, part_of}
+use Rattle.std.specs.Prelude.{Some, None}
+use Rattle.digits.specs.Spelling.{spelt}
+use Rattle.forms.specs.Small.{most_numbers}
+use Rattle.lines.proofs.ReadLines.{spelt_number, spelt_nothing, part_of}
 
 -- the first i numbers are read: clean, their values in the array, 0 past them
 pub record Collected (ns line : List ℕ) (i from : ℕ) (at : List ℕ) : Type 0 where
@@ -36,18 +37,11 @@ unfolding count_digits all_digits
 collected_none ns line =
     record { within = omega arith; place = refl; room = length-replicate {A = ℕ} most_numbers 0; clean = refl; values = zeros most_numbers }
 
--- how many widths there are, and the one at i
-pub length_widths : {f : Form} → Small f → length (widths_in f) ≡ f.count
-length_widths {f} s = length-take-le f.count f.widths (omega (arith, s.few, s.room))
-
-pub width_in : (f : Form) (i : ℕ) → i < f.count → get_or (widths_in f) i 0 ≡ get_or f.widths i 0
-width_in f i h = get_or-take f.count f.widths i 0 h
-
 -- a part of w bytes from a place on
-pub part_long : (from w : ℕ) → from + w - from ≡ w
+part_long : (from w : ℕ) → from + w - from ≡ w
 part_long from w = omega arith
 
-pub part_short : (n m : ℕ) (l : List ℕ) → n ≤ m → length (take n l) ≤ m
+part_short : (n m : ℕ) (l : List ℕ) → n ≤ m → length (take n l) ≤ m
 part_short zero m l h = omega arith
 part_short (suc n) m [] h = omega arith
 part_short (suc n) m (x ∷ l) h = omega (arith, part_short n (m - 1) l (omega arith))
@@ -60,9 +54,10 @@ module _ {ns line : List ℕ} {i from w : ℕ} {at : List ℕ} (c : Collected ns
   part_at : take w (drop from line) ≡ take w (drop (count_digits (take i ns)) (drop short_digits line))
   part_at = ap (take w) (ap (λ (k : ℕ). drop k line) c.place ∙ sym (drop-drop (count_digits (take i ns)) short_digits line))
 
-  pub collected_foul : short_digits + count_digits ns ≤ length line → all_digits (take w (drop from line)) ≡ false →
-      false ≡ all_digits (take (count_digits ns) (drop short_digits line))
-  collected_foul h e =
+  pub collected_foul : short_digits + count_digits ns ≤ length line → spelt (take (from + w - from) (drop from line)) ≡ None →
+      all_digits (take (count_digits ns) (drop short_digits line)) ≡ false
+  collected_foul h s =
+      let e = spelt_nothing (take w (drop from line)) (rw (part_long from w) at s) in
       let m = count_digits ns in
       let a = count_digits (take i ns) in
       let l = drop short_digits line in
@@ -70,7 +65,7 @@ module _ {ns line : List ℕ} {i from w : ℕ} {at : List ℕ} (c : Collected ns
       part_of a w m l (omega (arith, c.place, next_within)) (omega (arith, length-drop short_digits line)) ∙ sym part_at in
       elim (either (all_digits (take m l))) [
         | inl t ↦ absurd (false≢true (sym e ∙ sym (ap all_digits p) ∙ all_digits_part a w (take m l) t))
-        | inr t ↦ sym t
+        | inr t ↦ t
       ]
 
   take_other : (vs : List ℕ) (k j : ℕ) → (j ≡ k → ⊥) → get_or (take k vs) j 0 ≡ get_or (take (suc k) vs) j 0
@@ -81,9 +76,11 @@ module _ {ns line : List ℕ} {i from w : ℕ} {at : List ℕ} (c : Collected ns
   take_other (v ∷ vs) (suc k) zero h = refl
   take_other (v ∷ vs) (suc k) (suc j) h = take_other vs k j (λ e. h (ap suc e))
 
-  pub collected_more : {v : ℕ} → i < most_numbers → Says (take w (drop from line)) v → Collected ns line (i + 1) (from + w) (set at i v)
+  pub collected_more : {v : ℕ} → i < most_numbers → spelt (take (from + w - from) (drop from line)) ≡ Some v →
+      Collected ns line (i + 1) (from + w) (set at i v)
   unfolding number_at
-  collected_more {v} h s =
+  collected_more {v} h e =
+      let s = spelt_number (take w (drop from line)) (rw (part_long from w) at e) in
       let vs = numbers_at short_digits ns line in
       let a = count_digits (take i ns) in
       let m = count_more ns i more in
@@ -108,12 +105,12 @@ module _ {ns line : List ℕ} {i from w : ℕ} {at : List ℕ} (c : Collected ns
 
 -- all are read
 pub collected_all : {ns line : List ℕ} {i from : ℕ} {at : List ℕ} → Collected ns line i from at → length ns ≤ i →
-    (true ≡ all_digits (take (count_digits ns) (drop short_digits line))) × ((j : ℕ) → get_or at j 0 ≡ get_or (numbers_at short_digits ns line) j 0)
+    (all_digits (take (count_digits ns) (drop short_digits line)) ≡ true) × ((j : ℕ) → get_or at j 0 ≡ get_or (numbers_at short_digits ns line) j 0)
 collected_all {ns} {line} {i} c h =
     let t = take_all i ns h in
     let vs = numbers_at short_digits ns line in
     let u = take_all i vs (omega (arith, length_numbers short_digits ns line)) in
-    (sym (rw t at c.clean), λ j. c.values j ∙ ap (λ (xs : List ℕ). get_or xs j 0) u)
+    (rw t at c.clean, λ j. c.values j ∙ ap (λ (xs : List ℕ). get_or xs j 0) u)
 
 -- values that are the same one by one make the same command
 pub command_same : (k : ℕ) (vs ws : List ℕ) → ((i : ℕ) → get_or vs i 0 ≡ get_or ws i 0) → command_of k vs ≡ command_of k ws

@@ -15,11 +15,10 @@ use Rattle.theory.specs.Tests.{either}
 use Rattle.theory.specs.Digits.{all_digits_join, all_digits_part}
 use Rattle.theory.specs.Lines.{from_long, body_end, read_ended}
 use Rattle.theory.specs.Broken.{length_body, read_not}
-use Rattle.digits.specs.declared.Spelt.{Spelt}
-use Rattle.digits.specs.declared.Spelt.TheVariants.{Number, Nothing}
+use Rattle.std.specs.Prelude.{Some, None}
 use Rattle.digits.specs.Spelling.{spelt}
-use Rattle.forms.specs.declared.Form.{Form}
-use Rattle.forms.specs.Forms.{widths_in, HasForm}
+use Rattle.forms.specs.declared.form.Form.{Form}
+use Rattle.forms.specs.Forms.{HasForm}
 use Rattle.forms.proofs.FormLaws.{front_count}
 
 -- WHAT SPELLING TELLS
@@ -27,21 +26,17 @@ pub record Says (ds : List ℕ) (v : ℕ) : Type 0 where
   pub clean : all_digits ds ≡ true
   pub number : number_from 0 ds ≡ v
 
-pub spelt_number : (ds : List ℕ) {r : Spelt} {v : ℕ} → r ≡ Number v → r ≡ spelt ds → Says ds v
+pub spelt_number : (ds : List ℕ) {v : ℕ} → spelt ds ≡ Some v → Says ds v
 unfolding spelt
-spelt_number ds {r} {v} e f =
+spelt_number ds {v} e =
     elim (either (all_digits ds)) [
-      | inl a ↦ record { clean = a; number = let g : r ≡ Number (number_from 0 ds) = rw a at f in cc }
-      | inr a ↦ absurd (let g : r ≡ Nothing = rw a at f in let z : ◌≡◌ {A = ℕ} 0 1 = cc in omega arith)
+      | inl a ↦ record { clean = a; number = let g : Some (number_from 0 ds) ≡ Some v = rw a at e in cc }
+      | inr a ↦ let g : None ≡ Some v = rw a at e in cc
     ]
 
-pub spelt_nothing : (ds : List ℕ) {r : Spelt} → r ≡ Nothing → r ≡ spelt ds → all_digits ds ≡ false
+pub spelt_nothing : (ds : List ℕ) → spelt ds ≡ None → all_digits ds ≡ false
 unfolding spelt
-spelt_nothing ds {r} e f =
-    elim (either (all_digits ds)) [
-      | inl a ↦ absurd (let g : r ≡ Number (number_from 0 ds) = rw a at f in let z : ◌≡◌ {A = ℕ} 0 1 = cc in omega arith)
-      | inr a ↦ a
-    ]
+spelt_nothing ds e = elim (either (all_digits ds)) [ inl a ↦ let g : Some (number_from 0 ds) ≡ None = rw a at e in cc | inr a ↦ a ]
 
 -- A PART of a part is the same part of the whole
 pub part_of : (a n m : ℕ) (l : List ℕ) → a + n ≤ m → m ≤ length l → take n (drop a (take m l)) ≡ take n (drop a l)
@@ -76,8 +71,9 @@ pub record Begun (kind : ℕ) (line : List ℕ) : Type 0 where
   pub clean : all_digits (take short_digits line) ≡ true
   pub says : number_from 0 (take short_digits line) ≡ kind
 
-pub begun : (k : ℕ) (line : List ℕ) → short_digits < length line → get_or line (length line - 1) 0 ≡ line_end → Says (take short_digits line) k → Begun k line
-begun k line h e s = record { long = h; ends = e; clean = s.clean; says = s.number }
+pub begun : {k : ℕ} (line : List ℕ) → short_digits < length line → get_or line (length line - 1) 0 ≡ line_end → spelt (take short_digits line) ≡ Some k →
+    Begun k line
+begun line h e s = let t = spelt_number (take short_digits line) s in record { long = h; ends = e; clean = t.clean; says = t.number }
 
 clean_on : (n m : ℕ) (l : List ℕ) → all_digits (take n l) ≡ true → all_digits (take m (drop n l)) ≡ true → all_digits (take (n + m) l) ≡ true
 clean_on n m l e f = rw (take-add n m l) (all_digits_join (take n l) (take m (drop n l)) e f)
@@ -115,9 +111,9 @@ module _ {k : ℕ} {line : List ℕ} (b : Begun k line) where
 
     -- clean numbers, and a clean payload that fits
     pub read_good : r.front ≤ length line - 1 → payload_fits r.payload (length line - 1 - r.front) ≡ true →
-        all_digits (take (count_digits (widths_in r)) (drop short_digits line)) ≡ true →
+        all_digits (take (count_digits (r.widths.now)) (drop short_digits line)) ≡ true →
         all_digits (take (length line - 1 - r.front) (drop r.front line)) ≡ true →
-        command_of k (numbers_at short_digits (widths_in r) line) ≡ read line
+        command_of k (numbers_at short_digits (r.widths.now) line) ≡ read line
     unfolding has_length body
     read_good l p c d =
         let f = form_numbered k in
@@ -126,10 +122,10 @@ module _ {k : ℕ} {line : List ℕ} (b : Begun k line) where
         let q = front_count h in
         let n : end ≡ m + (end - m) = omega arith in
         let e : all_digits (take m line) ≡ true =
-        ap (λ (j : ℕ). all_digits (take j line)) q ∙ clean_on short_digits (count_digits (widths_in r)) line b.clean c in
+        ap (λ (j : ℕ). all_digits (take j line)) q ∙ clean_on short_digits (count_digits (r.widths.now)) line b.clean c in
         let clean : all_digits (take end line) ≡ true = ap (λ (j : ℕ). all_digits (take j line)) n ∙ clean_on m (end - m) line e d in
         let g : has_length f end ≡ true = rw (le-leb (front_size f) end (omega (arith, h.front)), rw (h.payload, h.front) at p) in
-        let v : numbers_at short_digits f.widths (body line) ≡ numbers_at short_digits (widths_in r) line =
+        let v : numbers_at short_digits f.widths (body line) ≡ numbers_at short_digits (r.widths.now) line =
         numbers_body short_digits f.widths line (omega (arith, b.long, q, ap count_digits h.widths))
         ∙ ap (λ (ns : List ℕ). numbers_at short_digits ns line) (sym h.widths) in
         sym (read_begun ∙ rw (clean, g, v))

@@ -9,12 +9,5 @@ pub fn line_end(input: &[u8], from: usize) -> Option<usize>
     ensures line_ends { LineEnds input.now from result }
     ensures input_value { input.now ≡ input.now }
 {
-    let mut i = from;
-    while i < input.len() {
-        if input[i] == LINE_END {
-            return Some(i);
-        }
-        i += 1;
-    }
-    None
+    (from..input.len()).find(|i| input[*i] == LINE_END)
 }

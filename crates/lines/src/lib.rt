@@ -8,10 +8,3 @@ mod ends; // ends.rt: where a line ends
 pub use ends::line_end;
 pub use part::{payload, payload_place};
 pub use reader::read_command;
-
-// Where the payload stands in its line.
-#[derive(Clone, Copy)]
-pub struct Place {
-    pub start: usize,
-    pub end: usize,
-}

@@ -2,24 +2,24 @@
 ghost use Rattle.std.specs.Prelude.{◌≡◌};
 ghost use Rattle.lines.specs.Part.{PayloadPart, PayloadPlaced};
 
-use crate::{Place, read_command};
+use crate::read_command;
 use forms::{form_of, line_number};
+use std::ops::Range;
 
 // From start up to end; 0 and 0 with no payload digits, and of a line that is refused.
-pub fn payload_place(line: &[u8]) -> Place
+pub fn payload_place(line: &[u8]) -> Range<usize>
     ensures payload_placed { PayloadPlaced line.now result.start result.end }
     ensures line_value { line.now ≡ line.now }
 {
-    let none = Place { start: 0, end: 0 };
+    let none = 0..0;
     let Some(command) = read_command(line) else {
         return none;
     };
-    let form = form_of(line_number(command));
-    let front = form.front;
+    let front = form_of(line_number(command)).front;
     let n = line.len();
     if front + 1 < n {
         let end = n - 1;
-        Place { start: front, end }
+        front..end
     } else {
         none
     }
@@ -31,7 +31,5 @@ pub fn payload(line: &[u8]) -> &[u8]
     ensures line_value { line.now ≡ line.now }
 {
     let place = payload_place(line);
-    let start = place.start;
-    let end = place.end;
-    &line[start..end]
+    &line[place.start..place.end]
 }

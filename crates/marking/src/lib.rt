@@ -65,6 +65,6 @@ fn mark_before_free(slot: Slot, sound: &Sound, counts: &mut [u32], reach: Reach)
     }
     let current = sound.round.slot;
     ask_plan(sound, counts, reach, |keys, flags, planned| {
-        mark_near(keys, flags, planned.many, current, slot)
+        mark_near(&keys[..planned.many], flags, current, slot)
     })
 }

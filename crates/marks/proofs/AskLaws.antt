@@ -3,7 +3,7 @@ use mathlib.Core.Path.{◌≡◌}
 use mathlib.Core.List.{List}
 use Prim.Native.Nat.{ℕ, ◌+◌, ◌≤◌, ◌<◌}
 use native.Mathlib.Omega.{arith}
-use lib.ListN.{get_or}
+use lib.ListN.{length, get_or, take}
 use Rattle.rules.specs.Rows.{Round}
 use Rattle.rules.specs.Table.{round_in}
 use Rattle.rules.specs.Plan.{mark}
@@ -15,6 +15,7 @@ use Rattle.sorts.specs.declared.Round.{Round as Head}
 use Rattle.round.specs.Rows.{Ready, at}
 use Rattle.round.proofs.ReadLaws.{known}
 use Rattle.keys.specs.Sorted.{Sorted, many_due}
+use Rattle.keys.proofs.SliceLaws.{front_many, front_sorted}
 use Rattle.buckets.specs.Reach.{Reaches}
 use Rattle.buckets.specs.declared.Reach.{Reach}
 use Rattle.buckets.proofs.SegmentLaws.{whole_rows}
@@ -34,18 +35,25 @@ lost_is r f fs lost c e =
 pub lost_none : (r : Round) → Fine r → (x : Reach) → Reaches r x → x.over ≡ 0 → Lost r 0
 lost_none r f x w e = record { is = omega (arith, found_total r f r.rows (whole_rows r f x w e)) }
 
--- A NEAR SLOT, where rows are left out
+-- A NEAR SLOT, where rows are left out: the near rows' keys are the first ones
 module _ (t ks fs : List ℕ) (h : Head) (x : Reach) (many : ℕ) (k : Ready t h) (w : Reaches (round_in t) x) (s : Sorted (round_in t) x.free ks)
     (c : Chosen (round_in t) fs) (m : many ≡ many_due (round_in t) x.free) (d : ℕ) (a : h.slot.0 ≤ d) (b : d < h.slot.0 + x.free) where
-  pub asked : Asked (round_in t) ks fs many h.slot.0 x.free d
-  asked = record { given = given t ks fs h x many k w s c m; from = a; by = b }
+  pub asked : Asked (round_in t) (take many ks) fs (length (take many ks)) h.slot.0 x.free d
+  asked =
+      record {
+        given = given t (take many ks) fs h x (length (take many ks)) k w (front_sorted (round_in t) x.free ks many m s) c
+            (front_many (round_in t) x.free ks many m s);
+        from = a;
+        by = b;
+      }
 
-  pub lent_asked : LentAsked ks fs many h.slot.0 d
+  pub lent_asked : LentAsked (take many ks) fs (length (take many ks)) h.slot.0 d
   lent_asked = record { of = round_in t; n = x.free; given = asked }
 
-  pub mark_says : (v : ℕ) → MarksSay ks fs many h.slot.0 d v → v ≡ mark (round_in t) d
+  pub mark_says : (v : ℕ) → MarksSay (take many ks) fs (length (take many ks)) h.slot.0 d v → v ≡ mark (round_in t) d
   mark_says v g = g (round_in t) x.free asked
 
-  pub substitute_says : (i : ℕ) (v : Sub) → i < h.used → get_or fs i 0 ≡ 1 → (at (round_in t) i).due ≡ d → SubstitutesSay ks fs many h.slot.0 d v →
+  pub substitute_says : (i : ℕ) (v : Sub) → i < h.used → get_or fs i 0 ≡ 1 → (at (round_in t) i).due ≡ d →
+      SubstitutesSay (take many ks) fs (length (take many ks)) h.slot.0 d v →
       Substitutes (round_in t) i v
   substitute_says i v l o e g = g (round_in t) x.free i asked (omega (arith, l, (known t h k).used)) o e

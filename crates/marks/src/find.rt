@@ -1,8 +1,9 @@
 // The segment of a slot before free, where some rows are left out: by the near rows' keys in due order.
+ghost use Rattle.std.specs.Prelude.{length};
 ghost use Rattle.marks.specs.Given.{LentAsked};
 ghost use Rattle.marks.specs.Near.{FindsSay};
 
-use keys::{due_of, larger, row_of};
+use keys::{due_of, row_of};
 
 // Its first slot, and the key of the lightest of the plan's rows due by its end.
 #[derive(Clone, Copy)]
@@ -12,20 +13,17 @@ pub struct Found {
 }
 
 // The plan's rows so far would fill each slot before `edge`: a segment ends there where the latest is due by it.
-pub fn find_segment(keys: &[u64], flags: &[u8], many: usize, slot: u32, asked: u32) -> Found
-    requires { LentAsked keys.now flags.now many slot asked }
-    ensures { FindsSay keys.now flags.now many slot asked result }
+pub fn find_segment(keys: &[u64], flags: &[u8], slot: u32, asked: u32) -> Found
+    requires { LentAsked keys.now flags.now (length keys.now) slot asked }
+    ensures { FindsSay keys.now flags.now (length keys.now) slot asked result }
 {
     let mut first = slot;
     let mut edge = slot;
     let mut low: u64 = 0;
-    let mut p: usize = 0;
-    while p < many {
-        let key = keys[p];
-        p += 1;
+    for &key in keys {
         if flags[row_of(key)] == 1 {
             edge += 1;
-            low = larger(low, key);
+            low = low.max(key);
             if due_of(key) < edge {
                 if asked < edge {
                     return Found { first, low };

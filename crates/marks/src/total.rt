@@ -2,31 +2,25 @@
 ghost use Rattle.std.specs.Prelude.{◌≡◌};
 ghost use Rattle.rules.specs.Plan.{total, total_weight};
 ghost use Rattle.rules.specs.Table.{round_in};
-ghost use Rattle.round.specs.Rows.{Ready};
 ghost use Rattle.marks.specs.Total.{Lost};
 
-use round::read::weight_at;
-use sorts::Round;
+use round::read::Sound;
 
 // The weight of all rows.
-fn sum_all(table: &[u8], round: Round) -> u64
-    requires { Ready table.now round }
-    ensures { result ≡ total_weight (round_in table.now).rows }
+fn sum_all(sound: &Sound) -> u64
+    ensures { result ≡ total_weight (round_in sound.now.table.now).rows }
 {
-    let used = round.used;
     let mut sum: u64 = 0;
-    let mut i: usize = 0;
-    while i < used {
-        sum += weight_at(table, round, i) as u64;
-        i += 1;
+    for i in 0..sound.round.used {
+        sum += u64::from(sound.weight_at(i));
     }
     sum
 }
 
 // All rows but those left out, which weigh `lost`.
-pub fn total_of(table: &[u8], round: Round, lost: u64) -> u64
-    requires { Ready table.now round × Lost (round_in table.now) lost }
-    ensures { result ≡ total (round_in table.now) }
+pub fn total_of(sound: &Sound, lost: u64) -> u64
+    requires { Lost (round_in sound.now.table.now) lost }
+    ensures { result ≡ total (round_in sound.now.table.now) }
 {
-    sum_all(table, round) - lost
+    sum_all(sound) - lost
 }

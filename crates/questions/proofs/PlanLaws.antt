@@ -3,7 +3,7 @@ use mathlib.Core.Path.{◌≡◌}
 use mathlib.Core.Bool.{false}
 use mathlib.Core.List.{List}
 use Prim.Native.Nat.{ℕ, ◌+◌, ◌≤◌, ◌<◌}
-use lib.ListN.{get_or}
+use lib.ListN.{length, get_or, take}
 use Rattle.rules.specs.Plan.{mark}
 use Rattle.rules.specs.Table.{round_in}
 use Rattle.sorts.specs.declared.Round.{Round as Head}
@@ -29,13 +29,14 @@ module _ (t : List ℕ) (h : Head) (x : Reach) (k : Ready t h) (w : Reaches (rou
 
   -- a slot before free is asked about
   module _ (s : ℕ) (a : h.slot.0 ≤ s) (b : s < h.slot.0 + x.free) where
-    pub plan_asked : LentAsked ks fs p.many h.slot.0 s
+    pub plan_asked : LentAsked (take p.many ks) fs (length (take p.many ks)) h.slot.0 s
     plan_asked = lent_asked t ks fs h x p.many k w c.sorted c.chosen c.many s a b
 
-    pub plan_mark : (v : ℕ) → MarksSay ks fs p.many h.slot.0 s v → v ≡ mark (round_in t) s
+    pub plan_mark : (v : ℕ) → MarksSay (take p.many ks) fs (length (take p.many ks)) h.slot.0 s v → v ≡ mark (round_in t) s
     plan_mark = mark_says t ks fs h x p.many k w c.sorted c.chosen c.many s a b
 
-    pub plan_substitute : (i : ℕ) (v : Sub) → i < h.used → get_or fs i 0 ≡ 1 → (at (round_in t) i).due ≡ s → SubstitutesSay ks fs p.many h.slot.0 s v →
+    pub plan_substitute : (i : ℕ) (v : Sub) → i < h.used → get_or fs i 0 ≡ 1 → (at (round_in t) i).due ≡ s →
+        SubstitutesSay (take p.many ks) fs (length (take p.many ks)) h.slot.0 s v →
         Substitutes (round_in t) i v
     plan_substitute = substitute_says t ks fs h x p.many k w c.sorted c.chosen c.many s a b
 

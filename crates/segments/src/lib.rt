@@ -1,10 +1,11 @@
 // Segments as a value: one backward pass over the near rows' keys in due order finds each segment and the one whose top goes first.
 #![tactic(auto)]
 
+ghost use Rattle.std.specs.Prelude.{length};
 ghost use Rattle.segments.specs.Given.{Lent};
 ghost use Rattle.segments.specs.Segmented.{SegmentsSay};
 
-use keys::{BLANK, due_of, larger, lesser, row_of};
+use keys::{BLANK, due_of, row_of};
 use lead::{Lead, close_segment, ends_here};
 use sorts::Slot;
 
@@ -12,15 +13,14 @@ use sorts::Slot;
 pub fn segments_of(
     keys: &[u64],
     flags: &[u8],
-    many: usize,
     slot: Slot,
     free: usize,
     ends: &mut [u32],
     tops: &mut [u64],
     lows: &mut [u32],
 ) -> Lead
-    requires { Lent keys.now flags.now many slot.0 free ends.old tops.old lows.old }
-    ensures { SegmentsSay keys.now flags.now many slot.0 free ends.new tops.new lows.new result }
+    requires { Lent keys.now flags.now (length keys.now) slot.0 free ends.old tops.old lows.old }
+    ensures { SegmentsSay keys.now flags.now (length keys.now) slot.0 free ends.new tops.new lows.new result }
 {
     let mut lead = Lead {
         count: 0,
@@ -36,9 +36,7 @@ pub fn segments_of(
     let mut out = BLANK;
     // the plan's rows still to come would fill each slot before it
     let mut edge = current as usize + free;
-    let mut i = many;
-    while 0 < i {
-        i -= 1;
+    for i in (0..keys.len()).rev() {
         let key = keys[i];
         let due = due_of(key);
         if ends_here(Slot(due), edge, Slot(end)) {
@@ -48,11 +46,11 @@ pub fn segments_of(
             light = 0;
         }
         if flags[row_of(key)] == 1 {
-            heavy = lesser(heavy, key);
-            light = larger(light, key);
+            heavy = heavy.min(key);
+            light = light.max(key);
             edge -= 1;
         } else {
-            out = lesser(out, key);
+            out = out.min(key);
         }
     }
     close_segment(ends, tops, lows, lead, Slot(end), heavy, light, light)

@@ -180,6 +180,6 @@ fn substitute_flagged(
         return Substituted::Refused(11);
     }
     let due = due_at(table, round, row);
-    let sub = substitute_near(keys, flags, planned.many, round.slot, Slot(due));
+    let sub = substitute_near(&keys[..planned.many], flags, round.slot, Slot(due));
     named(table, round, sub)
 }

@@ -17,6 +17,7 @@ use checks::sending_refusal;
 use marks::total::total_of;
 use plan::plan_of;
 use replies::Totalled;
+use round::read::Sound;
 use round::sound::{Judged, scan};
 use sorts::Round;
 
@@ -61,7 +62,7 @@ fn total_ahead(table: &[u8], counts: &mut [u32], round: Round) -> u64
 {
     let reach = reach_of(counts, round);
     if reach.over == 0 {
-        return total_of(table, round, 0);
+        return total_of(&Sound { table, round }, 0);
     }
     if round.used <= Round::FEW {
         return total_few(table, counts, round, reach);
@@ -122,5 +123,5 @@ fn total_planned(
     ensures { result ≡ total (round_in table.now) }
 {
     let planned = plan_of(table, counts, keys, flags, heap, round, reach, false);
-    total_of(table, round, planned.lost)
+    total_of(&Sound { table, round }, planned.lost)
 }

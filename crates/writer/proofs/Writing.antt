@@ -1,54 +1,39 @@
 -- Lines written: values that fit, the front part by part, the payload copied, the answers.
 use mathlib.Core.Path.{◌≡◌, refl, sym, ap, ◌∙◌}
-use mathlib.Core.Bool.{Bool, true, false, ◌&&◌}
-use mathlib.Core.List.{List, ◌++◌, append_assoc, append-nil}
+use mathlib.Core.Bool.{true, false}
+use mathlib.Core.List.{List, [], ◌∷◌, ◌++◌, append_assoc, append-nil}
 use Prim.Native.Nat.{ℕ, suc, ◌+◌, ◌^◌, ◌≤◌, ◌<◌}
 use native.Mathlib.Omega.{arith}
 use native.Mathlib.Numerals.{add-one}
 use lib.Dec.{ltb}
-use lib.ListN.{length, get_or, set, take, drop, length-append, length-set, take-append-drop, drop_of_length-le}
-use lib.Seq.{length-take-le, take_all, take-length, paste, paste-zero, paste-suc}
+use lib.ListN.{length, get_or, set, take, drop, length-append, take-append-drop}
+use lib.Seq.{length-take-le, take_all}
 use Rattle.rules.specs.Limits.{short_digits}
 use Rattle.rules.specs.Lines.{digits, count_digits, numerals, fit_digits, form_numbered, form_of, front_size}
 use Rattle.rules.specs.Lines.{line_number, values_of, front, stands, line_end}
 use Rattle.rules.specs.Lines as rules
 use Rattle.theory.specs.Digits.{length_digits}
-use Rattle.theory.specs.Numerals.{length_numerals, count_more, count_least, numerals_more, fit_more}
+use Rattle.theory.specs.Numerals.{length_numerals, count_more, count_least, numerals_more}
 use Rattle.theory.specs.Lines.{as_many, length_front, text_front, from_stands, length_text, unfit, no_room, room, write_refused, write_done}
 use Rattle.digits.specs.Spelling.{put, Puts}
 use Rattle.digits.proofs.Filling.{Filled, filled_none, filled_put, filled_number, filled_byte}
-use Rattle.forms.specs.declared.Form.{Form}
-use Rattle.forms.specs.Forms.{widths_in, values_in, can_stand, HasForm, HasValues}
+use Rattle.forms.specs.declared.form.Form.{Form}
+use Rattle.forms.specs.Forms.{values_in, can_stand, HasForm, HasValues}
 use Rattle.forms.proofs.FormLaws.{front_count}
-use Rattle.writer.specs.declared.Written.{Written}
-use Rattle.writer.specs.declared.Written.TheVariants.{Length, Refused}
+use Rattle.std.specs.Prelude.{Result, Ok, Err, zip}
+use Rattle.std.specs.List.{list_all}
+use Rattle.refusals.proofs.Numbers.{refusal_read}
+use Rattle.refusals.specs.declared.Refusal.{Refusal}
+use Rattle.refusals.specs.declared.Refusal.TheVariants.{BadLine, NoRoom}
 use Rattle.writer.specs.Writing.{of_written, Writes}
 
--- WHAT CAN STAND: values, the payload's digits, their number
-pub stands_not : (a b c : Bool) → a ≡ false → false ≡ a && (b && c)
-stands_not a b c e = rw e
-
-pub stands_long : (a b c : Bool) → c ≡ false → false ≡ a && (b && c)
-stands_long true true c e = sym e
-stands_long true false c e = refl
-stands_long false b c e = refl
-
-pub stands_if : (a b c : Bool) → a ≡ true → c ≡ true → b ≡ a && (b && c)
-stands_if a true c e f = rw (e, f)
-stands_if a false c e f = rw e
-
--- VALUES THAT FIT, from the i-th on
-module _ (ns vs : List ℕ) (i : ℕ) where
-  pub fit_go : i < length ns → i < length vs → ltb (get_or vs i 0) (16 ^ get_or ns i 0) ≡ true →
-      fit_digits (drop i ns) (drop i vs) ≡ fit_digits (drop (i + 1) ns) (drop (i + 1) vs)
-  fit_go h g e = fit_more ns vs i h g ∙ rw (e, add-one)
-
-  pub fit_stop : i < length ns → i < length vs → ltb (get_or vs i 0) (16 ^ get_or ns i 0) ≡ false → false ≡ fit_digits (drop i ns) (drop i vs)
-  fit_stop h g e = sym (fit_more ns vs i h g ∙ rw e)
-
-  pub fit_all : length ns ≤ i → length vs ≤ i → true ≡ fit_digits (drop i ns) (drop i vs)
-  unfolding fit_digits
-  fit_all h g = rw (drop_of_length-le ns {i = i} h, drop_of_length-le vs {i = i} g)
+-- VALUES THAT FIT, each with its digits
+pub fit_zip : (ns vs : List ℕ) → length vs ≡ length ns → list_all (λ (p : ℕ × ℕ). ltb p.0 (16 ^ p.1)) (zip vs ns) ≡ fit_digits ns vs
+unfolding fit_digits
+fit_zip [] [] e = refl
+fit_zip [] (v ∷ vs) e = absurd (omega arith)
+fit_zip (n ∷ ns) [] e = absurd (omega arith)
+fit_zip (n ∷ ns) (v ∷ vs) e = rw (fit_zip ns vs (omega arith))
 
 -- VALUES PUT, the first i of them, behind the line's number
 length_put : (ns vs z : List ℕ) (i : ℕ) → i ≤ length ns → length vs ≡ length ns → short_digits ≤ length z →
@@ -101,27 +86,6 @@ values_all {ns} {vs} {before} {b} {i} f h e l =
     rw t (ap (λ (k : ℕ). short_digits + k) (sym (length_numerals ns vs e))) in
     rw (t, u) at (f.filled.stand ∙ ap (λ (k : ℕ). (take short_digits before ++ numerals (take i ns) (take i vs)) ++ drop k before) (n ∙ m))
 
--- BYTES COPIED, the first i of them
-pub record Copied (bytes : List ℕ) (at : ℕ) (before buffer : List ℕ) (i : ℕ) : Type 0 where
-  pub within : i ≤ length bytes
-  pub long : length buffer ≡ length before
-  pub stands : buffer ≡ paste before at bytes i
-
-pub copied_none : (bytes : List ℕ) (at : ℕ) (z : List ℕ) → Copied bytes at z z 0
-copied_none bytes a z = record { within = omega arith; long = refl; stands = paste-zero z a bytes }
-
-pub copied_more : {bytes : List ℕ} {at : ℕ} {z b : List ℕ} {i : ℕ} → Copied bytes at z b i → i < length bytes → at + length bytes ≤ length z →
-    Copied bytes at z (set b (at + i) (get_or bytes i 0)) (i + 1)
-copied_more {bytes} {at = a} {z} {b} {i} p h l =
-    record {
-      within = omega arith;
-      long = length-set b (a + i) (get_or bytes i 0) ∙ p.long;
-      stands = ap (λ (xs : List ℕ). set xs (a + i) (get_or bytes i 0)) p.stands ∙ paste-suc z a bytes i 0 (omega arith) h ∙ rw add-one;
-    }
-
-pub copied_whole : {bytes : List ℕ} {at : ℕ} {z b : List ℕ} {i : ℕ} → Copied bytes at z b i → length bytes ≤ i → b ≡ put at bytes z
-copied_whole {bytes} {i = i} p h = let n : i ≡ length bytes = omega (arith, p.within) in p.stands ∙ rw (n, take-length)
-
 -- THE COMMAND'S FORM AND VALUES as the code has them: what stands, and its front
 module _ {c : rules.Command} {k : ℕ} {r : Form} {vs : List ℕ} (number : k ≡ line_number c) (form : HasForm (form_numbered k) r) (values : HasValues c vs) where
   form_here : HasForm (form_of c) r
@@ -132,38 +96,38 @@ module _ {c : rules.Command} {k : ℕ} {r : Form} {vs : List ℕ} (number : k �
 
   values_here : values_in r vs ≡ values_of c
   values_here =
-      let n : r.count ≡ length (values_of c) =
-      sym (length-take-le r.count r.widths (omega (arith, form.small.few, form.small.room))) ∙ ap length form_here.widths ∙ sym (as_many c) in
+      let n : length r.widths.now ≡ length (values_of c) =
+      ap length form_here.widths ∙ sym (as_many c) in
       ap (λ (m : ℕ). take m vs) n ∙ values.values
 
   pub stands_here : (ps : List ℕ) → can_stand r vs ps ≡ stands c ps
   unfolding stands
-  stands_here ps = rw (form_here.widths, values_here, form_here.payload)
+  stands_here ps = rw (values_here, form_here.widths, form_here.payload)
 
-  pub front_put : {z b b' : List ℕ} → r.front ≤ length z → Puts k short_digits 0 z b → b' ≡ put short_digits (numerals (widths_in r) (values_in r vs)) b →
+  pub front_put : {z b b' : List ℕ} → r.front ≤ length z → Puts k short_digits 0 z b → b' ≡ put short_digits (numerals (r.widths.now) (values_in r vs)) b →
       Filled (front c) z b'
   unfolding front
   front_put {z} h p e =
       let q = front_count form in
-      let ns = numerals (widths_in r) (values_in r vs) in
-      let l = length_numerals (widths_in r) (values_in r vs) (ap length values_here ∙ as_many c ∙ sym (ap length form_here.widths)) in
+      let ns = numerals (r.widths.now) (values_in r vs) in
+      let l = length_numerals (r.widths.now) (values_in r vs) (ap length values_here ∙ as_many c ∙ sym (ap length form_here.widths)) in
       let one = filled_number short_digits (line_number c) (filled_none z) p (number, refl, refl, omega arith) in
       let two = filled_put short_digits ns one (length_digits short_digits (line_number c)) (omega arith) e in
       rw (← form_here.widths, ← values_here) two
 
 -- THE ANSWERS
 module _ (c : rules.Command) (ps z : List ℕ) where
-  pub write_unfit : {n : ℕ} → stands c ps ≡ false → n ≡ 1 → Writes c ps z z (Refused n)
-  write_unfit e q = let w = write_refused c ps z 0 (unfit c ps (length z) e) in record { reply = rw q (sym w.0); left = sym w.1 }
+  pub write_unfit : stands c ps ≡ false → Writes c ps z z (Err BadLine)
+  write_unfit e = let w = write_refused c ps z 0 (unfit c ps (length z) e) in record { reply = sym w.0; left = sym w.1 }
 
-  pub write_full : {n : ℕ} → stands c ps ≡ true → length z ≤ front_size (form_of c) + length ps → n ≡ 12 → Writes c ps z z (Refused n)
-  write_full e h q =
+  pub write_full : stands c ps ≡ true → length z ≤ front_size (form_of c) + length ps → Writes c ps z z (Err NoRoom)
+  write_full e h =
       let w = write_refused c ps z 11 (no_room c ps (length z) e (omega (arith, length_text c ps e))) in
-      record { reply = rw q (sym w.0); left = sym w.1 }
+      record { reply = sym w.0; left = sym w.1 }
 
   -- the front stands in b, the payload behind it in b'; then the 0A is put
-  pub write_on : {b b' : List ℕ} {f : ℕ} {r : Written} → stands c ps ≡ true → f ≡ front_size (form_of c) → f + length ps < length z →
-      Filled (front c) z b → b' ≡ put f ps b → r ≡ Length (f + length ps + 1) → Writes c ps z (set b' (f + length ps) line_end) r
+  pub write_on : {b b' : List ℕ} {f : ℕ} {r : Result ℕ Refusal} → stands c ps ≡ true → f ≡ front_size (form_of c) → f + length ps < length z →
+      Filled (front c) z b → b' ≡ put f ps b → r ≡ Ok (f + length ps + 1) → Writes c ps z (set b' (f + length ps) line_end) r
   write_on {b} {f = f} e g h q p o =
       let k = length_front c (from_stands c ps e).fit in
       let l : length (front c) ≡ f = k ∙ sym g in
@@ -178,8 +142,8 @@ module _ (c : rules.Command) (ps z : List ℕ) where
       }
 
 -- the number or length that the answer gives forgets nothing
-pub reply_once : (x y : Written) → of_written x ≡ of_written y → x ≡ y
-reply_once (Length m) (Length n) e = cc
-reply_once (Length m) (Refused n) e = let z : ◌≡◌ {A = ℕ} 0 1 = cc in absurd (omega arith)
-reply_once (Refused m) (Length n) e = let z : ◌≡◌ {A = ℕ} 0 1 = cc in absurd (omega arith)
-reply_once (Refused m) (Refused n) e = cc
+pub reply_once : (x y : Result ℕ Refusal) → of_written x ≡ of_written y → x ≡ y
+reply_once (Ok m) (Ok n) e = cc
+reply_once (Ok m) (Err n) e = cc
+reply_once (Err m) (Ok n) e = cc
+reply_once (Err m) (Err n) e = ap Err (refusal_read m n cc)

@@ -1,23 +1,14 @@
--- `digits::digits_only` meets its contract: the bytes before i are digits; what is left of the length falls.
-use mathlib.Core.Path.{refl, sym, ◌∙◌}
+-- `digits::digits_only` meets its contract: the closure's test is the definition's.
+use mathlib.Core.Path.{◌∙◌}
 use borrow.Author.Rules.{rules}
-use Rattle.digits.proofs.Spelling.{all_stop, all_go, all_end}
+use borrow.Author.Tests.{tests}
+use Rattle.std.proofs.lemmas.Iterator.{YieldsList-from_slice}
+use Rattle.std.proofs.lemmas.Iterator.Search.{all_from_yields_List}
+use Rattle.rules.specs.Lines.{is_digit}
+use Rattle.digits.proofs.Spelling.{valued, all_listed}
 use Rattle.digits.proofs.digits_only.Goals as goal
 
-pub loop-i-init : goal.loop-i-init
-loop-i-init c = refl
-
-pub returns-then-value-eq-NO_DIGIT : goal.returns-then-value-eq-NO_DIGIT
-returns-then-value-eq-NO_DIGIT c =
-    let l = c.loop-i in
-    let bytes = c.args.bytes.now in
-    sym (l.invariant ∙ all_stop bytes l.i c.value.result (search rules) c.value.ensures c.if-value-eq-NO_DIGIT.true)
-
-pub loop-i-preserved : goal.loop-i-preserved
-loop-i-preserved c =
-    let l = c.loop-i in
-    let bytes = c.args.bytes.now in
-    l.invariant ∙ all_go bytes l.i c.value.result (search rules) c.value.ensures c.if-value-eq-NO_DIGIT.false
-
 pub returns : goal.returns
-returns c = sym (c.loop-i.invariant ∙ all_end c.args.bytes.now c.loop-i.i (search rules))
+returns c =
+    all_from_yields_List is_digit _ _ _ c.all.ensures.ran (YieldsList-from_slice c.args.bytes.now cc) (λ x b q k. search (rules, tests, valued))
+    ∙ all_listed c.args.bytes.now

@@ -1,14 +1,18 @@
--- `digits::fits` meets its contract: what is left of the number fits the digits left; these fall.
-use mathlib.Core.Path.{refl, sym, ◌∙◌}
+-- `digits::fits` meets its contract: eight digits hold each number, fewer those below their power of 16.
+use mathlib.Core.Path.{◌≡◌}
+use Prim.Native.Nat.{ℕ, ◌^◌, ◌≤◌, ◌<◌}
+use native.Mathlib.Omega.{arith}
+use native.Mathlib.Nat.{pow-suc, pow-le-pow_right}
+use lib.Dec.{ltb, leb}
 use borrow.Author.Rules.{rules}
-use Rattle.digits.proofs.Room.{fits_on, fits_end}
+use borrow.Author.Tests.{lt-ltb, le-leb}
 use Rattle.digits.proofs.fits.Goals as goal
 
-pub loop-left-init : goal.loop-left-init
-loop-left-init c = refl
+pub pow-requires : goal.pow-requires
+pow-requires c = omega (arith, pow-suc 16 c.args.count, pow-le-pow_right {n = 16} (omega arith) c.if-count-ge-WIDE_DIGITS.false)
 
-pub loop-left-preserved : goal.loop-left-preserved
-loop-left-preserved c = sym (fits_on c.loop-left.rest c.loop-left.left (search rules)) ∙ c.loop-left.invariant
+eight_hold : (v n : ℕ) → v < 4294967296 → 8 ≤ n → leb 8 n ≡ ltb v (16 ^ n)
+eight_hold v n f h = rw (le-leb 8 n h, lt-ltb v (16 ^ n) (omega (arith, f, pow-le-pow_right {n = 16} (omega arith) h)))
 
-pub returns : goal.returns
-returns c = sym (fits_end c.loop-left.rest c.loop-left.left (search rules)) ∙ c.loop-left.invariant
+pub returns-then-count-ge-WIDE_DIGITS : goal.returns-then-count-ge-WIDE_DIGITS
+returns-then-count-ge-WIDE_DIGITS c = eight_hold c.args.value c.args.count (search rules) c.if-count-ge-WIDE_DIGITS.true

@@ -1,11 +1,6 @@
--- `digits::number` meets its contract: the digits before i are in the sum; what is left of the length falls.
-use Prim.Native.Nat.{◌-◌}
-use lib.ListN.{length}
+-- `digits::number` meets its contract: the digits before b's place are in the sum.
 use Rattle.digits.proofs.Spelling.{NumberRead}
 use Rattle.digits.proofs.number.Given as goal
 
-abbrev pub invariant-loop-i : goal.invariant-loop-i
-invariant-loop-i l = NumberRead l.digits l.sum l.i
-
-abbrev pub decreases-loop-i : goal.decreases-loop-i
-decreases-loop-i l = length l.digits - l.i
+abbrev pub invariant-loop-b : goal.invariant-loop-b
+invariant-loop-b l = NumberRead l.digits l.sum l.b-index

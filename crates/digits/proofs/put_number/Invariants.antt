@@ -1,9 +1,6 @@
--- `digits::put_number` meets its contract: the digits from i on stand, and the rest is for those before; i falls.
+-- `digits::put_number` meets its contract: the digits from i on stand, and the rest is for those before.
 use Rattle.digits.proofs.Spelling.{NumberPut}
 use Rattle.digits.proofs.put_number.Given as goal
 
 abbrev pub invariant-loop-i : goal.invariant-loop-i
 invariant-loop-i l = NumberPut l.value l.count l.at l.initial.buffer l.buffer l.rest l.i
-
-abbrev pub decreases-loop-i : goal.decreases-loop-i
-decreases-loop-i l = l.i

@@ -1,10 +1,8 @@
 -- `flagged::first_planned` meets its contract: the loop is `Choosing`.
-use Prim.Native.Nat.{◌-◌}
+use Prim.Native.Nat.{◌+◌}
+use lib.ListN.{length}
 use Rattle.flagged.proofs.PlannedLaws.{Choosing}
 use Rattle.flagged.proofs.first_planned.Given as goal
 
-abbrev pub invariant-loop-i : goal.invariant-loop-i
-invariant-loop-i l = Choosing l.keys l.flags l.many l.due l.i l.first
-
-abbrev pub decreases-loop-i : goal.decreases-loop-i
-decreases-loop-i l = l.many - l.i
+abbrev pub invariant-loop-key : goal.invariant-loop-key
+invariant-loop-key l = Choosing l.keys l.flags (length l.keys) l.due (l.place + 1 + l.key-index) l.first

@@ -17,12 +17,12 @@ returns-in_default c =
 
 pub overflow_add-front : goal.overflow_add-front
 overflow_add-front c =
-    let front_here = c.form_of-form.ensures.front ∙ ap (λ k. front_size (form_numbered k)) c.line_number.ensures in
+    let front_here = c.form_of-front.ensures.front ∙ ap (λ k. front_size (form_numbered k)) c.line_number.ensures in
     omega (arith, front_here, front_small (of_command c.in-Some.command))
 
 pub returns-then-front-n : goal.returns-then-front-n
 returns-then-front-n c =
-    let front_here = c.form_of-form.ensures.front ∙ ap (λ k. front_size (form_numbered k)) c.line_number.ensures in
+    let front_here = c.form_of-front.ensures.front ∙ ap (λ k. front_size (form_numbered k)) c.line_number.ensures in
     record {
       payload_placed =
           placed_behind c.args.line.now c.read_command.ensures.result_value c.in-Some.is front_here c.if-front-n.true refl refl;
@@ -31,7 +31,7 @@ returns-then-front-n c =
 
 pub returns-else-front-n : goal.returns-else-front-n
 returns-else-front-n c =
-    let front_here = c.form_of-form.ensures.front ∙ ap (λ k. front_size (form_numbered k)) c.line_number.ensures in
+    let front_here = c.form_of-front.ensures.front ∙ ap (λ k. front_size (form_numbered k)) c.line_number.ensures in
     record {
       payload_placed =
           placed_bare c.args.line.now c.read_command.ensures.result_value c.in-Some.is front_here c.if-front-n.false refl refl;

@@ -32,7 +32,7 @@ pub fn mark_of(slot: Slot, table: &[u8]) -> Result<Weight, Refusal>
 
 // The same with so many places for counts.
 fn mark_by<const PLACES: usize>(slot: Slot, table: &[u8]) -> Result<Weight, Refusal>
-    requires { ScanAsks table.now (replicate PLACES 0) }
+    requires { ScanAsks table.now (replicate PLACES 0) × (PLACES ≤ 1026) }
     ensures { Says (asking (marking slot.0)) (of_marked result) table.now table.now }
 {
     let mut counts = [0u32; PLACES];
@@ -64,7 +64,7 @@ fn mark_before_free(slot: Slot, sound: &Sound, counts: &mut [u32], reach: Reach)
         return mark_every(sound, counts, reach, slot);
     }
     let current = sound.round.slot;
-    ask_plan(sound, counts, reach, |keys, flags, planned| {
-        mark_near(&keys[..planned.many], flags, current, slot)
+    ask_plan(sound, counts, reach, |keys, flags, _| {
+        mark_near(keys, flags, current, slot)
     })
 }

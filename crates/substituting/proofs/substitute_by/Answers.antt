@@ -32,10 +32,28 @@ returns-in_err-may_send g c =
     )
 
 pub returns-in_default : goal.returns-in_default
-returns-in_default g c = ?
+returns-in_default g c =
+    let t = c.args.table.now in
+    let k = c.in_ok-round.ensures in
+    (substitute_nowhere c.args.ticket.0 t k.0 (slot_left_by t c.in_ok-round.round k.0 k.1 ∙ sym c.in_ok-may_send.ensures) c.in_default.ensures, refl)
 
 pub substitute_row-requires : goal.substitute_row-requires
-substitute_row-requires g c = ?
+substitute_row-requires g c =
+    let t = c.args.table.now in
+    let h = c.in_ok-round.round in
+    let k = c.in_ok-round.ensures in
+    let a = send_accepted _ _ (sym c.in_ok-may_send.ensures) in
+    let f = c.in-Some.ensures in
+    (k.2 a, omega (arith, f.0, (known t h (ready t h k.0 k.1 a)).used))
 
 pub returns : goal.returns
-returns g c = ?
+returns g c =
+    let t = c.args.table.now in
+    let h = c.in_ok-round.round in
+    let k = c.in_ok-round.ensures in
+    let a = send_accepted _ _ (sym c.in_ok-may_send.ensures) in
+    let f = c.in-Some.ensures in (
+      c.substitute_row.ensures
+          ∙ substitute_found c.args.ticket.0 t k.0 (slot_left_by t h k.0 k.1 ∙ sym c.in_ok-may_send.ensures) (known t h (ready t h k.0 k.1 a)).fine _ f,
+      refl,
+    )

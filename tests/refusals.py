@@ -80,6 +80,13 @@ def wrong_in_second(text, source):
     yield from differ("the condition of", told, source.conditions)
 
 
+def wrong_in_variants(text, source):
+    """Of the library's own enum: a variant for each number, by its name in C where it has one."""
+    variants = re.findall(r"(?:Refusal::|refusal_number )(\w+) =>? (\d+)", text)
+    told = {int(n): "LIRVEDD" + re.sub("(?=[A-Z])", "_", name).upper() for name, n in variants}
+    yield from differ("the name of", told, {n: source.names.get(n, told.get(n, "a variant")) for n in source.conditions})
+
+
 def clauses(text):
     """(name, head, body) of each clause of the rules' definitions."""
     joined = re.sub(r"\n +", " ", re.sub(r"--.*", "", text))
@@ -120,6 +127,8 @@ PLACES = {
     "docs/FIRMWARE.md": wrong_in_firmware,
     "docs/LINES.md": wrong_in_lines,
     "tests/rust/src/refusal.rs": wrong_in_second,
+    "crates/refusals/src/lib.rt": wrong_in_variants,
+    "crates/refusals/specs/Refusals.antt": wrong_in_variants,
     "crates/rules/specs/Conditions.antt": wrong_in_rules(CONDITIONS, []),
     "crates/rules/specs/Calls.antt": wrong_in_rules(TESTS, [2, 3]),
 }
@@ -168,6 +177,10 @@ FAULTS = [
     ("tests/rust/src/refusal.rs", "    /// Every row is in use.\n    Full = 9,\n", ""),
     ("tests/rust/src/refusal.rs", "    /// The class is above 3.\n    Class = 14,\n", ""),
     ("tests/rust/src/refusal.rs", "The ticket is in no row.", "The ticket's row is not in the plan."),
+    ("crates/refusals/src/lib.rt", "Refusal::RoundOver => 5", "Refusal::RoundOver => 21"),
+    ("crates/refusals/src/lib.rt", "Refusal::BadWeight => 6", "Refusal::Weightless => 6"),
+    ("crates/refusals/specs/Refusals.antt", "refusal_number NoRoom = 12\n", ""),
+    ("crates/refusals/specs/Refusals.antt", "refusal_number Sealed = 13\n", "refusal_number Sealed = 14\n"),
     ("crates/rules/specs/Conditions.antt", "gives 4", "gives 5"),
     ("crates/rules/specs/Conditions.antt", "(Unsound t gives 3) ∷ cs", "cs"),
     ("crates/rules/specs/Conditions.antt", "(NoRow k t gives 10) ∷ (NotPlanned k t gives 11)",

@@ -5,12 +5,13 @@ ghost use Rattle.std.specs.Prelude.{◌≡◌, false, ◌+◌, ◌*◌, ◌≤�
 ghost use Rattle.rules.specs.Lines.{reply_ratio, reply_room};
 ghost use Rattle.answering.specs.Answering.{Answers};
 
-use forms::Reading;
-use lines::{LineEnd, line_end, read_command};
-use replying::write_refusal_in_room;
+use lines::{line_end, read_command};
+use refusals::Refusal;
+use saying::say_refusal;
 use turns::take_turn_in_room;
 
 // How far the lines of a buffer are answered: the bytes read, the bytes of replies, and whether refusal 1 was among them.
+// Kept: both counts mean the same whether it stopped or not, so variants would only repeat them.
 #[derive(Clone, Copy)]
 pub struct Progress {
     pub read: usize,
@@ -26,13 +27,11 @@ pub fn answer_lines_in_room(input: &[u8], table: &mut [u8], out: &mut [u8]) -> P
 {
     let mut read = 0;
     let mut wrote = 0;
-    loop {
-        let LineEnd::At(end) = line_end(input, read) else {
-            return so_far(read, wrote);
-        };
+    // Kept: what is read and what is written move at their own pace, and the last line may not be whole, so no range counts them.
+    while let Some(end) = line_end(input, read) {
         let next = end + 1;
-        let Reading::Is(command) = read_command(&input[read..next]) else {
-            wrote += write_refusal_in_room(1, &mut out[wrote..]);
+        let Some(command) = read_command(&input[read..next]) else {
+            wrote += say_refusal(Refusal::BadLine, &mut out[wrote..]);
             return Progress {
                 read: next,
                 wrote,
@@ -42,6 +41,7 @@ pub fn answer_lines_in_room(input: &[u8], table: &mut [u8], out: &mut [u8]) -> P
         wrote += take_turn_in_room(command, table, &mut out[wrote..]);
         read = next;
     }
+    so_far(read, wrote)
 }
 
 // Where refusal 1 was not among the replies.

@@ -5,8 +5,10 @@ use mathlib.Core.List.{List}
 use Prim.Native.Nat.{ℕ, suc, ◌+◌, ◌*◌, ◌-◌, ◌≤◌, ◌<◌}
 use native.Mathlib.Omega.{arith}
 use native.Mathlib.Numerals.{add-one}
-use lib.ListN.{get_or}
-use Rattle.theory.specs.Tests.{eqb?, ltb?}
+use lib.ListN.{length, get_or, take}
+use Rattle.std.proofs.Common.{get_or-take}
+use Rattle.std.proofs.lemmas.List.{length-take-le}
+use Rattle.theory.specs.Tests.{ltb?}
 use Rattle.buckets.specs.Stretch.{upto, Fits, Full, Begins, Stretches}
 
 pub full_fits : (cs : List ℕ) (free b : ℕ) → Full cs free → b < free → Fits cs b
@@ -15,52 +17,27 @@ full_fits cs free b f h =
 
 -- SUMMING UP the buckets before b
 module _ (cs : List ℕ) (b s : ℕ) (f : Fits cs b) where
-  pub sum_next : s < b → upto s cs + get_or cs s 0 ≤ 2048 * b
-  sum_next h = omega (arith, f.fits (suc s) h, h)
+  pub first_long : length (take b cs) ≡ b
+  first_long = length-take-le b cs (omega (arith, f.enough))
 
-  pub sum_end : s ≤ b → b ≤ s → (upto s cs ≡ upto b cs) × (upto b cs ≤ 2048 * b)
-  sum_end h k = let e : s ≡ b = omega (arith, h, k) in (ap (λ (t : ℕ). upto t cs) e, f.fits b (omega arith))
+  module _ (h : s < length (take b cs)) where
+    here : get_or (take b cs) s 0 ≡ get_or cs s 0
+    here = let l : s < b = omega (arith, h, first_long) in rw get_or-take
+
+    pub sum_here : upto s cs + get_or (take b cs) s 0 ≤ 2048 * b
+    sum_here = omega (arith, f.fits (suc s) (omega (arith, h, first_long)), h, first_long, here)
+
+    pub sum_more : (sum : ℕ) → sum ≡ upto s cs → sum + get_or (take b cs) s 0 ≡ upto (s + 1) cs
+    sum_more sum e = rw (add-one s) (omega (arith, e, here))
+
+  pub sum_end : s ≤ length (take b cs) → length (take b cs) ≤ s → (upto s cs ≡ upto b cs) × (upto b cs ≤ 2048 * b)
+  sum_end h k = let e : s ≡ b = omega (arith, h, k, first_long) in (ap (λ (t : ℕ). upto t cs) e, f.fits b (omega arith))
 
 -- BACK: the rows in buckets before a lack so much to fill them; behind it, up to b, no segment begins
 pub record Back (cs : List ℕ) (b lack a : ℕ) : Type 0 where
   pub from : a ≤ b
   pub level : lack + upto a cs ≡ 2048 * a
   pub none : (v : ℕ) → a < v → v ≤ b → upto v cs ≢ 2048 * v
-
-pub back_start : (cs : List ℕ) (b lack : ℕ) → lack + upto b cs ≡ 2048 * b → Back cs b lack b
-back_start cs b lack e = record { from = omega arith; level = e; none = λ v h k. absurd (omega (arith, h, k)) }
-
-module _ (cs : List ℕ) (b lack a : ℕ) (f : Fits cs b) (w : Back cs b lack a) where
-  -- before bucket 0 nothing lacks
-  pub back_left : lack ≢ 0 → 1 ≤ a
-  back_left n = elim (eqb? a 0) [
-    | inl y ↦ absurd (n (omega (arith, w.level, y.1)))
-    | inr y ↦ omega (arith, y.1)
-  ]
-
-  module _ (n : lack ≢ 0) where
-    pub back_fits : (2048 ≤ lack + get_or cs (a - 1) 0) × (lack + get_or cs (a - 1) 0 ≤ 2048 * b)
-    back_fits =
-        let d : suc (a - 1) ≡ a = omega (arith, back_left n) in
-        let e = ap (λ (t : ℕ). upto t cs) d in
-        (omega (arith, f.fits (a - 1) (omega (arith, w.from)), w.level, e, d), omega (arith, w.level, w.from, e, d))
-
-    pub back_step : Back cs b (lack + get_or cs (a - 1) 0 - 2048) (a - 1)
-    back_step =
-        let d : suc (a - 1) ≡ a = omega (arith, back_left n) in
-        let e = ap (λ (t : ℕ). upto t cs) d in
-        record {
-          from = omega (arith, w.from);
-          level = omega (arith, back_fits.0, w.level, e, d);
-          none = λ v i j. elim (ltb? a v) [
-            | inl y ↦ w.none v y.1 j
-            | inr y ↦ λ q. let o : v ≡ a = omega (arith, y.1, i) in
-                n (omega (arith, w.level, q, o, ap (λ (t : ℕ). upto t cs) o))
-          ];
-        }
-
-  pub back_end : lack ≡ 0 → Begins cs b a
-  back_end e = record { from = w.from; edge = omega (arith, w.level, e); none = w.none }
 
 -- ON: the rows in buckets up to z lack so much to fill them; from b on, before z, no segment ends
 pub record On (cs : List ℕ) (free b lack z : ℕ) : Type 0 where

@@ -15,10 +15,8 @@ fn lack_before(counts: &[u32], bucket: usize) -> u32
     ensures { result + upto bucket counts.now ≡ 2048 * bucket }
 {
     let mut sum: u32 = 0;
-    let mut s: usize = 0;
-    while s < bucket {
-        sum += counts[s];
-        s += 1;
+    for count in &counts[..bucket] {
+        sum += count;
     }
     2048 * bucket as u32 - sum
 }
@@ -30,6 +28,7 @@ fn first_of(counts: &[u32], lack: u32, bucket: usize) -> usize
 {
     let mut first = bucket;
     let mut before = lack;
+    // Kept: it goes on until nothing lacks, not over a known range.
     while before != 0 {
         first -= 1;
         before = before + counts[first] - 2048;
@@ -46,6 +45,7 @@ pub fn stretch_of(counts: &[u32], free: usize, bucket: usize) -> Stretch
     let first = first_of(counts, before, bucket);
     let mut lack = before + 2048 - counts[bucket];
     let mut last = bucket;
+    // Kept: it goes on until nothing lacks, not over a known range.
     while lack != 0 {
         last += 1;
         lack = lack + 2048 - counts[last];

@@ -1,5 +1,5 @@
 -- Rows searched for the next one that leaves.
-use mathlib.Core.Path.{◌≡◌, sym, ap, ◌∙◌}
+use mathlib.Core.Path.{◌≡◌, sym, ap, ◌∙◌, subst}
 use mathlib.Core.Logic.{inl, inr}
 use mathlib.Core.Bool.{cond}
 use mathlib.Core.List.{List}
@@ -8,7 +8,6 @@ use native.Mathlib.Omega.{arith}
 use lib.Dec.{leb}
 use lib.ListN.{length}
 use Rattle.rules.specs.Conditions.{row_at, due_in}
-use Rattle.rules.specs.Table.{field}
 use Rattle.theory.specs.Tests.{leb?, ltb?, eqb?}
 use Rattle.closing.specs.Close.{NoneDue, NextDue, Search, NextLeaving}
 
@@ -31,8 +30,10 @@ module _ {s f e : ℕ} {t : List ℕ} {i : ℕ} (q : NoneDue s f e t i) where
   pub next_found : due_in t i ≡ s → NextDue s f e t i
   next_found d = record { before = q; due = λ _. d }
 
-  pub next_none : e ≤ i → NextDue s f e t i
-  next_none h = record { before = q; due = λ k. absurd (omega (arith, h, k)) }
+  pub next_none : e ≤ i → NextDue s f e t e
+  next_none h =
+      let p : i ≡ e = omega (arith, q.by, h) in
+      subst (λ (j : ℕ). NextDue s f e t j) p record { before = q; due = λ k. absurd (omega (arith, h, k)) }
 
 -- THE END of a search: no row before it goes, and it is the row that does, or past the last
 record Ends (g f u e : ℕ) : Type 0 where

@@ -7,7 +7,7 @@ ghost use Rattle.rules.specs.Table.{table_refusal};
 ghost use Rattle.head.specs.Head.{HeadOf};
 ghost use Rattle.closing.specs.Close.{DueNow, DueBeside, gone_ticket, NextDue, Search, NextLeaving, LeftBehind, ClosedRows, closed_up};
 
-use numbers::write2;
+use numbers::write;
 use row::entry::due_in;
 use row::row_at;
 use runs::move_run;
@@ -19,14 +19,12 @@ fn next_due(table: &[u8], from: usize, to: usize, slot: Slot) -> usize
     requires { (from ≤ to) × (to ≤ 1024) × (row_at to ≤ length table.now) }
     ensures { NextDue slot.0 from to table.now result }
 {
-    let mut i = from;
-    while i < to {
+    for i in from..to {
         if due_in(table, i) == slot.0 {
             return i;
         }
-        i += 1;
     }
-    i
+    to
 }
 
 // Where a search from a row on ends: at the row that goes, if it is not behind, or past the last.
@@ -59,6 +57,7 @@ fn next_leaving(
 }
 
 // How many rows due now there can be beside the one that goes: this one need not be searched for.
+// Kept: the table changes under what calls this, so a struct that holds it with these facts would break at the first store.
 fn left_beside(table: &[u8], round: Round, expiring: usize, gone: usize) -> usize
     requires { (table_refusal table.now ≡ 0) × HeadOf table.now round × (gone ≤ round.used) × DueNow table.now expiring }
     ensures { DueBeside table.now gone result }
@@ -91,6 +90,7 @@ fn close_rows(table: &mut [u8], round: Round, expiring: usize, gone: usize) -> u
     let mut left = left_beside(table, round, expiring, gone);
     let mut i = next_leaving(table, 0, used, round.slot, left, gone);
     let mut kept = i;
+    // Kept: the walk goes from each row that leaves to the next one, so no range counts it.
     while i < used {
         left = left_behind(i, gone, left);
         let from = i + 1;
@@ -103,6 +103,7 @@ fn close_rows(table: &mut [u8], round: Round, expiring: usize, gone: usize) -> u
 }
 
 // The slot moves on: rows due in it leave, at most expiring, and the row at gone; used is no row's place.
+// Kept: a search ends at gone or at used alike, so an Option of gone would be turned into this number first.
 pub fn close_up(table: &mut [u8], round: Round, expiring: usize, gone: usize)
     requires { (table_refusal table.old ≡ 0) × HeadOf table.old round × (gone ≤ round.used) × DueNow table.old expiring }
     ensures { table.new ≡ closed_up (gone_ticket table.old gone) table.old }
@@ -111,6 +112,6 @@ pub fn close_up(table: &mut [u8], round: Round, expiring: usize, gone: usize)
     let end = row_at(round.used);
     let from = row_at(kept);
     clear(&mut table[..end], from);
-    write2(table, Round::SLOT_AT, round.slot.0 + 1);
-    write2(table, Round::USED_AT, kept as u32);
+    write::<2>(table, Round::SLOT_AT, round.slot.0 + 1);
+    write::<2>(table, Round::USED_AT, kept as u32);
 }

@@ -1,7 +1,7 @@
 // Sending a slot where rows are left out of the plan: the plan, then its first or its segments, and what is written.
 #![tactic(auto)]
 
-ghost use Rattle.std.specs.Prelude.{◌≢◌, ◌≤◌};
+ghost use Rattle.std.specs.Prelude.{◌≢◌, ◌+◌, ◌≤◌};
 ghost use Rattle.rules.specs.Table.{round_in};
 ghost use Rattle.round.specs.Rows.{Ready};
 ghost use Rattle.round.specs.Buckets.{Counted};
@@ -13,10 +13,11 @@ ghost use Rattle.crowded.specs.Crowded.{Crowded, Led};
 use buckets::Reach;
 use flagged::first_planned;
 use plan::{Planned, plan_of};
+use replies::Step;
 use segments::segments_of;
 use sorts::Round;
 use step::send_planned;
-use went::{Went, send_row};
+use went::send_row;
 
 // Sealed: the plan's first. Else by its segments: counts and heap have served once the plan is made, and take their ends and tops.
 fn send_led(
@@ -30,13 +31,13 @@ fn send_led(
     reach: Reach,
     planned: Planned,
     expiring: usize,
-) -> Went
+) -> Step
     requires { Led table.old counts.old keys.now flags.now heap.old lows.old round reach planned expiring }
     ensures { SentSays table.old table.new result }
 {
     if round.sealed == 1 {
         let row = first_planned(keys, flags);
-        return send_row(table, round, row, false, expiring);
+        return Step::Ordinary(send_row(table, round, row, expiring));
     }
     let lead = segments_of(keys, flags, round.slot, reach.free, counts, heap, lows);
     send_planned(
@@ -62,7 +63,7 @@ fn send_crowded(
     round: Round,
     reach: Reach,
     expiring: usize,
-) -> Went
+) -> Step
     requires { Crowded table.old counts.old keys.old flags.old heap.old lows.old round reach expiring }
     ensures { SentSays table.old table.new result }
 {
@@ -82,58 +83,27 @@ fn send_crowded(
     )
 }
 
-// The same in small arrays.
-pub fn send_few(
+// The same with arrays of its own.
+pub fn send_in_arrays<const PLACES: usize>(
     table: &mut [u8],
     counts: &mut [u32],
     round: Round,
     reach: Reach,
     expiring: usize,
-) -> Went
+) -> Step
     requires { Ready table.old round × Counted (round_in table.old) counts.old × ReachSays counts.old (head_top round) reach
-        × (reach.over ≢ 0) × DueNow table.old expiring × (round.used ≤ 32) }
+        × (reach.over ≢ 0) × DueNow table.old expiring × (round.used + 2 ≤ PLACES) × (PLACES ≤ 1026) }
     ensures { SentSays table.old table.new result }
 {
-    let used = round.used;
-    let mut keys = [0u64; Round::FEW_PLACES];
-    let mut flags = [1u8; Round::FEW];
-    let mut heap = [0u64; Round::FEW_PLACES];
-    let mut lows = [0u32; Round::FEW_PLACES];
+    let mut keys = [0u64; PLACES];
+    let mut flags = [1u8; PLACES];
+    let mut heap = [0u64; PLACES];
+    let mut lows = [0u32; PLACES];
     send_crowded(
         table,
         counts,
         &mut keys,
-        &mut flags[..used],
-        &mut heap,
-        &mut lows,
-        round,
-        reach,
-        expiring,
-    )
-}
-
-// The same in large ones.
-pub fn send_many(
-    table: &mut [u8],
-    counts: &mut [u32],
-    round: Round,
-    reach: Reach,
-    expiring: usize,
-) -> Went
-    requires { Ready table.old round × Counted (round_in table.old) counts.old × ReachSays counts.old (head_top round) reach
-        × (reach.over ≢ 0) × DueNow table.old expiring × (round.used ≤ 1024) }
-    ensures { SentSays table.old table.new result }
-{
-    let used = round.used;
-    let mut keys = [0u64; Round::PLACES];
-    let mut flags = [1u8; Round::ROWS];
-    let mut heap = [0u64; Round::PLACES];
-    let mut lows = [0u32; Round::PLACES];
-    send_crowded(
-        table,
-        counts,
-        &mut keys,
-        &mut flags[..used],
+        &mut flags[..round.used],
         &mut heap,
         &mut lows,
         round,

@@ -1,20 +1,20 @@
 -- Digits, byte by byte: what a digit's value tells, numbers as a loop reads and writes them.
-use mathlib.Core.Path.{◌≡◌, refl, sym, ap, ◌∙◌}
+use mathlib.Core.Path.{◌≡◌, refl, sym, ◌∙◌}
 use mathlib.Core.Logic.{inl, inr}
 use mathlib.Core.Bool.{true, false, cond}
-use mathlib.Core.List.{List, [], ◌∷◌, ◌++◌, append_assoc, append-nil}
+use mathlib.Core.List.{List, [], ◌∷◌, ◌++◌, append-nil}
 use Prim.Native.Nat.{ℕ, suc, ◌+◌, ◌*◌, ◌-◌, ◌/◌, ◌%◌, ◌^◌, ◌≤◌, ◌<◌}
 use native.Mathlib.Omega.{arith}
 use native.Mathlib.Nat.{pow-suc, pow-le-pow_right}
 use native.Mathlib.Numerals.{add-one}
-use lib.ListN.{length, get_or, set, take, drop, drop_of_length-le, length-set, take-append-drop}
-use lib.Seq.{drop-cons, drop-set-lt, take-set-le, get_or-set_same}
+use lib.ListN.{length, get_or, set, drop, drop_of_length-le, length-set}
+use lib.Seq.{drop-cons, drop-set-lt, get_or-set_same}
 use Rattle.rules.specs.Lines.{digit, is_digit, digit_value, digits, number_from, all_digits}
 use Rattle.theory.specs.Tests.{either}
-use Rattle.theory.specs.Digits.{digit_valued, length_digits, digits_step}
+use Rattle.theory.specs.Digits.{digit_valued, digits_step}
 use Rattle.std.specs.Prelude.{Some, None, is_some}
 use Rattle.std.specs.List.{list_all}
-use Rattle.digits.specs.Spelling.{value_of, spelt, put, Puts}
+use Rattle.digits.specs.Spelling.{value_of, spelt}
 
 -- A DIGIT'S VALUE
 none : (b : ℕ) → value_of b ≡ None → is_digit b ≡ false
@@ -76,42 +76,31 @@ unfolding number_from all_digits
 read_whole {ds} {i = i} r h = r.left ∙ rw (drop_of_length-le ds {i = i} h)
 
 -- A NUMBER WRITTEN from its last digit on: what stands from i on, and what is left for the digits before
-pub record NumberPut (value count at : ℕ) (before buffer : List ℕ) (rest i : ℕ) : Type 0 where
-  pub least : at ≤ i
-  pub most : i ≤ length buffer
-  pub long : length buffer ≡ length before
-  pub stands : take at buffer ++ digits (i - at) rest ++ drop i buffer ≡ put at (digits count value) before
+pub record NumberPut (value : ℕ) (before part : List ℕ) (rest i : ℕ) : Type 0 where
+  pub most : i ≤ length part
+  pub long : length part ≡ length before
+  pub stands : digits i rest ++ drop i part ≡ digits (length before) value
 
-pub put_none : (value count at : ℕ) (z : List ℕ) → at + count ≤ length z → NumberPut value count at z z value (at + count)
-put_none v n a z h =
-    let k : a + n - a ≡ n = omega arith in
-    record { least = omega arith; most = h; long = refl; stands = rw (k, length_digits n v) }
+pub put_none : (value : ℕ) (z : List ℕ) → NumberPut value z z value (length z)
+put_none v z =
+    record { most = omega arith; long = refl; stands = rw (drop_of_length-le z {i = length z} (omega arith)) (append-nil (digits (length z) v)) }
 
 drop_set : (l : List ℕ) (i a : ℕ) → i < length l → drop i (set l i a) ≡ a ∷ drop (suc i) l
 drop_set l i a h =
     drop-cons (set l i a) i 0 (omega (arith, length-set l i a)) ∙ rw (get_or-set_same l i a 0 h, drop-set-lt (suc i) l i a (omega arith))
 
-pub put_more : {value count at : ℕ} {z b : List ℕ} {rest i d next : ℕ} → NumberPut value count at z b rest i → at < i →
-    d ≡ digit (rest % 16) → next ≡ rest / 16 → NumberPut value count at z (set b (i - 1) d) next (i - 1)
-put_more {at = a} {b = b} {rest = rest} {i = i} {d = d} {next = next} p h e q =
+pub put_more : {value : ℕ} {z b : List ℕ} {rest i d next : ℕ} → NumberPut value z b rest i → 0 < i → d ≡ digit (rest % 16) → next ≡ rest / 16 →
+    NumberPut value z (set b (i - 1) d) next (i - 1)
+put_more {b = b} {rest = rest} {i = i} {d = d} p h e q =
     let j = i - 1 in
     let s : suc j ≡ i = omega arith in
-    let k : suc (j - a) ≡ i - a = omega arith in
-    let t = take-set-le a b j d (omega arith) in
-    let g : digits (j - a) (rest / 16) ++ digit (rest % 16) ∷ drop i b ≡ digits (i - a) rest ++ drop i b =
-    sym (digits_step (j - a) rest (drop i b)) ∙ rw k in
+    let g : digits j (rest / 16) ++ digit (rest % 16) ∷ drop i b ≡ digits i rest ++ drop i b = sym (digits_step j rest (drop i b)) ∙ rw s in
     record {
-      least = omega arith;
       most = omega (arith, length-set b j d, p.most);
       long = length-set b j d ∙ p.long;
-      stands =
-          append_assoc (take a (set b j d)) (digits (j - a) next) (drop j (set b j d))
-          ∙ rw (t, drop_set b j d (omega (arith, p.most)), s, q, e, g) (sym (append_assoc (take a b) (digits (i - a) rest) (drop i b)) ∙ p.stands);
+      stands = rw (drop_set b j d (omega (arith, p.most)), s, q, e) (g ∙ p.stands);
     }
 
-pub put_whole : {value count at : ℕ} {z b : List ℕ} {rest i : ℕ} → NumberPut value count at z b rest i → i ≤ at → Puts value count at z b
+pub put_whole : {value : ℕ} {z b : List ℕ} {rest i : ℕ} → NumberPut value z b rest i → i ≤ 0 → b ≡ digits (length z) value
 unfolding digits
-put_whole {at = a} {b = b} {i = i} p h =
-    let s : i ≡ a = omega (arith, p.least) in
-    let k : a - a ≡ 0 = omega arith in
-    record { left = sym (take-append-drop a b) ∙ sym (ap (λ (xs : List ℕ). xs ++ drop a b) (append-nil (take a b))) ∙ rw (s, k) at p.stands }
+put_whole {i = i} p h = let s : i ≡ 0 = omega arith in rw s at p.stands

@@ -1,6 +1,6 @@
 -- What bytes spell, and digits put into a buffer.
-use Rattle.std.specs.Prelude.{◌≡◌, cond, Option, Some, None, List, ◌++◌, ℕ, ◌+◌, length, take, drop}
-use Rattle.rules.specs.Lines.{is_digit, digit_value, digits, number_from, all_digits}
+use Rattle.std.specs.Prelude.{cond, Option, Some, None, List, ◌++◌, ℕ, ◌+◌, length, take, drop}
+use Rattle.rules.specs.Lines.{is_digit, digit_value, number_from, all_digits}
 
 -- a digit's value, and none of any other byte
 unfoldable pub value_of : (b : ℕ) → Option ℕ
@@ -13,7 +13,3 @@ spelt ds = cond (all_digits ds) (Some (number_from 0 ds)) None
 -- a buffer with bytes put at a place
 abbrev pub put : (at : ℕ) (bytes before : List ℕ) → List ℕ
 put a xs z = take a z ++ xs ++ drop (a + length xs) z
-
--- a number put there in so many digits
-pub record Puts (value count at : ℕ) (before after : List ℕ) : Type 0 where
-  pub left : after ≡ put at (digits count value) before

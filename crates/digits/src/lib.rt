@@ -1,9 +1,9 @@
 // Digits 0 to 9 and A to F, numbers in digits, high digit first, how many digits a payload can have, and the byte that ends a line.
 #![tactic(auto)]
 
-ghost use Rattle.std.specs.Prelude.{◌≡◌, ◌+◌, ◌^◌, ◌≤◌, ◌<◌, ltb, length};
-ghost use Rattle.rules.specs.Lines.{all_digits, digit, payload_fits};
-ghost use Rattle.digits.specs.Spelling.{Puts, put, spelt, value_of};
+ghost use Rattle.std.specs.Prelude.{◌≡◌, ◌^◌, ◌≤◌, ◌<◌, ltb, length};
+ghost use Rattle.rules.specs.Lines.{all_digits, digit, digits, payload_fits};
+ghost use Rattle.digits.specs.Spelling.{spelt, value_of};
 
 // How many digits a line's or a refusal's number, a slot, and a weight or a ticket have.
 pub const SHORT_DIGITS: usize = 2;
@@ -16,7 +16,7 @@ pub const WIDE_DIGITS: usize = 8;
 pub const LINE_END: u8 = b'\n';
 
 // A digit's value; none of any other byte.
-#[tactic(auto, using(std::proofs::lemmas::Bool::Decides::nat_tests), unfolding(crate::specs::Spelling::value_of, rules::specs::Lines::is_digit, rules::specs::Lines::digit_value))]
+#[tactic(auto, unfolding(crate::specs::Spelling::value_of, rules::specs::Lines::is_digit, rules::specs::Lines::digit_value))]
 fn value(b: u8) -> Option<u32>
     ensures { result ≡ value_of b }
 {
@@ -49,7 +49,7 @@ pub fn digits_only(bytes: &[u8]) -> bool
 const MOST_PAYLOAD: usize = 48;
 
 // Whether there can be so many payload digits in a line that may have a payload, or may not.
-#[tactic(auto, using(std::proofs::lemmas::Bool::Decides::nat_tests), unfolding(rules::specs::Lines::payload_fits))]
+#[tactic(auto, unfolding(rules::specs::Lines::payload_fits))]
 pub fn payload_fits(may: bool, count: usize) -> bool
     ensures { result ≡ payload_fits may count }
 {
@@ -68,7 +68,7 @@ pub fn fits(value: u32, count: usize) -> bool
 }
 
 // The digit of a value below 16.
-#[tactic(auto, using(std::proofs::lemmas::Bool::Decides::nat_tests), unfolding(rules::specs::Lines::digit))]
+#[tactic(auto, unfolding(rules::specs::Lines::digit))]
 fn digit(v: u32) -> u8
     requires { v < 16 }
     ensures { result ≡ digit v }
@@ -80,14 +80,13 @@ fn digit(v: u32) -> u8
     }
 }
 
-// A number in so many digits, from a place of the buffer on.
-pub fn put_number(value: u32, count: usize, at: usize, buffer: &mut [u8])
-    requires { at + count ≤ length buffer.old }
-    ensures { Puts value count at buffer.old buffer.new }
+// A number in all digits of a part.
+pub fn put_number(value: u32, part: &mut [u8])
+    ensures { part.new ≡ digits (length part.old) value }
 {
     let mut rest = value;
-    for i in (at..at + count).rev() {
-        buffer[i] = digit(rest % 16);
+    for i in (0..part.len()).rev() {
+        part[i] = digit(rest % 16);
         rest /= 16;
     }
 }

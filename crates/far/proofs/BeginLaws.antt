@@ -5,16 +5,9 @@ use mathlib.Core.List.{List}
 use Prim.Native.Nat.{ℕ, zero, suc, ◌+◌, ◌-◌, ◌≤◌, ◌<◌}
 use native.Mathlib.Omega.{arith}
 use lib.ListN.{get_or}
-use Rattle.theory.specs.Tests.{leb?, eqb?}
+use Rattle.theory.specs.Tests.{eqb?}
 use Rattle.buckets.specs.Stretch.{upto}
-use Rattle.far.specs.Far.{Roomy, Flat, Begins}
-
-pub upto_mono : (cs : List ℕ) (a b : ℕ) → a ≤ b → upto a cs ≤ upto b cs
-upto_mono cs a zero h = let e : a ≡ 0 = omega arith in omega (arith, ap (λ (v : ℕ). upto v cs) e)
-upto_mono cs a (suc b) h = elim (leb? a b) [
-  | inl y ↦ omega (arith, upto_mono cs a b y.1)
-  | inr y ↦ let e : a ≡ suc b = omega (arith, h, y.1) in omega (arith, ap (λ (v : ℕ). upto v cs) e)
-]
+use Rattle.far.specs.Far.{Roomy, Flat}
 
 -- WAITING: w rows want bucket s, since rows from s to some bucket behind mid do not find one each, and none wants it more
 pub record Waiting (cs : List ℕ) (mid top s w : ℕ) : Type 0 where
@@ -77,24 +70,15 @@ wait_back cs mid top (suc s) w l x h k e d =
       }
     ])
 
--- no segment begins where more than one row waits, and one does where not
+-- no segment begins where more than one row waits
 pub not_flat : (cs : List ℕ) (mid top s w : ℕ) → 1 < w → Waiting cs mid top s w → Flat cs top s → ⊥
 not_flat cs mid top s w h k f = omega (arith, k.is, f k.edge (omega (arith, k.low)) k.high, h)
-
-pub is_flat : (cs : List ℕ) (mid top s w : ℕ) → w ≤ 1 → Waiting cs mid top s w → Flat cs top s
-is_flat cs mid top s w h k v a b = elim (eqb? v s) [
-  | inl y ↦ omega (arith, ap (λ (u : ℕ). upto u cs) y.1)
-  | inr y ↦ let z = y.1 in omega (arith, k.most v (omega (arith, a, z)) b, h)
-]
 
 -- THE LAST BEGINNING up to mid
 pub record Seeking (cs : List ℕ) (mid top s w : ℕ) : Type 0 where
   pub upon : s ≤ mid
   pub wait : Waiting cs mid top s w
   pub none : (u : ℕ) → s < u → u ≤ mid → Flat cs top u → ⊥
-
-pub seek_start : (cs : List ℕ) (mid top s w : ℕ) → s ≤ mid → mid ≤ s → Waiting cs mid top s w → Seeking cs mid top s w
-seek_start cs mid top s w h l k = record { upon = h; wait = k; none = λ u a b. absurd (omega (arith, a, b, l)) }
 
 -- there is room for all, so some bucket is left
 pub seek_on : (cs : List ℕ) (mid top s w : ℕ) → Roomy cs mid top → 1 < w → Seeking cs mid top s w → 0 < s
@@ -116,16 +100,3 @@ seek_back cs mid top (suc s) w x r h k e =
         | inr y ↦ let z = y.1 in k.none u (omega (arith, a, z)) b f
       ];
     })
-
-pub seek_end : (cs : List ℕ) (mid top s w : ℕ) → w ≤ 1 → Seeking cs mid top s w → Begins cs mid top s
-seek_end cs mid top s w h k = record { by = k.upon; flat = is_flat cs mid top s w h k.wait; none = k.none }
-
--- numbers stay small
-pub count_few : (cs : List ℕ) (mid top s : ℕ) → Roomy cs mid top → s ≤ top → get_or cs s 0 ≤ 1024
-count_few cs mid top s r h = omega (arith, r.few, upto_mono cs (suc s) (suc top) (omega (arith, h)))
-
-pub wait_few : (cs : List ℕ) (mid top s w : ℕ) → Roomy cs mid top → Waiting cs mid top s w → w ≤ 1025
-wait_few cs mid top s w r k = omega (arith, k.is, r.few, upto_mono cs k.edge (suc top) k.high)
-
-pub back_few : (cs : List ℕ) (mid top s w : ℕ) → Roomy cs mid top → Waiting cs mid top s w → get_or cs (s - 1) 0 ≤ 1024
-back_few cs mid top s w r k = count_few cs mid top (s - 1) r (omega (arith, k.by))

@@ -6,7 +6,7 @@ use mathlib.Core.List.{List, [], ◌∷◌}
 use Prim.Native.Nat.{ℕ, zero, suc, ◌+◌, ◌-◌, ◌≤◌, ◌<◌}
 use native.Mathlib.Omega.{arith}
 use native.Mathlib.Numerals.{add-one}
-use lib.ListN.{length, get_or, set, take, replicate, length-set}
+use lib.ListN.{length, get_or, set, take, length-set}
 use lib.Seq.{get_or-set_same, get_or-set_other, take-length}
 use Rattle.rules.specs.Rows.{Row, Round, blank, All, In}
 use Rattle.rules.specs.Table.{round_in}
@@ -66,18 +66,6 @@ pub record Counting (r : Round) (w : Window) (n i : ℕ) (cs : List ℕ) : Type 
   pub size : length cs ≡ n
   pub few : (v : ℕ) → get_or cs v 0 ≤ i
   pub count : (v : ℕ) → v ≤ w.top → get_or cs v 0 ≡ sum (box 0 (w.low + v) (suc (w.low + v))) (take i r.rows)
-
-pub zeros_at : (n v : ℕ) → ◌≡◌ {A = ℕ} (get_or (replicate n 0) v 0) 0
-zeros_at zero v = refl
-zeros_at (suc n) zero = refl
-zeros_at (suc n) (suc v) = zeros_at n v
-
-pub count_start : (r : Round) (w : Window) (cs : List ℕ) → cs ≡ replicate (length cs) 0 → Counting r w (length cs) 0 cs
-count_start r w cs e =
-    record { size = refl; few = λ v. omega (arith, zero_at v); count = λ v h. omega (arith, zero_at v) }
-  where
-    zero_at : (v : ℕ) → get_or cs v 0 ≡ 0
-    zero_at v = ap (λ (l : List ℕ). get_or l v 0) e ∙ zeros_at (length cs) v
 
 pub count_step : (r : Round) (w : Window) (n i : ℕ) (cs : List ℕ) (d b : ℕ) → i < length r.rows → suc w.top < n → DueAt r i d → b ≡ bucket_in w d →
     Counting r w n i cs → Counting r w n (i + 1) (set cs b (get_or cs b 0 + 1))
@@ -379,8 +367,3 @@ module _ (t cs : List ℕ) (h : Head) (x : Reach) (i : ℕ) (a : FarRow t cs h x
           (far_in rd n.fine z a.reaches.near p (getD_in rd.rows (blank 0) i l) u) u
           ∙ ap blank (ap (segment_start rd (plan rd)) (sym q.is)
           ∙ begin_is rd n.fine z a.reaches.near (h.used - x.free - x.over) far_many d q.by w bounds ds g b j ∙ sym o)
-
-      pub begin_fits : (b : ℕ) → Begins ds w.mid w.top b → (b ≤ 2048) × (w.low + b ≤ 4095)
-      begin_fits b j =
-          let n = known t h a.ready in
-          (omega (arith, j.by, bounds.top, window_small.0), omega (arith, j.by, bounds.mid, q.small))

@@ -1,14 +1,13 @@
 // Far slots, from free on, and the substitute of a row due in one: the blank where its segment begins, since the plan has every such row.
 #![tactic(auto)]
 
-ghost use Rattle.std.specs.Prelude.{◌≡◌, suc, ◌+◌, ◌-◌, ◌≤◌, ◌<◌, min, leb, length, replicate};
+ghost use Rattle.std.specs.Prelude.{◌≡◌, suc, ◌+◌, ◌-◌, ◌≤◌, ◌<◌, leb, length, replicate};
 ghost use Rattle.rules.specs.Table.{round_in};
-ghost use Rattle.round.specs.Rows.{Ready};
 ghost use Rattle.far.specs.Far.{window_at, bucket_in, CountedIn, Roomy, Begins, FarRow};
 ghost use Rattle.sub.specs.Substitute.{Substitutes};
 
 use buckets::Reach;
-use round::read::{cut, due_at};
+use round::read::Sound;
 use sorts::{Round, Slot};
 use sub::Sub;
 
@@ -18,14 +17,6 @@ pub fn is_far(round: Round, reach: Reach, slot: Slot) -> bool
     ensures { result ≡ leb reach.free (slot.0 - round.slot.0) }
 {
     reach.free <= (slot.0 - round.slot.0) as usize
-}
-
-// Slots from one to a due slot, at most top.
-fn bucket_of(due: u32, slot: u32, top: usize) -> usize
-    requires { slot ≤ due }
-    ensures { result ≡ min (due - slot) top }
-{
-    cut((due - slot) as usize, top)
 }
 
 // Buckets 0 to top: slots from low on; bucket mid is the slot where the row is due.
@@ -42,7 +33,7 @@ fn window_of(round: Round, reach: Reach, due: u32) -> Window
     ensures { result ≡ window_at (round.slot.0 + reach.free) (round.used - reach.free - reach.over) due }
 {
     let far = round.used - reach.free - reach.over;
-    let mid = bucket_of(due, round.slot.0 + reach.free as u32, far);
+    let mid = ((due - (round.slot.0 + reach.free as u32)) as usize).min(far);
     Window {
         low: due - mid as u32,
         mid,
@@ -59,30 +50,17 @@ fn bucket_in(window: Window, due: u32) -> usize
     if due < window.low {
         return out;
     }
-    bucket_of(due, window.low, out)
+    ((due - window.low) as usize).min(out)
 }
 
-fn count_in(table: &[u8], counts: &mut [u16], round: Round, window: Window)
-    requires { Ready table.now round × (window.top ≤ 2048) × (suc window.top < length counts.old)
-        × (counts.old ≡ replicate (length counts.old) 0) }
-    ensures { CountedIn (round_in table.now).rows window counts.new }
+fn count_in(sound: &Sound, counts: &mut [u16], window: Window)
+    requires { (window.top ≤ 2048) × (suc window.top < length counts.old) × (counts.old ≡ replicate (length counts.old) 0) }
+    ensures { CountedIn (round_in sound.now.table.now).rows window counts.new }
 {
-    let used = round.used;
-    let mut i: usize = 0;
-    while i < used {
-        let b = bucket_in(window, due_at(table, round, i));
+    for row in 0..sound.round.used {
+        let b = bucket_in(window, sound.due_at(row));
         counts[b] = counts[b] + 1;
-        i += 1;
     }
-}
-
-fn less_one(a: usize) -> usize
-    ensures { result ≡ a - 1 }
-{
-    if a == 0 {
-        return 0;
-    }
-    a - 1
 }
 
 // From the last bucket back each takes one of the rows that wait for it; a segment begins where no other waits.
@@ -90,32 +68,26 @@ fn begin_of(counts: &[u16], mid: usize, top: usize) -> usize
     requires { Roomy counts.now mid top }
     ensures { Begins counts.now mid top result }
 {
-    let mut s = top;
-    let mut waiting = counts[top] as usize;
-    while mid < s {
-        s -= 1;
-        waiting = less_one(waiting) + counts[s] as usize;
+    let mut waiting = usize::from(counts[top]);
+    for s in (mid..top).rev() {
+        waiting = waiting.saturating_sub(1) + usize::from(counts[s]);
     }
+    let mut begin = mid;
+    // Kept: the rows that wait end the search, not the first bucket.
     while 1 < waiting {
-        s -= 1;
-        waiting = waiting - 1 + counts[s] as usize;
+        begin -= 1;
+        waiting = waiting - 1 + usize::from(counts[begin]);
     }
-    s
+    begin
 }
 
 // Counts are lent, all 0: two for each row, and two more.
-pub fn substitute_far(
-    table: &[u8],
-    counts: &mut [u16],
-    round: Round,
-    reach: Reach,
-    row: usize,
-) -> Sub
-    requires { FarRow table.now counts.old round reach row }
-    ensures { Substitutes (round_in table.now) row result }
+pub fn substitute_far(sound: &Sound, counts: &mut [u16], reach: Reach, row: usize) -> Sub
+    requires { FarRow sound.now.table.now counts.old sound.now.round reach row }
+    ensures { Substitutes (round_in sound.now.table.now) row result }
 {
-    let window = window_of(round, reach, due_at(table, round, row));
-    count_in(table, counts, round, window);
+    let window = window_of(sound.round, reach, sound.due_at(row));
+    count_in(sound, counts, window);
     let begin = begin_of(counts, window.mid, window.top);
     Sub::Blank(Slot(window.low + begin as u32))
 }

@@ -3,13 +3,13 @@
 
 ghost use Rattle.std.specs.Prelude.{◌≡◌, ◌≤◌, ◌<◌};
 ghost use Rattle.rules.specs.Table.{round_in};
-ghost use Rattle.round.specs.Rows.{Ready, DueAt};
+ghost use Rattle.round.specs.Rows.{DueAt};
 ghost use Rattle.keys.specs.Key.{key_at};
 ghost use Rattle.first.specs.First.{Sees, IsFirst};
 
 use keys::{key_of, row_of};
-use round::read::{class_at, due_at, weight_at};
-use sorts::{Class, Round, Slot, Weight};
+use round::read::Sound;
+use sorts::{Class, Slot, Weight};
 
 // The first of the rows so far, by its due slot and its key.
 #[derive(Clone, Copy)]
@@ -19,48 +19,47 @@ struct First {
 }
 
 // A row due no later is compared: of one due slot the lesser key is the heavier row's.
-fn see(first: First, due: u32, key: u64) -> First
-    ensures { Sees first due key result }
+fn see(first: First, next: First) -> First
+    ensures { Sees first next.due next.key result }
 {
-    if due == first.due {
-        if first.key <= key {
+    // Kept: due slots are compared before a key is made, and a derived order would compare them once more.
+    if next.due == first.due {
+        if first.key <= next.key {
             return first;
         }
     }
-    First { due, key }
+    next
 }
 
 // The key of a row due then.
-fn key_at(table: &[u8], round: Round, due: u32, row: usize) -> u64
-    requires { Ready table.now round × (row < round.used) × DueAt (round_in table.now) row due }
-    ensures { result ≡ key_at (round_in table.now) row }
+fn key_at(sound: &Sound, due: u32, row: usize) -> u64
+    requires { (row < sound.now.round.used) × DueAt (round_in sound.now.table.now) row due }
+    ensures { result ≡ key_at (round_in sound.now.table.now) row }
 {
-    let weight = weight_at(table, round, row);
-    let class = class_at(table, round, row);
+    let weight = sound.weight_at(row);
+    let class = sound.class_at(row);
     key_of(Weight(weight), Slot(due), Class(class), row)
 }
 
 // A key is made only where the due slot can win, and of a single row none.
-pub fn first_of_all(table: &[u8], round: Round) -> usize
-    requires { Ready table.now round × (1 ≤ round.used) }
-    ensures { IsFirst (round_in table.now) (round_in table.now).rows result }
+pub fn first_of_all(sound: &Sound) -> usize
+    requires { 1 ≤ sound.now.round.used }
+    ensures { IsFirst (round_in sound.now.table.now) (round_in sound.now.table.now).rows result }
 {
-    let used = round.used;
+    let used = sound.round.used;
     if used == 1 {
         return 0;
     }
-    let start = due_at(table, round, 0);
+    let start = sound.due_at(0);
     let mut first = First {
         due: start,
-        key: key_at(table, round, start, 0),
+        key: key_at(sound, start, 0),
     };
-    let mut i: usize = 1;
-    while i < used {
-        let row = i;
-        let due = due_at(table, round, row);
-        i += 1;
+    for row in 1..used {
+        let due = sound.due_at(row);
         if due <= first.due {
-            first = see(first, due, key_at(table, round, due, row));
+            let key = key_at(sound, due, row);
+            first = see(first, First { due, key });
         }
     }
     row_of(first.key)

@@ -14,7 +14,7 @@ pub use form::Form;
 use sorts::{Class, Slot, Weight};
 
 // A command, one for each line number.
-#[derive(Clone, Copy)]
+#[derive(Clone, Copy, Debug, PartialEq, Eq)]
 pub enum Command {
     Open(Slot),
     Take(Slot, Weight),
@@ -27,16 +27,7 @@ pub enum Command {
 pub const MOST_NUMBERS: usize = 3;
 
 // The form of a line number; a number that no line has would stand alone, and makes no command.
-#[tactic(
-    auto,
-    using(std::proofs::lemmas::Bool::Decides::nat_tests),
-    unfolding(
-        rules::specs::Lines::forms,
-        rules::specs::Lines::found,
-        rules::specs::Lines::count_digits,
-        rules::specs::Lines::front_size
-    )
-)]
+#[tactic(auto, unfolding(rules::specs::Lines::forms, rules::specs::Lines::found, rules::specs::Lines::count_digits, rules::specs::Lines::front_size))]
 pub fn form_of(number: u32) -> Form
     ensures { HasForm (form_numbered number) result }
 {
@@ -71,6 +62,7 @@ fn formed(widths: &'static [usize], front: usize, payload: bool) -> Form
 }
 
 // The command of a line number and its values; none is refusal 1.
+// Kept: no TryFrom here and no From below, since neither the number nor the values alone are the command.
 #[tactic(auto, unfolding(rules::specs::Lines::command_of))]
 pub fn command_of(number: u32, values: [u32; MOST_NUMBERS]) -> Option<Command>
     ensures { of_reading result ≡ command_of number values }

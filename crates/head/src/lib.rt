@@ -10,7 +10,7 @@ ghost use Rattle.head.specs.Numbers.{head_numbers};
 ghost use Rattle.sorts.specs.Tail.{tail_of};
 
 use limits::head_is_good;
-use numbers::{read1, read2, read4, write1, write2, write4};
+use numbers::{read, write};
 use sorts::{Round, Slot, Ticket};
 
 // How many rows a table has room for.
@@ -27,11 +27,11 @@ pub fn read_head(table: &[u8]) -> Round
     ensures { HeadOf table.now result }
 {
     Round {
-        slot: Slot(read2(table, Round::SLOT_AT)),
-        last: Slot(read2(table, Round::LAST_AT)),
-        next: Ticket(read4(table, Round::NEXT_AT)),
-        sealed: read1(table, Round::SEALED_AT),
-        used: read2(table, Round::USED_AT) as usize,
+        slot: Slot(read::<2>(table, Round::SLOT_AT)),
+        last: Slot(read::<2>(table, Round::LAST_AT)),
+        next: Ticket(read::<4>(table, Round::NEXT_AT)),
+        sealed: read::<1>(table, Round::SEALED_AT),
+        used: read::<2>(table, Round::USED_AT) as usize,
         room: rows_of(table),
     }
 }
@@ -41,8 +41,8 @@ pub fn head_is_sound(table: &[u8], round: Round) -> bool
     requires { (head_size ≤ length table.now) × HeadOf table.now round }
     ensures { result ≡ head_judged table.now }
 {
-    let zeros = (read1(table, Round::HEAD_ZEROS_AT) == 0)
-        & (read4(table, Round::HEAD_ZEROS_AT + 1) == 0);
+    let zeros = (read::<1>(table, Round::HEAD_ZEROS_AT) == 0)
+        & (read::<4>(table, Round::HEAD_ZEROS_AT + 1) == 0);
     head_is_good(round) & zeros
 }
 
@@ -52,9 +52,9 @@ pub fn write_head(table: &mut [u8], round: Round)
     ensures { table.new ≡ head_numbers round.slot.0 round.last.0 round.next.0 round.used (tail_of round)
         ++ drop head_zeros_at table.old }
 {
-    write2(table, Round::SLOT_AT, round.slot.0);
-    write2(table, Round::LAST_AT, round.last.0);
-    write4(table, Round::NEXT_AT, round.next.0);
-    write2(table, Round::USED_AT, round.used as u32);
-    write1(table, Round::SEALED_AT, round.sealed);
+    write::<2>(table, Round::SLOT_AT, round.slot.0);
+    write::<2>(table, Round::LAST_AT, round.last.0);
+    write::<4>(table, Round::NEXT_AT, round.next.0);
+    write::<2>(table, Round::USED_AT, round.used as u32);
+    write::<1>(table, Round::SEALED_AT, round.sealed);
 }

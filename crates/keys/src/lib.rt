@@ -78,6 +78,7 @@ pub fn weight_of_all(many: usize, lacks: u64) -> u64
 }
 
 // The key of a row with a flag, else 0: without a branch, since flags cannot be foreseen.
+// Kept: flags are numbers, 1 or 0, since they are multiplied by, added up, and stand as such in what says the plan.
 pub fn flagged(key: u64, flag: u8) -> u64
     requires { (key ≤ blank_key) × (flag ≤ 1) }
     ensures { result ≡ key * flag }

@@ -30,26 +30,22 @@ lent_is t a i e =
     let f : a + row_size - a ≡ row_size = omega arith in
     rw (f, e)
 
--- THE KINDS, asked from the last row back
-pub record KindsLeft (t : List ℕ) (u k : ℕ) : Type 0 where
-  pub by : k ≤ u
-  pub rest : kinds_good t u ≡ kinds_good t k
-
-module _ (t : List ℕ) (u k a : ℕ) (x : Bool) (some : 0 < k) (e : a ≡ row_at (k - 1)) (d : x ≡ kind_good (lent t a)) (j : KindsLeft t u k) where
+-- THE KINDS, asked from the last row back: those of u rows are those of the first k, and row k - 1 is asked next
+module _ (t : List ℕ) (u k a : ℕ) (x : Bool) (some : 0 < k) (e : a ≡ row_at (k - 1)) (d : x ≡ kind_good (lent t a)) (j : kinds_good t u ≡ kinds_good t k) where
   kinds_step : kinds_good t u ≡ kinds_good t (k - 1) && x
   kinds_step =
       let f : k ≡ k - 1 + 1 = omega (arith, some) in
-      j.rest ∙ ap (kinds_good t) f ∙ kinds_next t (k - 1) ∙ ap (λ (y : Bool). kinds_good t (k - 1) && y) (sym (d ∙ ap kind_good (lent_is t a (k - 1) e)))
+      j ∙ ap (kinds_good t) f ∙ kinds_next t (k - 1) ∙ ap (λ (y : Bool). kinds_good t (k - 1) && y) (sym (d ∙ ap kind_good (lent_is t a (k - 1) e)))
 
-  pub kinds_on : x ≡ true → KindsLeft t u (k - 1)
-  kinds_on p = record { by = omega (arith, j.by); rest = kinds_step ∙ rw p (and_on (kinds_good t (k - 1))) }
+  pub kinds_on : x ≡ true → kinds_good t u ≡ kinds_good t (k - 1)
+  kinds_on p = kinds_step ∙ rw p (and_on (kinds_good t (k - 1)))
 
   pub kinds_off : x ≡ false → false ≡ kinds_good t u
   kinds_off p = sym (kinds_step ∙ rw p (and_off (kinds_good t (k - 1))))
 
-pub kinds_all : (t : List ℕ) (u k : ℕ) → k ≤ 0 → KindsLeft t u k → true ≡ kinds_good t u
+pub kinds_all : (t : List ℕ) (u k : ℕ) → k ≤ 0 → kinds_good t u ≡ kinds_good t k → true ≡ kinds_good t u
 unfolding kinds_good
-kinds_all t u k h j = let e : k ≡ 0 = omega (arith, h) in sym (j.rest ∙ rw e)
+kinds_all t u k h j = let e : k ≡ 0 = omega (arith, h) in sym (j ∙ rw e)
 
 -- ALL BUT THE KINDS, then the kinds: x is what the numbers say, y what the words say
 module _ (t : List ℕ) (u n : ℕ) (s : Seen) (x : Bool) (e : x ≡ ltb s.ticket.0 n && ltb s.weights most_weight) where

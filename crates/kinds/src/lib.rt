@@ -33,15 +33,11 @@ fn kinds_are_good(table: &[u8], used: usize) -> bool
     requires { (used ≤ most_rows) × (row_at used ≤ length table.now) }
     ensures { result ≡ kinds_good table.now used }
 {
-    let mut left = used;
-    while left > 0 {
-        let i = left - 1;
-        let a = row_at(i);
-        let e = a + Round::ROW_SIZE;
-        if !kind_is_good(&table[a..e]) {
+    for i in (0..used).rev() {
+        let at = row_at(i);
+        if !kind_is_good(&table[at..at + Round::ROW_SIZE]) {
             return false;
         }
-        left = i;
     }
     true
 }

@@ -10,6 +10,7 @@ use keys::weight_of;
 use sorts::{Slot, Weight};
 
 // How many segments there are, and of the one whose top goes before all others': score, top, number, and its substitute (BLANK for none).
+// Kept: a substitute is a key, BLANK for none, since the pass takes the least of keys and a score is worked from either alike.
 #[derive(Clone, Copy)]
 pub struct Lead {
     pub count: usize,
@@ -23,10 +24,12 @@ pub struct Lead {
 pub fn score_of(weight: Weight, substitute: Weight) -> u64
     ensures { result ≡ score weight.0 substitute.0 }
 {
-    weight.0 as u64 * 39088169 + substitute.0 as u64 * 63245986
+    u64::from(weight.0) * 39088169 + u64::from(substitute.0) * 63245986
 }
 
 // A segment is complete: it is stored, and leads from an equal score on, since it is earlier.
+// Kept: three arrays, since counts and heap serve again as ends and tops; one of whole segments would need 8 KB of stack more than the 26 of 28.
+#[tactic(auto, unfolding(crate::specs::Closed::closed))]
 pub fn close_segment(
     ends: &mut [u32],
     tops: &mut [u64],
@@ -59,19 +62,14 @@ pub fn close_segment(
     }
     Lead {
         count: at + 1,
-        score: lead.score,
-        key: lead.key,
-        segment: lead.segment,
-        other: lead.other,
+        ..lead
     }
 }
 
 // The plan's rows so far fill every slot by this one: a segment ends here, unless it is the open one's end.
+#[tactic(auto, unfolding(crate::specs::Closed::ends_here))]
 pub fn ends_here(due: Slot, edge: usize, end: Slot) -> bool
     ensures { result ≡ ends_here due.0 edge end.0 }
 {
-    if due.0 == end.0 {
-        return false;
-    }
-    (due.0 as usize) < edge
+    due != end && (due.0 as usize) < edge
 }

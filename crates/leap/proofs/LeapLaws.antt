@@ -35,11 +35,13 @@ use Rattle.keys.specs.Key.{due_of, row_of}
 use Rattle.closing.specs.Close.{DueNow, gone_ticket, closed_up}
 use Rattle.lead.specs.declared.Lead.{Lead}
 use Rattle.chain.specs.Chain.{start_of, LiesIn, Lowered, Chained, having, Shifts}
-use Rattle.chain.proofs.MarkLaws.{start_later, number_fits, marked, mark_some}
+use Rattle.chain.proofs.MarkLaws.{start_later, marked, mark_some}
 use Rattle.chain.proofs.MoveLaws.{table_weight, moves_other, length_having}
-use Rattle.went.specs.Send.{WentOf, SentSays, KeepsBlank}
+use Rattle.rules.specs.Calls.{leap}
+use Rattle.replies.specs.declared.Out.{Out}
+use Rattle.replies.specs.declared.Step.TheVariants.{Leap}
+use Rattle.went.specs.Send.{OutOf, SentSays, KeepsBlank}
 use Rattle.leap.specs.Leap.{Leaps, LeapsBlank, LeapsRow}
-use Rattle.went.specs.declared.Went.{Went}
 use Rattle.went.proofs.StandLaws.{RowsFit, Stood, stood, stood_closed, sent_says, fit_self, fit_changed, fit_moves}
 use Rattle.went.proofs.LeaveLaws.{changed_tickets, moves_tickets, gone_stood, same_changed, late_moves, due_stood}
 
@@ -86,12 +88,6 @@ module _ {t : List ℕ} {h : Head} {es ts ls : List ℕ} {l : Lead} (w : Leaps t
 
 -- ONTO A BLANK
 module _ {t : List ℕ} {h : Head} {es ts ls : List ℕ} {l : Lead} (w : LeapsBlank t h es ts ls l) where
-  pub blank_fits : get_or es (l.segment + 1) 0 ≤ 4095
-  blank_fits =
-      let q : suc l.segment ≡ l.segment + 1 = omega arith in
-      let s = (w.leaps.pieces.piece (suc l.segment) w.leaps.later).spans in
-      omega (arith, s.ahead, (leap_known w.leaps).cap, ap (λ (k : ℕ). get_or es k 0) q)
-
   pub blank_keeps : {us : List ℕ} → Lowered l.count l.segment ls us → {j : ℕ} → j ≡ row_of l.key →
       KeepsBlank t h j (get_or es (l.segment + 1) 0 + 1) (get_or us l.segment 0)
   blank_keeps {us} m {j} d =
@@ -184,23 +180,6 @@ module _ {t : List ℕ} {h : Head} {es ts ls : List ℕ} {l : Lead} (w : LeapsRo
             w.left.of.0,
           )
     ]
-
-    -- both segments' numbers are places of the arrays
-    pub swap_low : (to ≤ l.segment) × (l.segment ≤ 4095)
-    swap_low =
-        let k : 0 < l.count = omega (arith, v.later) in
-        let i : l.segment < l.count = omega (arith, v.later) in (
-          z.by,
-          omega (
-            arith,
-            number_fits (round_in t) l.count es ts ls v.pieces l.segment i,
-            (v.pieces.piece 0 k).spans.ahead,
-            (leap_known v).cap,
-          ),
-        )
-
-    pub swap_place : {us : List ℕ} → Lowered l.count to ls us → (to ≤ l.segment) × (l.segment < length us)
-    swap_place m = (z.by, omega (arith, v.later, m.size, v.pieces.lows))
 
     -- WHAT THE PASS GOES BY
     pub swap_chained : {us : List ℕ} → Lowered l.count to ls us → Chained t es ts us to l.segment
@@ -319,15 +298,15 @@ module _ {t : List ℕ} {h : Head} {es ts ls : List ℕ} {l : Lead} (w : LeapsRo
         pub swap_good : (table_refusal x ≡ 0) × HeadOf x h
         swap_good = (swap_stood.sound, swap_stood.head)
 
-        pub swap_says : {o : ℕ} → o ≡ row_of l.key → {wt : Went} → WentOf (at (round_in t) o) true wt → {n : List ℕ} → n ≡ closed_up (gone_ticket x o) x →
-            SentSays t n wt
+        pub swap_says : {o : ℕ} → o ≡ row_of l.key → {wt : Out} → OutOf (at (round_in t) o) wt → {n : List ℕ} → n ≡ closed_up (gone_ticket x o) x →
+            SentSays t n (Leap wt)
         swap_says {o} q {wt} p {n} d1 =
             let i = leap_row_is v q in
-            let p2 : WentOf (at (round_in t) v.row) true wt = subst (λ (k : ℕ). WentOf (at (round_in t) k) true wt) i p in
+            let p2 : OutOf (at (round_in t) v.row) wt = subst (λ (k : ℕ). OutOf (at (round_in t) k) wt) i p in
             let tk : (get_or ys v.row (blank 0)).ticket ≡ (at (round_in t) v.row).ticket =
             changed_tickets y.ticket (row y.ticket y.due mk y.tail) (row_ticket_is y y.due mk) xs v.row
             ∙ moves_tickets (round_in t) eo s.links (round_in t).rows v.row in
-            sent_says t h v.ready (at (round_in t) v.row) true (at (round_in t) v.row).ticket ys n wt swap_sends
+            sent_says t h v.ready (at (round_in t) v.row) true (at (round_in t) v.row).ticket ys n (Leap wt) swap_sends
             (stood_closed t h ys x n (at (round_in t) v.row).ticket swap_stood
             (d1 ∙ ap (λ (k : ℕ). closed_up k x) (ap (gone_ticket x) i ∙ gone_stood t h ys x swap_stood v.row (omega (arith, v.below, (leap_known v).used)) tk)))
-            p2
+            (ap leap p2.is)

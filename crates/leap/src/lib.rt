@@ -10,9 +10,11 @@ use chain::{lower_marks, segment_by, shift_chain};
 use closing::close_up;
 use keys::{due_of, row_of};
 use lead::Lead;
+use replies::Step;
+use round::read::Sound;
 use row::write::write_weight;
 use sorts::{Round, Slot, Weight};
-use went::{Went, send_kept, went_of};
+use went::{out_of, send_kept};
 
 // A leap onto the blank of the segment that leads, due in its first slot with its mark.
 pub fn send_blank(
@@ -23,7 +25,7 @@ pub fn send_blank(
     round: Round,
     lead: Lead,
     expiring: usize,
-) -> Went
+) -> Step
     requires { LeapsBlank table.old round ends.now tops.now lows.old lead × DueNow table.old expiring }
     ensures { SentSays table.old table.new result }
 {
@@ -44,12 +46,16 @@ pub fn send_swapped(
     round: Round,
     lead: Lead,
     expiring: usize,
-) -> Went
+) -> Step
     requires { LeapsRow table.old round ends.now tops.now lows.old lead × DueNow table.old expiring }
     ensures { SentSays table.old table.new result }
 {
     let sent = row_of(lead.key);
-    let went = went_of(table, round, sent, true);
+    let sound = Sound {
+        table: &*table,
+        round,
+    };
+    let out = out_of(&sound, sent);
     let own = lead.segment;
     let to = segment_by(ends, own, Slot(due_of(lead.other)));
     lower_marks(lows, lead.count, to);
@@ -57,5 +63,5 @@ pub fn send_swapped(
     let mark = lows[to];
     write_weight(table, row_of(lead.other), Weight(mark));
     close_up(table, round, expiring, sent);
-    went
+    Step::Leap(out)
 }

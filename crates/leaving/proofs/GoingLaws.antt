@@ -1,20 +1,20 @@
 -- The sweep on its way, with its heap: its top is the lightest row kept, and it follows the sweep's steps.
 use mathlib.Core.Path.{◌≡◌, refl, sym, ap, ◌∙◌}
 use mathlib.Core.Logic.{◌⊎◌, inl, inr}
-use mathlib.Core.Bool.{Bool, true, cond}
+use mathlib.Core.Bool.{true, cond}
 use mathlib.Core.List.{List}
-use Prim.Native.Nat.{ℕ, zero, suc, ◌+◌, ◌*◌, ◌-◌, ◌/◌, ◌%◌, ◌≤◌, ◌<◌, max}
+use Prim.Native.Nat.{ℕ, zero, suc, ◌+◌, ◌-◌, ◌≤◌, ◌<◌, max}
 use native.Mathlib.Omega.{arith}
 use native.Mathlib.Numerals.{add-one}
 use lib.Dec.{eqb}
-use lib.ListN.{length, get_or, set, replicate, length-set, length-replicate}
+use lib.ListN.{length, get_or, set, replicate}
 use Rattle.keys.specs.Key.{weight_of, due_of, row_of, blank_key}
 use Rattle.theory.specs.Tests.{leb?, ltb?, eqb?}
 use Rattle.keys.specs.DueSums.{each}
-use Rattle.heap.specs.Heap.{Heap, heaped, Grown, Replaced}
+use Rattle.heap.specs.Heap.{heaped, Grown}
 use Rattle.heap.proofs.HeapLaws.{heaped_at, heaped_some, top_most}
-use Rattle.leaving.specs.Sweep.{tally, Queue, Swept, Heaped, Leaves, Crowds, FirstCrowded, Filled, Greatest, Lightest, EmptyHeap, Fills, Crowd, Parted}
-use Rattle.leaving.specs.Sweep.{key_on, row_on, ahead_on, weight_on, kept_on, left_on}
+use Rattle.leaving.specs.Sweep.{Queue, Swept, Heaped, Leaves, Crowds, FirstCrowded, Filled, Greatest, Lightest, EmptyHeap, Fills, Crowd, Parted}
+use Rattle.leaving.specs.Sweep.{key_on, row_on, ahead_on, weight_on, kept_on}
 use Rattle.leaving.proofs.TallyLaws.{tally_yes, tally_at, tally_some, tally_all}
 use Rattle.leaving.proofs.SweepLaws.{keys_differ, count_few, kept_less, swept_joins, swept_leaves, swept_none, swept_front, crowded_in}
 
@@ -47,21 +47,6 @@ module _ (ks hs gs : List ℕ) (p count : ℕ) (H : Heaped ks hs gs p count) whe
       let a = tally_at (λ q. is v (key_on ks q)) (kept_on ks gs) p j h e in
       let r = heaped_some (is v) count hs (omega (arith, a, is_1 v, H.keys (is v))) in
       omega (arith, is_yes v (get_or hs r.0 0) r.3, top_most count hs H.ordered r.0 r.0 (omega arith) r.1 r.2)
-
--- WHO LEAVES, by the code's two answers
-pub leaves_top : (count key : ℕ) (h u : List ℕ) (top : ℕ) → top ≡ get_or h 1 0 → key < top → Replaced count key h u → Leaves count key h u top
-leaves_top count key h u top e l R =
-    record {
-      heap = R.heap;
-      keys = λ μ. omega (arith, R.keys μ, ap μ e);
-      over_top = omega (arith, e);
-      over_key = omega (arith, l);
-      is = inl e;
-    }
-
-pub leaves_key : (count key : ℕ) (h : List ℕ) → get_or h 1 0 ≤ key → Heap count h → Leaves count key h h key
-leaves_key count key h l H =
-    record { heap = H; keys = λ μ. refl; over_top = l; over_key = omega arith; is = inr refl }
 
 -- IN THE MIDST OF THE SWEEP
 pub record Going (ks hs gs : List ℕ) (slot free over p count w : ℕ) : Type 0 where
@@ -219,10 +204,6 @@ module _ (ks hs us : List ℕ) (first n : ℕ) (F : Filling ks hs us first n) (h
   pub filling_in : (n < length ks) × (n ≤ 1024)
   filling_in = (omega (arith, h, F.fills.within), omega (arith, h, F.fills.small))
 
-  pub filling_rise : (k : ℕ) → k ≡ key_on ks n → (n + 2 ≤ length us) × (n ≤ 1024) × (1 ≤ k) × Heap n us
-  filling_rise k e =
-      (omega (arith, h, F.long, F.fills.empty.room), filling_in.1, omega (arith, e, F.fills.some n h), F.filled.ordered)
-
   pub filling_more : (k : ℕ) (vs : List ℕ) → k ≡ key_on ks n → Grown n k us vs → Filling ks hs vs first (n + 1)
   filling_more k vs e R =
       record {
@@ -232,34 +213,15 @@ module _ (ks hs us : List ℕ) (first n : ℕ) (F : Filling ks hs us first n) (h
         filled = filled_more ks us vs n k F.filled e R;
       }
 
-pub filling_end : (ks hs us : List ℕ) (first n : ℕ) → Filling ks hs us first n → first ≤ n → Filled ks us first
-filling_end ks hs us first n F h = let e : first ≡ n = omega (arith, h, F.by) in rw e F.filled
-
--- THE FIRST CROWDED PLACE is met
-pub crowd_met : (ks gs : List ℕ) (slot free over : ℕ) → Crowd ks gs slot free over → Crowds ks slot
-crowd_met ks gs slot free over C =
-    record {
-      at = free;
-      within = omega (arith, C.queue.long, C.some);
-      small = omega (arith, C.queue.small);
-      from = λ p a. C.queue.from p (omega (arith, a, C.some));
-      over = C.queue.early free (omega (arith, C.some));
-    }
-
+-- LOOKING FOR THE FIRST CROWDED PLACE: none before place p crowds
 pub record Looking (ks : List ℕ) (slot p : ℕ) : Type 0 where
   pub crowd : Crowds ks slot
   pub by : p ≤ crowd.at
   pub under : (q : ℕ) → q < p → q ≤ ahead_on ks slot q
 
-pub looking_none : (ks : List ℕ) (slot : ℕ) → Crowds ks slot → Looking ks slot 0
-looking_none ks slot C = record { crowd = C; by = omega arith; under = λ q a. absurd (omega (arith, a)) }
-
 module _ (ks : List ℕ) (slot p : ℕ) (L : Looking ks slot p) where
   pub looking_in : (p < length ks) × (p ≤ 1024)
   looking_in = (omega (arith, L.by, L.crowd.within), omega (arith, L.by, L.crowd.small))
-
-  pub looking_from : (k : ℕ) → k ≡ key_on ks p → slot ≤ due_of k
-  looking_from k e = omega (arith, ap due_of e, L.crowd.from p L.by)
 
   module _ (k a : ℕ) (e : k ≡ key_on ks p) (d : a ≡ due_of k - slot) where
     ahead : a ≡ ahead_on ks slot p
@@ -300,15 +262,6 @@ going_start ks gs hs us slot free over c C F E X l =
     all_on q h = (swept_none ks gs slot free over C).waits q (omega arith) (omega (arith, h, crowded_in ks gs slot free over C c F))
 
 -- ONE TOO MANY: the greatest of the keys up to the first crowded place leaves
-pub greatest_first : (ks : List ℕ) (k : ℕ) → k ≡ key_on ks 0 → Greatest ks (0 + 1) k
-greatest_first ks k e =
-    record {
-      place = 0;
-      within = omega arith;
-      is = e;
-      most = λ q h. let z : q ≡ 0 = omega (arith, h) in omega (arith, e, ap (key_on ks) z);
-    }
-
 pub greatest_more : (ks : List ℕ) (n top k v : ℕ) → Greatest ks (n + 1) top → k ≡ key_on ks (n + 1) → v ≡ max top k → Greatest ks (n + 1 + 1) v
 greatest_more ks n top k v G e d = elim (leb? k top) [
   | inl a ↦ record {
@@ -330,10 +283,6 @@ greatest_more ks n top k v G e d = elim (leb? k top) [
     ];
   }
 ]
-
--- as the code looks for it
-pub lightest_in : (ks : List ℕ) (slot p k a : ℕ) → Looking ks slot p → k ≡ key_on ks p → a ≡ due_of k - slot → p ≤ a → (p + 1 < length ks) × (p + 1 ≤ 1024)
-lightest_in ks slot p k a L e d h = looking_in ks slot (p + 1) (looking_more ks slot p L k a e d h)
 
 pub lightest_end : (ks : List ℕ) (slot p top k a : ℕ) → Looking ks slot p → Greatest ks (p + 1) top → k ≡ key_on ks p → a ≡ due_of k - slot → a < p →
     Lightest ks slot top

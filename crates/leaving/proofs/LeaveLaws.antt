@@ -3,16 +3,13 @@ use mathlib.Core.Path.{◌≡◌, refl, ap, ◌∙◌}
 use mathlib.Core.List.{List}
 use Prim.Native.Nat.{ℕ, ◌+◌, ◌-◌, ◌≤◌, ◌<◌}
 use native.Mathlib.Omega.{arith}
-use lib.ListN.{length, set, length-set}
-use Rattle.keys.specs.Key.{weight_of, lack_of, due_of, row_of, blank_key, MayLack, Lacks}
-use Rattle.keys.proofs.KeyLaws.{lacks_none, lacks_more, lacks_once, may_lack, lack_fits}
+use lib.ListN.{length, set}
+use Rattle.keys.specs.Key.{weight_of, lack_of, due_of, row_of, blank_key, Lacks}
+use Rattle.keys.proofs.KeyLaws.{lacks_none, lacks_more, lack_fits}
 use Rattle.heap.specs.Heap.{Heap, Grown}
-use Rattle.leaving.specs.Sweep.{Queue, Leaves, FirstCrowded, Filled, Lightest, EmptyHeap, Crowd, Parted}
+use Rattle.leaving.specs.Sweep.{Queue, Leaves, FirstCrowded, Filled, EmptyHeap, Crowd}
 use Rattle.leaving.specs.Sweep.{key_on, ahead_on}
-use Rattle.leaving.proofs.GoingLaws.{Going, going_count, going_joins, going_leaves, out_row, out_most, going_start, one_row}
-
-pub one_row_at : (ks gs : List ℕ) (slot free over top i : ℕ) → Crowd ks gs slot free over → Lightest ks slot top → i ≡ row_of top → i < length gs
-one_row_at ks gs slot free over top i C L e = omega (arith, e, one_row ks gs slot free over top C L)
+use Rattle.leaving.proofs.GoingLaws.{Going, going_count, going_joins, going_leaves, out_row, out_most, going_start}
 
 -- THE SWEEP with so many rows left to leave; those gone lack light together
 pub record Sweeping (ks gs hs : List ℕ) (slot free over p count left light : ℕ) : Type 0 where
@@ -43,19 +40,6 @@ module _ (ks gs hs : List ℕ) (slot free over p count left light : ℕ) (S : Sw
 
   few : S.gone ≤ 1024
   few = omega (arith, S.leavers, S.queue.small)
-
-  -- all have left
-  module _ (none : left ≡ 0) where
-    all : over ≡ S.gone
-    all = omega (arith, S.leavers, none)
-
-    pub sweeping_lacks : MayLack over light
-    sweeping_lacks = rw all (may_lack S.gone light S.lost few S.lacks)
-
-    pub sweeping_end : (w : ℕ) → Lacks over light w → Parted ks gs slot free over w
-    sweeping_end w e =
-        let q : w ≡ S.lost = lacks_once over light w S.lost e (rw all S.lacks) in
-        rw q (record { place = p; count = count; swept = S.going.swept; left = omega (arith, S.places, all) })
 
   -- one has to leave: there is a place more
   module _ (some : 0 < left) where

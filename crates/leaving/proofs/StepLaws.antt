@@ -1,10 +1,10 @@
 -- The sweep's steps: the row at place p joins, stays out, or takes the lightest one's place.
-use mathlib.Core.Path.{◌≡◌, refl, sym, ap, ◌∙◌}
+use mathlib.Core.Path.{◌≡◌, sym, ap, ◌∙◌}
 use mathlib.Core.Logic.{inl, inr}
 use mathlib.Core.Bool.{Bool, true, false, true≢false}
 use Prim.Native.Nat.{ℕ, suc, ◌+◌, ◌≤◌, ◌<◌}
 use native.Mathlib.Omega.{arith}
-use Rattle.theory.specs.Tests.{leb?, ltb?, eqb?}
+use Rattle.theory.specs.Tests.{leb?, eqb?}
 use Rattle.leaving.specs.Sweep.{tally, before, smaller, Barred, Mid}
 use Rattle.leaving.proofs.TallyLaws.{tally_yes, tally_no, tally_zero, tally_same, tally_off, tally_le, tally_more}
 use Rattle.leaving.proofs.TallyLaws.{before_yes, before_no, before_1, smaller_yes, smaller_no}

@@ -1,9 +1,9 @@
 -- The sweep's steps on flags as the code takes them.
-use mathlib.Core.Path.{◌≡◌, refl, sym, ap, ◌∙◌, subst}
+use mathlib.Core.Path.{◌≡◌, refl, sym, ap, ◌∙◌}
 use mathlib.Core.Logic.{◌⊎◌, inl, inr}
-use mathlib.Core.Bool.{Bool, true, false, not, true≢false}
+use mathlib.Core.Bool.{true, false, not}
 use mathlib.Core.List.{List}
-use Prim.Native.Nat.{ℕ, zero, suc, ◌+◌, ◌-◌, ◌/◌, ◌%◌, ◌≤◌, ◌<◌}
+use Prim.Native.Nat.{ℕ, zero, suc, ◌+◌, ◌≤◌, ◌<◌}
 use native.Mathlib.Omega.{arith}
 use lib.Dec.{eqb}
 use lib.ListN.{length, get_or, set, replicate, length-set, get_or-replicate}
@@ -12,7 +12,7 @@ use Rattle.keys.specs.Key.{row_of}
 use Rattle.theory.specs.Tests.{ltb?, eqb?}
 use Rattle.leaving.specs.Sweep.{tally, before, Mid, Queue, Swept, FirstCrowded, Crowd}
 use Rattle.leaving.specs.Sweep.{key_on, row_on, ahead_on, weight_on, kept?, kept_on, left_on}
-use Rattle.leaving.proofs.TallyLaws.{tally_yes, tally_no, tally_zero, tally_same, tally_off, tally_all, tally_le, tally_both, tally_few, before_yes}
+use Rattle.leaving.proofs.TallyLaws.{tally_yes, tally_no, tally_zero, tally_off, tally_all, tally_le, tally_both, tally_few, before_yes}
 use Rattle.leaving.proofs.StepLaws.{mid_none, joins, stays, exchanges}
 
 -- a flag taken away

@@ -1,5 +1,5 @@
 -- Rows by rising due slot, each by its place: which are kept in the midst of the sweep.
-use Rattle.std.specs.Prelude.{◌≡◌, ◌⊎◌, Bool, true, false, cond, not, List, ℕ, zero, suc, ◌+◌, ◌-◌, ◌/◌, ◌%◌, ◌≤◌, ◌<◌, ltb, eqb, length, get_or, replicate}
+use Rattle.std.specs.Prelude.{◌≡◌, ◌⊎◌, Bool, true, false, cond, not, List, ℕ, zero, suc, ◌+◌, ◌-◌, ◌≤◌, ◌<◌, ltb, eqb, length, get_or, replicate}
 use Rattle.keys.specs.Key.{weight_of, due_of, row_of, blank_key}
 use Rattle.heap.specs.Heap.{Heap, heaped}
 use Rattle.keys.specs.DueSums.{each}

@@ -8,7 +8,7 @@ ghost use Rattle.leaving.specs.Sweep.{Leaves, Crowds, FirstCrowded, Lightest, Em
 
 use buckets::Reach;
 use heap::{rise, sink};
-use keys::{due_of, lack_of, larger, row_of, weight_of, weight_of_all};
+use keys::{due_of, lack_of, row_of, weight_of, weight_of_all};
 use sorts::Slot;
 
 // Slots from the current one to the due slot of a key's row.
@@ -25,6 +25,7 @@ fn first_crowded(keys: &[u64], slot: u32) -> usize
     ensures { FirstCrowded keys.now slot result }
 {
     let mut place: usize = 0;
+    // Kept: a `for` would only add the test of an end and an answer for none.
     while place <= ahead_of(keys[place], slot) {
         place += 1;
     }
@@ -38,9 +39,10 @@ fn lightest(keys: &[u64], slot: u32) -> u64
 {
     let mut top = keys[0];
     let mut at: usize = 0;
+    // Kept: a `for` would only add the test of an end.
     while at <= ahead_of(keys[at], slot) {
         at += 1;
-        top = larger(top, keys[at]);
+        top = top.max(keys[at]);
     }
     top
 }
@@ -60,10 +62,8 @@ fn fill(heap: &mut [u64], keys: &[u64], first: usize)
     requires { Fills keys.now heap.old first }
     ensures { Filled keys.now heap.new first }
 {
-    let mut place: usize = 0;
-    while place < first {
-        rise(heap, place, keys[place]);
-        place += 1;
+    for (place, &key) in keys[..first].iter().enumerate() {
+        rise(heap, place, key);
     }
 }
 
@@ -97,9 +97,9 @@ fn leave_some(
     let mut light: u64 = 0;
     let mut size = first;
     let mut place = first;
-    let mut left = reach.over;
-    while 0 < left {
+    for _ in 0..reach.over {
         // A row finds no slot while one has to leave, so the end needs no test.
+        // Kept: size, slots and place move at their own pace, so no range counts them.
         while size <= ahead_of(keys[place], slot) {
             rise(heap, size, keys[place]);
             size += 1;
@@ -109,7 +109,6 @@ fn leave_some(
         place += 1;
         flags[row_of(out)] = 0;
         light += lack_of(out);
-        left -= 1;
     }
     weight_of_all(reach.over, light)
 }

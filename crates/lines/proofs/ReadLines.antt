@@ -111,9 +111,9 @@ module _ {k : ℕ} {line : List ℕ} (b : Begun k line) where
 
     -- clean numbers, and a clean payload that fits
     pub read_good : r.front ≤ length line - 1 → payload_fits r.payload (length line - 1 - r.front) ≡ true →
-        all_digits (take (count_digits (r.widths.now)) (drop short_digits line)) ≡ true →
+        all_digits (take (count_digits r.widths.now) (drop short_digits line)) ≡ true →
         all_digits (take (length line - 1 - r.front) (drop r.front line)) ≡ true →
-        command_of k (numbers_at short_digits (r.widths.now) line) ≡ read line
+        command_of k (numbers_at short_digits r.widths.now line) ≡ read line
     unfolding has_length body
     read_good l p c d =
         let f = form_numbered k in
@@ -122,10 +122,10 @@ module _ {k : ℕ} {line : List ℕ} (b : Begun k line) where
         let q = front_count h in
         let n : end ≡ m + (end - m) = omega arith in
         let e : all_digits (take m line) ≡ true =
-        ap (λ (j : ℕ). all_digits (take j line)) q ∙ clean_on short_digits (count_digits (r.widths.now)) line b.clean c in
+        ap (λ (j : ℕ). all_digits (take j line)) q ∙ clean_on short_digits (count_digits r.widths.now) line b.clean c in
         let clean : all_digits (take end line) ≡ true = ap (λ (j : ℕ). all_digits (take j line)) n ∙ clean_on m (end - m) line e d in
         let g : has_length f end ≡ true = rw (le-leb (front_size f) end (omega (arith, h.front)), rw (h.payload, h.front) at p) in
-        let v : numbers_at short_digits f.widths (body line) ≡ numbers_at short_digits (r.widths.now) line =
+        let v : numbers_at short_digits f.widths (body line) ≡ numbers_at short_digits r.widths.now line =
         numbers_body short_digits f.widths line (omega (arith, b.long, q, ap count_digits h.widths))
         ∙ ap (λ (ns : List ℕ). numbers_at short_digits ns line) (sym h.widths) in
         sym (read_begun ∙ rw (clean, g, v))

@@ -7,6 +7,7 @@ use forms::{form_of, line_number};
 use std::ops::Range;
 
 // From start up to end; 0 and 0 with no payload digits, and of a line that is refused.
+// Kept: no Option, since the contract promises the numbers 0 and 0 there (payload_placed).
 pub fn payload_place(line: &[u8]) -> Range<usize>
     ensures payload_placed { PayloadPlaced line.now result.start result.end }
     ensures line_value { line.now ≡ line.now }

@@ -5,26 +5,23 @@ ghost use Rattle.rules.specs.Rows.{until};
 ghost use Rattle.rules.specs.Calls.{opening, Says};
 ghost use Rattle.replies.specs.Replies.{of_opened};
 
-use checks::opening_refusal;
+use checks::may_open;
 use head::{rows_of, write_head};
 use limits::length_is_good;
-use replies::Opened;
+use refusals::Refusal;
 use sorts::{Round, Slot};
 use zeros::clear;
 
 // Nothing that the table held is read.
-pub fn open_round(last: Slot, table: &mut [u8]) -> Opened
+pub fn open_round(last: Slot, table: &mut [u8]) -> Result<(), Refusal>
     ensures { Says (opening (until last.0)) (of_opened result) table.old table.new }
 {
     if !length_is_good(table.len()) {
-        return Opened::Refused(2);
+        return Err(Refusal::BadLength);
     }
-    let refusal = opening_refusal(last);
-    if 0 < refusal {
-        return Opened::Refused(refusal);
-    }
+    may_open(last)?;
     let round = Round::new(last, rows_of(table));
     clear(table, Round::HEAD_ZEROS_AT);
     write_head(table, round);
-    Opened::Done
+    Ok(())
 }

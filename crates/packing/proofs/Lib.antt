@@ -1,2 +1,2 @@
-pub mod Packed
+pub mod Said
 pub mod Unpack

@@ -33,7 +33,7 @@ out_at w k l h i n e f g o d =
     record { out = rw (x, y) d; leapt = ap (λ v. v % 2) a ∙ bit l g; accepted = omega arith }
 
 pub out_back : (o : Out) → FitsOut o → (l : ℕ) → l < 2 → OutBack o l (pack_out o + l * leap_place)
-unfolding pack_out out_in
+unfolding out_in
 out_back silence silence_fits l h =
     let e : (0 + l * leap_place) / out_place % 4 ≡ 0 = omega arith in
     let a : (0 + l * leap_place) / leap_place ≡ l = omega arith in
@@ -56,7 +56,7 @@ leap_back o f =
     unpack_accepted (acting sending) (pack_out o + leap_place) b.accepted ∙ rw (b.out, b.leapt)
 
 pub unpacks : Unpacks
-unfolding Unpacks unpack pack accepted_in
+unfolding Unpacks unpack accepted_in
 unpacks c (refused n) (refusal_fits h k) = rw (ne_eqb (n % 256) 0 (λ z. omega (arith, z)))
 unpacks (opening u) done opening_fits = unpack_accepted (opening u) 0 (omega arith)
 unpacks (acting (taking f)) (ticket k) (taking_fits h) =
@@ -98,7 +98,7 @@ blank_back n s e =
     rw (eq-eqb (n % 256) 0 (omega arith), eq-eqb (n / 256 % 16777216) 0 (omega arith), d)
 
 pub substitute_unpacks : (a : Reply) → FitsSubstitute a → unpack_substitute (pack a) ≡ a
-unfolding unpack_substitute pack
+unfolding unpack_substitute
 substitute_unpacks (refused n) (refusal_stands h k) = rw (ne_eqb (n % 256) 0 (λ z. omega (arith, z)))
 substitute_unpacks (ticket k) (row_stands h i) = row_back (pack (ticket k)) k (omega arith) h i
 substitute_unpacks (blank_due s) (blank_stands h) = blank_back (pack (blank_due s)) s (omega arith)

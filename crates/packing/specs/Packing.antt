@@ -1,7 +1,14 @@
 -- A reply packed into one number, by the rule of docs/REPLIES.md, and read back.
-use Rattle.std.specs.Prelude.{◌≡◌, cond, ℕ, zero, suc, ◌+◌, ◌*◌, ◌/◌, ◌%◌, ◌≤◌, ◌<◌, eqb}
+use Rattle.std.specs.Prelude.{◌≡◌, cond, Result, Ok, Err, ℕ, zero, suc, ◌+◌, ◌*◌, ◌/◌, ◌%◌, ◌≤◌, ◌<◌, eqb}
 use Rattle.rules.specs.Rows.{Frame, Setup}
 use Rattle.rules.specs.Calls.{taking, sending, sealing, marking, totalling, Call, opening, acting, asking, Out, silence, frame, kept_blank, Step, ordinary, leap, Reply, refused, done, closed, ticket, step, amount, blank_due}
+use Rattle.refusals.specs.declared.Refusal.{Refusal}
+use Rattle.refusals.specs.Refusals.{refusal_number}
+
+-- the reply of a result, by what an accepted value says
+abbrev pub reply_of : {A : Type 0} → (said : A → Reply) → Result A Refusal → Reply
+reply_of said (Ok a) = said a
+reply_of said (Err r) = refused (refusal_number r)
 
 -- places: the refusal's number below 2^8, a ticket or an amount from there on, what went out from 2^32, a leap at 2^34
 abbrev pub value_place : ℕ
@@ -13,12 +20,12 @@ out_place = 4294967296
 abbrev pub leap_place : ℕ
 leap_place = 17179869184
 
-unfoldable pub pack_out : Out → ℕ
+abbrev pub pack_out : Out → ℕ
 pack_out silence = 0
 pack_out (frame k) = value_place * k + out_place
 pack_out (kept_blank k) = value_place * k + 2 * out_place
 
-unfoldable pub pack : Reply → ℕ
+abbrev pub pack : Reply → ℕ
 pack (refused n) = n
 pack done = 0
 pack closed = 0

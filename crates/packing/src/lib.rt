@@ -1,13 +1,18 @@
-// Each call's reply packed into one number, by the rule of docs/REPLIES.md.
+// A call's reply packed into one number, by the rule of docs/REPLIES.md.
 #![tactic(auto)]
 
-ghost use Rattle.std.specs.Prelude.{◌≡◌, ◌+◌, ◌*◌, ◌≤◌};
-ghost use Rattle.rules.specs.Calls.{step};
-ghost use Rattle.replies.specs.Replies.{of_opened, of_taken, of_out, of_step, of_sent, of_sealed, of_marked, of_totalled, of_substituted};
-ghost use Rattle.packing.specs.Packing.{pack_out, pack, SmallAmount};
+ghost use Rattle.std.specs.Prelude.{⊤, ◌≡◌, ◌+◌, ◌*◌, ◌≤◌};
+ghost use Rattle.std.specs.Result.{ForOk};
+ghost use Rattle.rules.specs.Calls.{Reply, refused, done, ticket, step, amount};
+ghost use Rattle.replies.specs.Replies.{of_out, of_step, of_substitute};
+ghost use Rattle.packing.specs.Packing.{pack_out, pack, reply_of};
 
-use replies::{Marked, Opened, Out, Sealed, Sent, Step, Substituted, Taken, Totalled};
-use sorts::Ticket;
+use refusals::Refusal;
+use replies::{Out, Step, Substitute};
+use sorts::{Ticket, Weight};
+
+// What a call answers that is accepted and has nothing more to say.
+const ACCEPTED: u64 = 0;
 
 // A ticket or an amount stands above the refusal's eight bits.
 const VALUE_PLACE: u64 = 256;
@@ -17,93 +22,96 @@ const OUT_PLACE: u64 = 4294967296;
 
 const LEAP_PLACE: u64 = 17179869184;
 
-pub fn pack_opened(reply: Opened) -> u64
-    ensures { result ≡ pack (of_opened reply) }
+pub fn pack_reply<T: Packed>(reply: Result<T, Refusal>) -> u64
+    requires { ForOk reply T.fits }
+    ensures { result ≡ pack (reply_of T.said reply) }
 {
     match reply {
-        Opened::Done => 0,
-        Opened::Refused(n) => n as u64,
+        Ok(value) => value.packed(),
+        Err(refusal) => pack_refusal(u32::from(refusal)),
     }
 }
 
-pub fn pack_taken(reply: Taken) -> u64
-    ensures { result ≡ pack (of_taken reply) }
+pub fn pack_refusal(number: u32) -> u64
+    ensures { result ≡ pack (refused number) }
 {
-    match reply {
-        Taken::As(ticket) => VALUE_PLACE * (ticket.0 as u64),
-        Taken::Refused(n) => n as u64,
+    u64::from(number)
+}
+
+// What an accepted call answers: the reply that a value says, and whether its number is small enough.
+pub trait Packed {
+    ghost said: { Self → Reply };
+
+    ghost fits: { Self → Type 0 } = { λ _. ⊤ };
+
+    fn packed(self) -> u64
+        requires { fits self }
+        ensures { result ≡ pack (said self) };
+}
+
+impl Packed for () {
+    ghost said = { λ _. done };
+
+    fn packed(self) -> u64 {
+        ACCEPTED
     }
 }
 
-fn pack_ticket(ticket: Ticket, what: u64) -> u64
-    requires { what ≤ 2 }
-    ensures { (result ≡ 256 * ticket.0 + what * 4294967296) × (result ≤ 1108101562368) }
-{
-    VALUE_PLACE * (ticket.0 as u64) + what * OUT_PLACE
+impl Packed for Ticket {
+    ghost said = { λ k. ticket k.0 };
+
+    fn packed(self) -> u64 {
+        VALUE_PLACE * u64::from(self.0)
+    }
 }
 
-fn pack_what(out: Out) -> u64
+impl Packed for Weight {
+    ghost said = { λ w. amount w.0 };
+
+    fn packed(self) -> u64 {
+        VALUE_PLACE * u64::from(self.0)
+    }
+}
+
+// A total, at most that of a full table.
+impl Packed for u64 {
+    ghost said = { amount };
+
+    ghost fits = { λ n. n ≤ 17179869184 };
+
+    fn packed(self) -> u64 {
+        VALUE_PLACE * self
+    }
+}
+
+impl Packed for Step {
+    ghost said = { λ s. step (of_step s) };
+
+    fn packed(self) -> u64 {
+        match self {
+            Step::Ordinary(out) => pack_out(out),
+            Step::Leap(out) => pack_out(out) + LEAP_PLACE,
+        }
+    }
+}
+
+fn pack_out(out: Out) -> u64
     ensures { (result ≡ pack_out (of_out out)) × (result ≤ 1108101562368) }
 {
     match out {
         Out::Silence => 0,
-        Out::Frame(ticket) => pack_ticket(ticket, 1),
-        Out::KeptBlank(ticket) => pack_ticket(ticket, 2),
+        Out::Frame(ticket) => ticket.packed() + OUT_PLACE,
+        Out::KeptBlank(ticket) => ticket.packed() + 2 * OUT_PLACE,
     }
 }
 
-pub fn pack_sent(reply: Sent) -> u64
-    ensures { result ≡ pack (of_sent reply) }
-{
-    match reply {
-        Sent::Went(step) => pack_step(step),
-        Sent::Refused(n) => n as u64,
-    }
-}
+impl Packed for Substitute {
+    ghost said = { of_substitute };
 
-fn pack_step(went: Step) -> u64
-    ensures { result ≡ pack (step (of_step went)) }
-{
-    match went {
-        Step::Ordinary(out) => pack_what(out),
-        Step::Leap(out) => pack_what(out) + LEAP_PLACE,
-    }
-}
-
-pub fn pack_sealed(reply: Sealed) -> u64
-    ensures { result ≡ pack (of_sealed reply) }
-{
-    match reply {
-        Sealed::Closed => 0,
-        Sealed::Refused(n) => n as u64,
-    }
-}
-
-pub fn pack_marked(reply: Marked) -> u64
-    ensures { result ≡ pack (of_marked reply) }
-{
-    match reply {
-        Marked::At(weight) => VALUE_PLACE * (weight.0 as u64),
-        Marked::Refused(n) => n as u64,
-    }
-}
-
-pub fn pack_totalled(reply: Totalled) -> u64
-    requires { SmallAmount (of_totalled reply) }
-    ensures { result ≡ pack (of_totalled reply) }
-{
-    match reply {
-        Totalled::Of(n) => VALUE_PLACE * n,
-        Totalled::Refused(n) => n as u64,
-    }
-}
-
-pub fn pack_substituted(reply: Substituted) -> u64
-    ensures { result ≡ pack (of_substituted reply) }
-{
-    match reply {
-        Substituted::Row(ticket) => VALUE_PLACE * (ticket.0 as u64),
-        Substituted::Blank(slot) => OUT_PLACE * (slot.0 as u64),
-        Substituted::Refused(n) => n as u64,
+    fn packed(self) -> u64 {
+        match self {
+            Substitute::Row(ticket) => ticket.packed(),
+            Substitute::Blank(slot) => OUT_PLACE * u64::from(slot.0),
+        }
     }
 }

@@ -8,12 +8,11 @@ use native.Mathlib.Omega.{arith}
 use lib.Dec.{ltb, eqb}
 use lib.ListN.{length, get_or, take}
 use lib.Seq.{take_all}
-use borrow.Author.Tests.{lt-ltb, le-ltb}
 use Rattle.rules.specs.Rows.{Row, Round, blank, heavier, chosen, All}
 use Rattle.theory.specs.Tests.{either, leb?, eqb?}
 use Rattle.theory.specs.Sum.{sum, sum_le}
 use Rattle.theory.specs.All.{all_map}
-use Rattle.theory.specs.Feas.{below, below?, num, below_yes, below_late, due_below, Feas, feas_made}
+use Rattle.theory.specs.Feas.{below, num, below_yes, below_late, due_below, Feas, feas_made}
 use Rattle.theory.specs.Full.{Fine}
 use Rattle.theory.specs.Border.{within, many, within_yes}
 use Rattle.theory.specs.Unique.{LeftOut, unchosen, within_below, all_within}
@@ -29,8 +28,8 @@ use Rattle.keys.specs.DueSums.{each, before_slot}
 use Rattle.keys.proofs.DueSums.{each_le, each_same, each_more, placed_sum}
 use Rattle.leaving.specs.Sweep.{tally, before, smaller, Barred, Queue, Swept, Parted}
 use Rattle.leaving.specs.Sweep.{key_on, row_on, ahead_on, weight_on, kept?, kept_on, left_on}
-use Rattle.leaving.proofs.TallyLaws.{tally_nothing, tally_le, tally_both, tally_some, tally_more, before?, before_yes, before_no, smaller?, smaller_1}
-use Rattle.plan.proofs.QueueLaws.{rows_from, in_rows, key_is, row_on_is, ahead_on_is, weight_on_is, queue}
+use Rattle.leaving.proofs.TallyLaws.{tally_nothing, tally_le, tally_both, tally_some, before?, before_yes, before_no, smaller?, smaller_1}
+use Rattle.plan.proofs.QueueLaws.{rows_from, key_is, row_on_is, ahead_on_is, weight_on_is, queue}
 
 -- SUMS OVER ROWS WITH A FLAG, and over all
 pub chosen_part : (μ : Row → ℕ) (z : Row) (fs : List ℕ) (xs : List Row) → length fs ≡ length xs → (i : ℕ) → i ≤ length xs →

@@ -1,31 +1,27 @@
 -- From what is lent to the plan, step by step.
-use mathlib.Core.Path.{◌≡◌, refl, sym, ap, ◌∙◌}
+use mathlib.Core.Path.{◌≡◌, sym, ap, ◌∙◌}
 use mathlib.Core.Logic.{◌⊎◌, inl, inr}
 use mathlib.Core.Bool.{Bool, true}
 use mathlib.Core.List.{List}
-use Prim.Native.Nat.{ℕ, zero, suc, ◌+◌, ◌*◌, ◌-◌, ◌/◌, ◌%◌, ◌≤◌, ◌<◌, min}
+use Prim.Native.Nat.{ℕ, zero, suc, ◌+◌, ◌-◌, ◌≤◌}
 use native.Mathlib.Omega.{arith}
-use lib.ListN.{length, get_or, take, replicate, length-replicate}
+use lib.ListN.{length, get_or, replicate, length-replicate}
 use Rattle.rules.specs.Rows.{Round}
 use Rattle.rules.specs.Table.{round_in}
 use Rattle.theory.specs.Tests.{leb?}
 use Rattle.theory.specs.Sum.{sum}
-use Rattle.theory.specs.Feas.{num}
-use Rattle.theory.specs.Count.{under, in_bucket, Sweep, counts_next, counts_below, counts_none, sweep_at, sweep_left}
+use Rattle.theory.specs.Count.{under, Sweep, counts_next, counts_below, counts_none, sweep_at, sweep_left}
 use Rattle.sorts.specs.declared.Round.{Round as Head}
-use Rattle.round.specs.Rows.{Ready, at, top_of}
-use Rattle.round.specs.Buckets.{Counted}
+use Rattle.round.specs.Rows.{top_of}
 use Rattle.round.proofs.ReadLaws.{known}
-use Rattle.keys.specs.Key.{blank_key, key_at}
+use Rattle.keys.specs.Key.{blank_key}
 use Rattle.keys.specs.Sorted.{many_due, placed, Sorted}
-use Rattle.keys.specs.DueOrder.{in_slot}
 use Rattle.keys.proofs.DueOrder.{many_is, place}
-use Rattle.buckets.specs.Reach.{Reaches}
 use Rattle.buckets.specs.declared.Reach.{Reach}
 use Rattle.plan.specs.declared.Planned.{Planned}
 use Rattle.plan.specs.Plans.{Lent, HeaviestFrom, Plans}
 use Rattle.queue.specs.Sorting.{upto, Startable, Started, Sorting}
-use Rattle.leaving.specs.Sweep.{EmptyHeap, Crowd, Parted, row_on}
+use Rattle.leaving.specs.Sweep.{EmptyHeap, Crowd, Parted}
 use Rattle.plan.proofs.QueueLaws.{rows_from, many_rows, in_rows, row_on_is, queue}
 use Rattle.plan.proofs.ChosenLaws.{chosen_left, lost_is}
 

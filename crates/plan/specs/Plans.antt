@@ -1,5 +1,5 @@
 -- What a plan is made from, and what it tells.
-use Rattle.std.specs.Prelude.{◌≡◌, Bool, true, List, ℕ, ◌+◌, ◌%◌, ◌≤◌, ◌<◌, length, replicate}
+use Rattle.std.specs.Prelude.{◌≡◌, Bool, true, List, ℕ, ◌+◌, ◌≤◌, ◌<◌, length, replicate}
 use Rattle.rules.specs.Rows.{Round}
 use Rattle.rules.specs.Table.{round_in}
 use Rattle.theory.specs.Sum.{sum}

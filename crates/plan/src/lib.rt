@@ -7,7 +7,7 @@ ghost use Rattle.plan.specs.Plans.{Lent, Plans};
 use buckets::Reach;
 use leaving::leave_out;
 use queue::{sort, starts};
-use sorts::Round;
+use round::read::Sound;
 
 // How many near rows there are, the key of the heaviest other one where it is asked for, and the weight of all rows left out.
 #[derive(Clone, Copy)]
@@ -19,20 +19,19 @@ pub struct Planned {
 
 // Counts are the scan's and are used up; keys get the near rows' in due order; flags, 1 before, become 0 for rows left out.
 pub fn plan_of(
-    table: &[u8],
+    sound: &Sound,
     counts: &mut [u32],
     keys: &mut [u64],
     flags: &mut [u8],
     heap: &mut [u64],
-    round: Round,
     reach: Reach,
     asked: bool,
 ) -> Planned
-    requires { Lent table.now counts.old keys.old flags.old heap.old round reach }
-    ensures { Plans (round_in table.now) reach asked keys.new flags.new result }
+    requires { Lent sound.now.table.now counts.old keys.old flags.old heap.old sound.now.round reach }
+    ensures { Plans (round_in sound.now.table.now) reach asked keys.new flags.new result }
 {
     let many = starts(counts, reach.free);
-    let far = sort(table, counts, keys, round, reach.free, asked);
-    let lost = leave_out(keys, flags, heap, round.slot, reach);
+    let far = sort(sound, counts, keys, reach.free, asked);
+    let lost = leave_out(keys, flags, heap, sound.round.slot, reach);
     Planned { many, far, lost }
 }

@@ -6,7 +6,7 @@ ghost use Rattle.rules.specs.Calls.{refused, ticket};
 ghost use Rattle.rules.specs.Lines.{reply_room, reply_text};
 ghost use Rattle.replying.specs.Replying.{Replies, bare_text, step_text};
 
-use digits::{LINE_END, SHORT_DIGITS, WIDE_DIGITS, put_number};
+use digits::{LINE_END, put_number};
 use sorts::Ticket;
 
 // The room that each reply's line fits in.
@@ -17,7 +17,7 @@ pub fn write_bare_in_room(number: u32, buffer: &mut [u8]) -> usize
     requires { reply_room ≤ length buffer.old }
     ensures { Replies (bare_text number) buffer.old buffer.new result }
 {
-    put_number(number, SHORT_DIGITS, 0, buffer);
+    put_number(number, &mut buffer[0..2]);
     buffer[2] = LINE_END;
     3
 }
@@ -27,8 +27,8 @@ pub fn write_ticket_in_room(given: Ticket, buffer: &mut [u8]) -> usize
     requires { reply_room ≤ length buffer.old }
     ensures { Replies (reply_text (ticket given.0)) buffer.old buffer.new result }
 {
-    put_number(1, SHORT_DIGITS, 0, buffer);
-    put_number(given.0, WIDE_DIGITS, 2, buffer);
+    put_number(1, &mut buffer[0..2]);
+    put_number(given.0, &mut buffer[2..10]);
     buffer[10] = LINE_END;
     11
 }
@@ -39,10 +39,10 @@ pub fn write_step_in_room(out: u32, leap: u32, gone: Ticket, buffer: &mut [u8]) 
     requires { reply_room ≤ length buffer.old }
     ensures { Replies (step_text out leap gone.0) buffer.old buffer.new result }
 {
-    put_number(2, SHORT_DIGITS, 0, buffer);
-    put_number(out, SHORT_DIGITS, 2, buffer);
-    put_number(leap, SHORT_DIGITS, 4, buffer);
-    put_number(gone.0, WIDE_DIGITS, 6, buffer);
+    put_number(2, &mut buffer[0..2]);
+    put_number(out, &mut buffer[2..4]);
+    put_number(leap, &mut buffer[4..6]);
+    put_number(gone.0, &mut buffer[6..14]);
     buffer[14] = LINE_END;
     15
 }
@@ -52,8 +52,8 @@ pub fn write_refusal_in_room(number: u32, buffer: &mut [u8]) -> usize
     requires { reply_room ≤ length buffer.old }
     ensures { Replies (reply_text (refused number)) buffer.old buffer.new result }
 {
-    put_number(255, SHORT_DIGITS, 0, buffer);
-    put_number(number, SHORT_DIGITS, 2, buffer);
+    put_number(255, &mut buffer[0..2]);
+    put_number(number, &mut buffer[2..4]);
     buffer[4] = LINE_END;
     5
 }

@@ -2,7 +2,7 @@
 use mathlib.Core.Path.{◌≡◌, sym, ap, ◌∙◌}
 use mathlib.Core.Bool.{Bool, true, false, ◌&&◌, cond}
 use mathlib.Core.List.{List}
-use Prim.Native.Nat.{ℕ, ◌+◌, ◌-◌, ◌/◌, ◌%◌, ◌≤◌, ◌<◌}
+use Prim.Native.Nat.{ℕ, ◌+◌, ◌-◌, ◌/◌, ◌%◌, ◌≤◌}
 use native.Mathlib.Omega.{arith}
 use lib.Dec.{leb, eqb}
 use borrow.Author.Tests.{leb-true, eqb-true}
@@ -16,8 +16,7 @@ use Rattle.theory.specs.Judge.{zeros, head_judged, judged}
 use Rattle.theory.specs.Judged.{judged_refusal}
 use Rattle.theory.specs.Checks.{refusal_two}
 use Rattle.sorts.specs.declared.Round.{Round as Head}
-use Rattle.std.specs.Prelude.{Result, Ok, Err}
-use Rattle.refusals.specs.declared.Refusal.{Refusal}
+use Rattle.std.specs.Prelude.{Ok}
 use Rattle.head.specs.Head.{HeadOf}
 use Rattle.round.specs.Scan.{RowsLent, all_judged, RowsSay}
 use Rattle.round.specs.Judge.{Refuses, JudgeSays, ScanSays}
@@ -36,6 +35,13 @@ pub record HeadSound (t : List ℕ) (h : Head) : Type 0 where
   pub good : length_good (length t) ≡ true
   pub head : HeadOf t h
   pub sound : head_judged t ≡ true
+
+-- a length that is found good has a head; a head found sound in it, with the bytes that the slice has
+pub good_here : (t : List ℕ) (x : Bool) → x ≡ length_good (length t) → x ≡ true → length_good (length t) ≡ true
+good_here t x e f = sym e ∙ f
+
+pub head_here : (t : List ℕ) (h : Head) (x y : Bool) → Bytes t → x ≡ length_good (length t) → x ≡ true → HeadOf t h → y ≡ head_judged t → y ≡ true → HeadSound t h
+head_here t h x y b e f k p q = record { bytes = b; good = sym e ∙ f; head = k; sound = sym p ∙ q }
 
 -- the used rows of a sound head lie within the table, and whole rows follow them
 pub record RowsFit (t : List ℕ) (h : Head) : Type 0 where

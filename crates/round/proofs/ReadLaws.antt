@@ -8,6 +8,9 @@ use Rattle.rules.specs.Limits.{head_size}
 use Rattle.rules.specs.Rows.{Row, row, round, blank}
 use Rattle.rules.specs.Table.{rows_in, round_in}
 use Rattle.rules.specs.Conditions.{row_at, used_in, ticket_in, due_in, weight_in, kind_in, class_in}
+use mathlib.Core.Logic.{inl, inr, ◌≢◌}
+use lib.Dec.{eqb}
+use Rattle.theory.specs.Tests.{eqb?}
 use Rattle.theory.specs.All.{all_in}
 use Rattle.theory.specs.Bounds.{RowFine, TailFine}
 use Rattle.theory.specs.Full.{Fine}
@@ -17,7 +20,7 @@ use Rattle.theory.specs.Sane.{sound}
 use Rattle.theory.specs.Clauses.{rows_count, length_long, accepted_length}
 use Rattle.theory.specs.Soundness.{row_in, row_there, row_next}
 use Rattle.sorts.specs.declared.Round.{Round as Head}
-use Rattle.round.specs.Rows.{Ready, TicketAt, DueAt, WeightAt, KindAt, ClassAt, at}
+use Rattle.round.specs.Rows.{Ready, TicketAt, DueAt, WeightAt, KeptAt, ClassAt, at}
 
 -- WHAT A READY TABLE IS: its round is sound and small, and the head's numbers are the round's
 pub record Known (t : List ℕ) (h : Head) : Type 0 where
@@ -104,15 +107,23 @@ ticket_read t h i k r l e =
     (getD_in (round_in t).rows (blank 0) i (omega (arith, l, n.used))) in
     record { is = is; some = omega (arith, is, some) }
 
-pub kind_read : (t : List ℕ) (h : Head) (i k : ℕ) → Ready t h → i < h.used → k ≡ kind_in t i → KindAt (round_in t) i k
+tails_fine : (t : List ℕ) (h : Head) (i : ℕ) → Ready t h → i < h.used → TailFine (at (round_in t) i)
+tails_fine t h i r l =
+    all_in TailFine (at (round_in t) i) (round_in t).rows (sound t r.sound).sane.size.tails
+    (getD_in (round_in t).rows (blank 0) i (omega (arith, l, (known t h r).used)))
+
+pub kept_read : (t : List ℕ) (h : Head) (i k : ℕ) → Ready t h → i < h.used → k ≡ kind_in t i → KeptAt (round_in t) i (eqb k 1)
 unfolding row
-kind_read t h i k r l e = e ∙ sym (ap (λ (x : Row). x.tail.kind) (at_is t h r i l))
+kept_read t h i k r l e =
+    let is : k ≡ (at (round_in t) i).tail.kind = e ∙ sym (ap (λ (x : Row). x.tail.kind) (at_is t h r i l)) in
+    let kinds = (tails_fine t h i r l).kinds in
+    elim (eqb? k 1) [
+      | inl a ↦ rw a.0 (omega (arith, is, a.1))
+      | inr a ↦ let n = a.1 in rw a.0 (omega (arith, is, n, kinds))
+    ]
 
 pub class_read : (t : List ℕ) (h : Head) (i c : ℕ) → Ready t h → i < h.used → c ≡ class_in t i → ClassAt (round_in t) i c
 unfolding row
 class_read t h i c r l e =
-    let n = known t h r in
     let is : c ≡ (at (round_in t) i).tail.class = e ∙ sym (ap (λ (x : Row). x.tail.class) (at_is t h r i l)) in
-    let fine = all_in TailFine (at (round_in t) i) (round_in t).rows (sound t r.sound).sane.size.tails
-    (getD_in (round_in t).rows (blank 0) i (omega (arith, l, n.used))) in
-    record { is = is; most = omega (arith, is, fine.classes) }
+    record { is = is; most = omega (arith, is, (tails_fine t h i r l).classes) }

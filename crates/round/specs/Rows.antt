@@ -1,5 +1,5 @@
 -- A sound table's rows by index: ticket, due slot, weight, kind, class and bucket.
-use Rattle.std.specs.Prelude.{◌≡◌, List, ℕ, ◌-◌, ◌≤◌, min, length, get_or}
+use Rattle.std.specs.Prelude.{Bool, cond, ◌≡◌, List, ℕ, ◌-◌, ◌≤◌, min, length, get_or}
 use Rattle.rules.specs.Limits.{most_last, most_weight, most_class}
 use Rattle.rules.specs.Rows.{Row, Round, blank}
 use Rattle.rules.specs.Table.{table_refusal}
@@ -39,8 +39,8 @@ pub record TicketAt (r : Round) (i k : ℕ) : Type 0 where
   pub is : k ≡ (at r i).ticket
   pub some : 1 ≤ k
 
-abbrev pub KindAt : Round → (row kind : ℕ) → Type 0
-KindAt r i k = k ≡ (at r i).tail.kind
+abbrev pub KeptAt : Round → (row : ℕ) → (kept : Bool) → Type 0
+KeptAt r i b = (at r i).tail.kind ≡ cond b 1 0
 
 pub record ClassAt (r : Round) (i c : ℕ) : Type 0 where
   pub is : c ≡ (at r i).tail.class

@@ -1,7 +1,7 @@
 // A sound table's rows read: ticket, due slot, weight, kind, class, and the bucket of a due slot.
 ghost use Rattle.std.specs.Prelude.{◌≡◌, ◌-◌, ◌≤◌, ◌<◌, min};
 ghost use Rattle.rules.specs.Table.{round_in};
-ghost use Rattle.round.specs.Rows.{Ready, TicketAt, DueAt, WeightAt, KindAt, ClassAt};
+ghost use Rattle.round.specs.Rows.{Ready, TicketAt, DueAt, WeightAt, KeptAt, ClassAt};
 
 use row::entry::{class_in, due_in, kind_in, ticket_in, weight_in};
 use sorts::{Round, Ticket};
@@ -11,11 +11,7 @@ pub fn top_of(round: Round) -> usize
     requires { round.slot.0 ≤ round.last.0 }
     ensures { result ≡ min round.used (round.last.0 - round.slot.0) }
 {
-    let left = (round.last.0 - round.slot.0) as usize;
-    if round.used < left {
-        return round.used;
-    }
-    left
+    round.used.min((round.last.0 - round.slot.0) as usize)
 }
 
 // A sound table in whose round a slot is left, with its head as a value.
@@ -48,12 +44,12 @@ impl<'a> Sound<'a> {
         weight_in(self.table, row)
     }
 
-    // 1 for a kept blank, 0 for a frame.
-    pub fn kind_at(&self, row: usize) -> u8
+    // Whether the row holds a kept blank in place of a frame.
+    pub fn is_kept(&self, row: usize) -> bool
         requires { row < self.now.round.used }
-        ensures { KindAt (round_in self.now.table.now) row result }
+        ensures { KeptAt (round_in self.now.table.now) row result }
     {
-        kind_in(self.table, row)
+        kind_in(self.table, row) == 1
     }
 
     pub fn class_at(&self, row: usize) -> u32

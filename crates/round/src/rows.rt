@@ -1,52 +1,20 @@
 // The used rows in turn: judged, and counted by bucket.
-ghost use Rattle.std.specs.Prelude.{◌≡◌};
+ghost use Rattle.std.specs.Prelude.{◌≡◌, true};
 ghost use Rattle.round.specs.Buckets.{LentCounts};
 ghost use Rattle.round.specs.Scan.{RowsLent, all_judged, RowsSay};
 
-use crate::read::{cut, top_of};
+use crate::read::top_of;
 use kinds::all_pass;
 use row::judge::see_row;
 use row::row_at;
 use seen::{Seen, row_follows};
 use sorts::{Round, Ticket};
 
-// The judge of every used row, in turn.
-pub fn rows_are_sound(table: &[u8], round: Round) -> bool
-    requires { RowsLent table.now round }
-    ensures { result ≡ all_judged table.now round }
-{
-    if round.used == 0 {
-        return true;
-    }
-    if round.last.0 < round.slot.0 {
-        return false;
-    }
-    let span = round.last.0 - round.slot.0;
-    let used = round.used;
-    let mut seen = Seen {
-        ticket: Ticket(0),
-        ahead: 0,
-        weights: 0,
-        plain: 0,
-    };
-    let mut i: usize = 0;
-    while i < used {
-        let a = row_at(i);
-        let e = a + Round::ROW_SIZE;
-        let before = seen.ticket;
-        seen = see_row(&table[a..e], round.slot, seen);
-        if !row_follows(before, seen, span) {
-            return false;
-        }
-        i += 1;
-    }
-    all_pass(table, round.used, round.next, seen)
-}
-
-// The same, and 2,048 counted for each row in its bucket.
-pub fn rows_are_counted(table: &[u8], counts: &mut [u32], round: Round) -> bool
-    requires { RowsLent table.now round × LentCounts table.now counts.old }
-    ensures { RowsSay table.now round counts.new result }
+// The judge of every used row, in turn; where they are to be counted, each adds 2,048 in its bucket.
+pub fn rows_pass<const COUNTED: bool>(table: &[u8], counts: &mut [u32], round: Round) -> bool
+    requires { RowsLent table.now round × (COUNTED ≡ true → LentCounts table.now counts.old) }
+    ensures judged { result ≡ all_judged table.now round }
+    ensures counted { COUNTED ≡ true → RowsSay table.now round counts.new result }
 {
     if round.used == 0 {
         return true;
@@ -56,15 +24,13 @@ pub fn rows_are_counted(table: &[u8], counts: &mut [u32], round: Round) -> bool
     }
     let span = round.last.0 - round.slot.0;
     let top = top_of(round);
-    let used = round.used;
     let mut seen = Seen {
         ticket: Ticket(0),
         ahead: 0,
         weights: 0,
         plain: 0,
     };
-    let mut i: usize = 0;
-    while i < used {
+    for i in 0..round.used {
         let a = row_at(i);
         let e = a + Round::ROW_SIZE;
         let before = seen.ticket;
@@ -72,9 +38,10 @@ pub fn rows_are_counted(table: &[u8], counts: &mut [u32], round: Round) -> bool
         if !row_follows(before, seen, span) {
             return false;
         }
-        let b = cut(seen.ahead as usize, top);
-        counts[b] = counts[b] + 2048;
-        i += 1;
+        if COUNTED {
+            let b = (seen.ahead as usize).min(top);
+            counts[b] += 2048;
+        }
     }
     all_pass(table, round.used, round.next, seen)
 }

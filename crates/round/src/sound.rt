@@ -1,7 +1,8 @@
 // The judge of a whole table, and the scan: the same, with the rows counted by bucket.
+ghost use Rattle.std.specs.Prelude.{◌≡◌, true};
 ghost use Rattle.round.specs.Judge.{JudgeSays, ScanAsks, ScanSays};
 
-use crate::rows::{rows_are_counted, rows_are_sound};
+use crate::rows::rows_pass;
 use head::{head_is_sound, read_head};
 use limits::length_is_good;
 use refusals::Refusal;
@@ -13,26 +14,22 @@ use zeros::zeros_from;
 pub fn judge(table: &[u8]) -> Result<Round, Refusal>
     ensures { JudgeSays table.now result }
 {
-    if !length_is_good(table.len()) {
-        return Err(Refusal::BadLength);
-    }
-    let round = read_head(table);
-    if !head_is_sound(table, round) {
-        return Err(Refusal::NotSound);
-    }
-    if !rows_are_sound(table, round) {
-        return Err(Refusal::NotSound);
-    }
-    if !zeros_from(table, row_at(round.used)) {
-        return Err(Refusal::NotSound);
-    }
-    Ok(round)
+    judged::<false>(table, &mut [])
 }
 
 // Where a slot is left, counts gets 2,048 for each row in its bucket.
 pub fn scan(table: &[u8], counts: &mut [u32]) -> Result<Round, Refusal>
     requires { ScanAsks table.now counts.old }
     ensures { ScanSays table.now counts.new result }
+{
+    judged::<true>(table, counts)
+}
+
+// The judge, with the rows counted or not.
+fn judged<const COUNTED: bool>(table: &[u8], counts: &mut [u32]) -> Result<Round, Refusal>
+    requires { COUNTED ≡ true → ScanAsks table.now counts.old }
+    ensures judged { JudgeSays table.now result }
+    ensures counted { COUNTED ≡ true → ScanSays table.now counts.new result }
 {
     if !length_is_good(table.len()) {
         return Err(Refusal::BadLength);
@@ -41,7 +38,7 @@ pub fn scan(table: &[u8], counts: &mut [u32]) -> Result<Round, Refusal>
     if !head_is_sound(table, round) {
         return Err(Refusal::NotSound);
     }
-    if !rows_are_counted(table, counts, round) {
+    if !rows_pass::<COUNTED>(table, counts, round) {
         return Err(Refusal::NotSound);
     }
     if !zeros_from(table, row_at(round.used)) {

@@ -1,12 +1,12 @@
 -- A row's numbers stored in a table.
-use Rattle.std.proofs.Common.{◌≡◌, ℕ, suc, ◌+◌, List, ap, ◌∙◌, arith}
+use Rattle.std.proofs.Common.{◌≡◌, ℕ, suc, ◌+◌, List, ◌∙◌, arith}
 use lib.Seq.{sets}
 use Rattle.rules.specs.Limits.{ticket_at, due_at, weight_at, kind_at, class_at, slot_bytes, wide_bytes, class_bytes, kind_bytes, most_class}
 use Rattle.rules.specs.Rows.{framed, row}
 use Rattle.rules.specs.Conditions.{row_at}
 use Rattle.rules.specs.Table.{low, put}
 use Rattle.row.specs.Numbers.{row_numbers}
-use Rattle.row.specs.Written.{with_shift, with_weight, with_kept}
+use Rattle.row.specs.Written.{with_shift, with_kept}
 
 -- A ROW's five stores are one; the class z is stored at b
 pub row_stored : (t u v w x y : List ℕ) (a k d m c b z : ℕ) → u ≡ sets t (a + ticket_at) (low wide_bytes k) → v ≡ sets u (a + due_at) (low slot_bytes d) →
@@ -27,9 +27,6 @@ pub shift_stored : (t u v : List ℕ) (at i d w : ℕ) → at ≡ row_at i → u
 unfolding low
 shift_stored t u v at i d w e f g =
     let a : at + 6 ≡ suc (suc (at + 4)) = omega arith in g ∙ (rw (f, a, e))
-
-pub weight_stored : (t u : List ℕ) (at i w : ℕ) → at ≡ row_at i → u ≡ sets t (at + weight_at) (low wide_bytes w) → u ≡ with_weight t i w
-weight_stored t u at i w e f = f ∙ ap (λ (a : ℕ). sets t (a + weight_at) (low wide_bytes w)) e
 
 pub kept_stored : (t u v x : List ℕ) (at i d w : ℕ) → at ≡ row_at i → u ≡ with_shift t i d w → v ≡ sets u (at + kind_at) (low kind_bytes 1) →
     x ≡ sets v (at + class_at) (low class_bytes most_class) → x ≡ with_kept t i d w

@@ -1,35 +1,37 @@
 // A row's numbers read, by its bytes alone.
+// Kept: callers hold a table that changes and a row that counts up, so a struct of both would be made anew for each number.
 ghost use Rattle.std.specs.Prelude.{◌≡◌, suc, ◌<◌, ◌≤◌, length};
 ghost use Rattle.rules.specs.Limits.{most_rows};
 ghost use Rattle.rules.specs.Conditions.{row_at, ticket_in, due_in, weight_in, kind_in, class_in};
 ghost use Rattle.row.specs.Entry.{EntryIn};
 
 use crate::row_at;
-use numbers::{read1, read2, read4};
+use numbers::read;
 use sorts::{Round, Slot, Ticket, Weight};
 
 pub fn ticket_in(table: &[u8], row: usize) -> u32
     requires { (row < most_rows) × (row_at (suc row) ≤ length table.now) }
     ensures { result ≡ ticket_in table.now row }
 {
-    read4(table, row_at(row) + Round::TICKET_AT)
+    read::<4>(table, row_at(row) + Round::TICKET_AT)
 }
 
 pub fn due_in(table: &[u8], row: usize) -> u32
     requires { (row < most_rows) × (row_at (suc row) ≤ length table.now) }
     ensures { result ≡ due_in table.now row }
 {
-    read2(table, row_at(row) + Round::DUE_AT)
+    read::<2>(table, row_at(row) + Round::DUE_AT)
 }
 
 pub fn weight_in(table: &[u8], row: usize) -> u32
     requires { (row < most_rows) × (row_at (suc row) ≤ length table.now) }
     ensures { result ≡ weight_in table.now row }
 {
-    read4(table, row_at(row) + Round::WEIGHT_AT)
+    read::<4>(table, row_at(row) + Round::WEIGHT_AT)
 }
 
 // 1 for a kept blank, 0 for a frame.
+// Kept: any byte may stand here in a table that is not judged yet, so a kind is a number and no enum.
 pub fn kind_in(table: &[u8], row: usize) -> u8
     requires { (row < most_rows) × (row_at (suc row) ≤ length table.now) }
     ensures { result ≡ kind_in table.now row }
@@ -41,7 +43,7 @@ pub fn class_in(table: &[u8], row: usize) -> u32
     requires { (row < most_rows) × (row_at (suc row) ≤ length table.now) }
     ensures { result ≡ class_in table.now row }
 {
-    read1(table, row_at(row) + Round::CLASS_AT)
+    read::<1>(table, row_at(row) + Round::CLASS_AT)
 }
 
 #[derive(Clone, Copy)]

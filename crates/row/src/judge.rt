@@ -3,7 +3,7 @@ ghost use Rattle.std.specs.Prelude.{◌≡◌, length};
 ghost use Rattle.rules.specs.Limits.{row_size};
 ghost use Rattle.row.specs.Judge.{Differs, Sees, kind_good};
 
-use numbers::{read2, read4, read8};
+use numbers::{read, read8};
 use seen::{Seen, goes_with};
 use sorts::{Round, Slot, Ticket};
 
@@ -15,9 +15,9 @@ pub fn see_row(row: &[u8], slot: Slot, seen: Seen) -> Seen
     // A word is below 1,024 when its second byte is at most 3 and those behind it are zero; two that overlap hold kind, class and zeros.
     let plain = read8(row, Round::KIND_AT) | read8(row, Round::ROW_SIZE - 8);
     Seen {
-        ticket: Ticket(read4(row, Round::TICKET_AT)),
-        ahead: less(read2(row, Round::DUE_AT), slot.0),
-        weights: seen.weights | less(read4(row, Round::WEIGHT_AT), 1),
+        ticket: Ticket(read::<4>(row, Round::TICKET_AT)),
+        ahead: less(read::<2>(row, Round::DUE_AT), slot.0),
+        weights: seen.weights | less(read::<4>(row, Round::WEIGHT_AT), 1),
         plain: seen.plain | plain,
     }
 }
@@ -26,7 +26,7 @@ pub fn see_row(row: &[u8], slot: Slot, seen: Seen) -> Seen
 fn less(a: u32, b: u32) -> u32
     ensures { Differs a b result }
 {
-    std::num::wrapping_sub_u32(a, b)
+    a.wrapping_sub(b)
 }
 
 // The class of a row goes with its kind.

@@ -1,61 +1,53 @@
-// A call's reply, as its enum has it, said as a line in a lent buffer.
+// What a call answers, said as a line in a lent buffer.
 #![tactic(auto)]
 
 ghost use Rattle.std.specs.Prelude.{◌≤◌, length};
-ghost use Rattle.rules.specs.Calls.{step};
+ghost use Rattle.rules.specs.Calls.{refused, step};
 ghost use Rattle.rules.specs.Lines.{reply_room, reply_text};
-ghost use Rattle.replies.specs.Replies.{of_opened, of_taken, of_out, of_step, of_sent, of_sealed};
+ghost use Rattle.refusals.specs.Refusals.{refusal_number};
+ghost use Rattle.replies.specs.Replies.{of_out, of_step};
 ghost use Rattle.replying.specs.Replying.{Replies, step_text, out_number, out_ticket};
+ghost use Rattle.saying.specs.Saying.{of_said};
 
-use replies::{Opened, Out, Sealed, Sent, Step, Taken};
+use refusals::Refusal;
+use replies::{Out, Step};
 use replying::{
     write_bare_in_room, write_refusal_in_room, write_step_in_room, write_ticket_in_room,
 };
 use sorts::Ticket;
+
+// What a call did that was not refused; each has its own line.
+#[derive(Clone, Copy)]
+pub enum Accepted {
+    Opened,
+    Taken(Ticket),
+    Sent(Step),
+    Sealed,
+}
 
 // The whole of an opening's line, and of a sealing's.
 const DONE: u32 = 0;
 
 const CLOSED: u32 = 3;
 
-pub fn say_opened(opened: Opened, reply: &mut [u8]) -> usize
+pub fn say(said: Result<Accepted, Refusal>, reply: &mut [u8]) -> usize
     requires { reply_room ≤ length reply.old }
-    ensures { Replies (reply_text (of_opened opened)) reply.old reply.new result }
+    ensures { Replies (reply_text (of_said said)) reply.old reply.new result }
 {
-    match opened {
-        Opened::Done => write_bare_in_room(DONE, reply),
-        Opened::Refused(n) => write_refusal_in_room(n, reply),
+    match said {
+        Ok(Accepted::Opened) => write_bare_in_room(DONE, reply),
+        Ok(Accepted::Taken(ticket)) => write_ticket_in_room(ticket, reply),
+        Ok(Accepted::Sent(step)) => say_step(step, reply),
+        Ok(Accepted::Sealed) => write_bare_in_room(CLOSED, reply),
+        Err(refusal) => say_refusal(refusal, reply),
     }
 }
 
-pub fn say_taken(taken: Taken, reply: &mut [u8]) -> usize
+pub fn say_refusal(refusal: Refusal, reply: &mut [u8]) -> usize
     requires { reply_room ≤ length reply.old }
-    ensures { Replies (reply_text (of_taken taken)) reply.old reply.new result }
+    ensures { Replies (reply_text (refused (refusal_number refusal))) reply.old reply.new result }
 {
-    match taken {
-        Taken::As(ticket) => write_ticket_in_room(ticket, reply),
-        Taken::Refused(n) => write_refusal_in_room(n, reply),
-    }
-}
-
-pub fn say_sent(sent: Sent, reply: &mut [u8]) -> usize
-    requires { reply_room ≤ length reply.old }
-    ensures { Replies (reply_text (of_sent sent)) reply.old reply.new result }
-{
-    match sent {
-        Sent::Went(step) => say_step(step, reply),
-        Sent::Refused(n) => write_refusal_in_room(n, reply),
-    }
-}
-
-pub fn say_sealed(sealed: Sealed, reply: &mut [u8]) -> usize
-    requires { reply_room ≤ length reply.old }
-    ensures { Replies (reply_text (of_sealed sealed)) reply.old reply.new result }
-{
-    match sealed {
-        Sealed::Closed => write_bare_in_room(CLOSED, reply),
-        Sealed::Refused(n) => write_refusal_in_room(n, reply),
-    }
+    write_refusal_in_room(u32::from(refusal), reply)
 }
 
 // A step's two numbers.

@@ -44,11 +44,12 @@ pub fn frames_pass(seen: Seen) -> bool
 }
 
 // A frame has any class that is fair, a kept blank its own.
+// Kept: any byte may stand as a kind or a class in a table that is not judged yet, so both are numbers and no enums.
 pub fn goes_with(class: u8, kind: u8) -> bool
     ensures { result ≡ leb kind 1 && (eqb kind 0 || eqb class most_class) }
 {
     if kind == 0 {
         return true;
     }
-    (kind == 1) & (class as u32 == Round::CLASS.0)
+    (kind == 1) & (u32::from(class) == Round::CLASS.0)
 }

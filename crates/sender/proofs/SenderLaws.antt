@@ -29,7 +29,7 @@ use Rattle.whole.specs.Whole as whole
 use Rattle.whole.specs.declared.Whole.{Whole}
 use Rattle.step.specs.Step.{WholeStep}
 use Rattle.went.specs.Send.{Silent, SentSays, LeavesAlone}
-use Rattle.went.specs.declared.Went.{Went}
+use Rattle.replies.specs.declared.Step.{Step}
 use Rattle.went.proofs.SendLaws.{silence_says, num_most}
 use Rattle.first.specs.First.{IsFirst}
 use Rattle.first.proofs.SendLaws.{first_sends}
@@ -119,7 +119,7 @@ module _ {t cs : List ℕ} {h : Head} {x : Reach} (g : whole.Given t cs h x) whe
           sends = first_sends r n.fine n.time r.rows all_rows is_sealed (r.slot + x.free) g.reaches.near (omega (arith, o)) i f;
         }
 
-    pub all_idle : x.free ≡ 0 → {v : List ℕ} {w : Went} → Silent t v w → SentSays t v w
+    pub all_idle : x.free ≡ 0 → {v : List ℕ} {w : Step} → Silent t v w → SentSays t v w
     all_idle o s =
         let r = round_in t in
         let n = known t h g.ready in

@@ -9,15 +9,16 @@ ghost use Rattle.went.specs.Send.{SentSays};
 ghost use Rattle.whole.specs.Whole.{Given};
 
 use buckets::{Reach, reach_of};
-use crowded::{send_few, send_many};
+use crowded::send_in_arrays;
 use first::first_of_all;
+use replies::Step;
 use sorts::Round;
 use step::send_whole;
-use went::{Went, send_row, send_silence};
+use went::{send_row, send_silence};
 use whole::choose_whole;
 
 // No row is left out. A sealed round is silent where rows fill not even the current slot.
-fn send_all(table: &mut [u8], counts: &[u32], round: Round, reach: Reach, expiring: usize) -> Went
+fn send_all(table: &mut [u8], counts: &[u32], round: Round, reach: Reach, expiring: usize) -> Step
     requires { Given table.old counts.now round reach × DueNow table.old expiring }
     ensures { SentSays table.old table.new result }
 {
@@ -29,11 +30,11 @@ fn send_all(table: &mut [u8], counts: &[u32], round: Round, reach: Reach, expiri
         return send_silence(table, round, expiring);
     }
     let row = first_of_all(table, round);
-    send_row(table, round, row, false, expiring)
+    Step::Ordinary(send_row(table, round, row, expiring))
 }
 
 // A slot is left to send. Counts are the scan's.
-pub fn send_sound(table: &mut [u8], counts: &mut [u32], round: Round) -> Went
+pub fn send_sound(table: &mut [u8], counts: &mut [u32], round: Round) -> Step
     requires { Ready table.old round × Counted (round_in table.old) counts.old }
     ensures { SentSays table.old table.new result }
 {
@@ -46,7 +47,7 @@ pub fn send_sound(table: &mut [u8], counts: &mut [u32], round: Round) -> Went
         return send_all(table, counts, round, reach, expiring);
     }
     if round.used <= Round::FEW {
-        return send_few(table, counts, round, reach, expiring);
+        return send_in_arrays::<{ Round::FEW_PLACES }>(table, counts, round, reach, expiring);
     }
-    send_many(table, counts, round, reach, expiring)
+    send_in_arrays::<{ Round::PLACES }>(table, counts, round, reach, expiring)
 }

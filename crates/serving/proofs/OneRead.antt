@@ -1,9 +1,11 @@
 -- One read served: the four ways in which it ends.
+use Rattle.std.specs.Prelude.{Some, None, is_none}
 use mathlib.Core.Path.{◌≡◌, sym, ap, ◌∙◌}
 use mathlib.Core.Bool.{true, false, ◌&&◌, ◌||◌, not, cond}
 use mathlib.Core.List.{List, [], ◌∷◌, ◌++◌, append-nil, append_assoc}
 use Prim.Native.Nat.{ℕ, ◌+◌, ◌-◌, ◌≤◌, ◌<◌}
 use native.Mathlib.Omega.{arith}
+use Rattle.std.specs.List.{copy_within}
 use lib.ListN.{length, take, drop, length-append, length-drop, take-append-drop}
 use lib.Seq.{length-take-le, drop-drop, take-add, take_at, drop_at}
 use borrow.Author.Tests.{lt-ltb, le-ltb, ne_eqb}
@@ -16,23 +18,23 @@ use Rattle.answering.specs.declared.Progress.{Progress}
 use Rattle.answering.specs.Answering.{lines, Answers}
 use Rattle.answering.proofs.Put.{LinePut}
 use Rattle.serving.specs.declared.Served.{Served}
-use Rattle.serving.specs.Serving.{after_read, to_write, Serves, Ending, RefusedBehind, moved_front}
+use Rattle.serving.specs.Serving.{held_in, after_read, to_write, Serves, Ending, RefusedBehind}
 
 -- A READ OF SOME BYTES, by all the bytes that are there then
-record Some (t h x there : List ℕ) : Type 0 where
+record OfSome (t h x there : List ℕ) : Type 0 where
   table : (served t h x).table ≡ run (calls_of (lines there)) t
   held : (served t h x).held ≡ cond (stops (lines there) || overlong (begun_from [] there)) [] (begun_from [] there)
   over : (served t h x).over ≡ (stops (lines there) || overlong (begun_from [] there))
   writes : written t h x
       ≡ printed_from (lines there) t ++ cond (not (stops (lines there)) && overlong (begun_from [] there)) (reply_text (refused 1)) []
 
-some : (t h x there : List ℕ) → 0 < length x → there ≡ h ++ x → Some t h x there
+some : (t h x there : List ℕ) → 0 < length x → there ≡ h ++ x → OfSome t h x there
 unfolding served written
 some t h [] there l e = absurd (omega arith)
 some t h (b ∷ bs) there l e = record { table = rw e; held = rw e; over = rw e; writes = rw e }
 
 some_of : (held got : ℕ) (input t : List ℕ) → 0 < got → held + got ≤ length input →
-    Some t (take held input) (take got (drop held input)) (take (held + got) input)
+    OfSome t (take held input) (take got (drop held input)) (take (held + got) input)
 some_of held got input t g h =
     some t (take held input) (take got (drop held input)) (take (held + got) input)
     (omega (arith, length-take-le got (drop held input) (omega (arith, length-drop held input)))) (take-add held got input)
@@ -68,7 +70,7 @@ behind {o} {o'} {w} {r} p =
 
 -- NOTHING MORE IS READ
 abbrev pub Over : (wrote : ℕ) → Served → Type 0
-Over w r = (r.wrote ≡ w) × (r.held ≡ 0) × (r.over ≡ true)
+Over w r = (r.wrote ≡ w) × (r.held ≡ None)
 
 -- at the end of the input, by the bytes held
 pub serves_end : {held got w : ℕ} {input t out out' : List ℕ} {r : Served} → got ≡ 0 → held + got ≤ length input →
@@ -80,9 +82,9 @@ serves_end {held} {input = input} e h p q =
       wrote = q.0 ∙ p.long ∙ rw (e, l);
       said = p.left ∙ rw (e, l);
       moved = rw e;
-      holds = q.1 ∙ rw e;
+      holds = ap held_in q.1 ∙ rw e;
       kept = rw e;
-      over = q.2 ∙ rw e;
+      over = ap is_none q.1 ∙ rw e;
     }
 
 module _ (held got : ℕ) (input : List ℕ) {t out t' out' : List ℕ} {p : Progress} (g : 0 < got) (h : held + got ≤ length input)
@@ -99,9 +101,9 @@ module _ (held got : ℕ) (input : List ℕ) {t out t' out' : List ℕ} {p : Pro
         wrote = q.0 ∙ a.wrote ∙ sym (ap length w);
         said = a.said ∙ rw w;
         moved = a.moved ∙ sym s.table;
-        holds = q.1 ∙ sym (ap length hold);
+        holds = ap held_in q.1 ∙ sym (ap length hold);
         kept = rw hold;
-        over = q.2 ∙ sym (s.over ∙ rw stop);
+        over = ap is_none q.1 ∙ sym (s.over ∙ rw stop);
       }
 
   module _ (e : p.stopped ≡ false) where
@@ -139,17 +141,19 @@ module _ (held got : ℕ) (input : List ℕ) {t out t' out' : List ℕ} {p : Pro
               ∙ rw (front, rest, drop-drop (length rf) (length ps) out, writes, length-append ps rf)
               (sym (append_assoc ps rf (drop (length ps + length rf) out)));
           moved = a.moved ∙ sym s.table;
-          holds = q.1 ∙ sym (ap length hold);
+          holds = ap held_in q.1 ∙ sym (ap length hold);
           kept = rw hold;
-          over = q.2 ∙ sym (s.over ∙ rw (goes, long));
+          over = ap is_none q.1 ∙ sym (s.over ∙ rw (goes, long));
         }
 
     -- which is kept for the next read
-    pub serves_on : {input' : List ℕ} {r : Served} → held + got - p.read ≤ longest_line → input' ≡ moved_front p.read (held + got) input →
-        (r.wrote ≡ p.wrote) × (r.held ≡ held + got - p.read) × (r.over ≡ false) → Serves held got input t out input' t' out' r
+    pub serves_on : {input' : List ℕ} {r : Served} → held + got - p.read ≤ longest_line → input' ≡ copy_within input p.read (held + got) 0 →
+        (r.wrote ≡ p.wrote) × (r.held ≡ Some (held + got - p.read)) → Serves held got input t out input' t' out' r
     unfolding overlong
     serves_on {input'} {r} k m q =
         let i = take (held + got) input in
+        let n = held + got - p.read in
+        let none : 0 + n ≡ n = omega arith in
         let ps = printed_from (lines i) t in
         let s = some_of held got input t g h in
         let short : overlong (begun_from [] i) ≡ false = rw begun_long (le-ltb longest_line (held + got - p.read) k) in
@@ -159,13 +163,13 @@ module _ (held got : ℕ) (input : List ℕ) {t out t' out' : List ℕ} {p : Pro
           wrote = q.0 ∙ a.wrote ∙ sym (ap length writes);
           said = a.said ∙ rw writes;
           moved = a.moved ∙ sym s.table;
-          holds = q.1 ∙ sym (ap length hold ∙ begun_long);
-          kept = m ∙ rw (hold, begun_long, begun_is);
-          over = q.2 ∙ sym (s.over ∙ rw (goes, short));
+          holds = ap held_in q.1 ∙ sym (ap length hold ∙ begun_long);
+          kept = m ∙ ap (λ (k : ℕ). take n (drop p.read input) ++ drop k input) none ∙ rw (hold, begun_long, begun_is);
+          over = ap is_none q.1 ∙ sym (s.over ∙ rw (goes, short));
         }
 
 -- WHAT IS HELD is no longer than a command's line
-pub held_short : {held got : ℕ} {input t out input' t' out' : List ℕ} {r : Served} → Serves held got input t out input' t' out' r → r.held ≤ longest_line
+pub held_short : {held got : ℕ} {input t out input' t' out' : List ℕ} {r : Served} → Serves held got input t out input' t' out' r → held_in r.held ≤ longest_line
 held_short {held} {got} {input} {t} s = omega (arith, s.holds, served_short t (take held input) (take got (drop held input)))
 
 -- and what is written is within the output

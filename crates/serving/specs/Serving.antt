@@ -1,5 +1,5 @@
 -- What one read leaves and writes, on lent buffers.
-use Rattle.std.specs.Prelude.{◌≡◌, cond, List, [], ◌++◌, ℕ, ◌+◌, ◌-◌, eqb, length, take, drop}
+use Rattle.std.specs.Prelude.{◌≡◌, cond, List, [], ◌++◌, ℕ, ◌+◌, eqb, length, take, drop, Option, is_none, unwrap_or}
 use Rattle.rules.specs.Calls.{refused}
 use Rattle.rules.specs.Lines.{reply_text}
 use Rattle.rules.specs.Reads.{Between, served, written}
@@ -14,14 +14,18 @@ after_read held got input t = served t (take held input) (take got (drop held in
 abbrev pub to_write : (held got : ℕ) (input table : List ℕ) → List ℕ
 to_write held got input t = written t (take held input) (take got (drop held input))
 
+-- how many bytes are held: none where nothing more is to be read
+abbrev pub held_in : Option ℕ → ℕ
+held_in h = unwrap_or h 0
+
 -- ONE READ on three buffers: what is answered, and every byte of each
 pub record Serves (held got : ℕ) (input t out input' t' out' : List ℕ) (r : Served) : Type 0 where
   pub wrote : r.wrote ≡ length (to_write held got input t)
   pub said : out' ≡ at_front (to_write held got input t) out
   pub moved : t' ≡ (after_read held got input t).table
-  pub holds : r.held ≡ length (after_read held got input t).held
+  pub holds : held_in r.held ≡ length (after_read held got input t).held
   pub kept : input' ≡ at_front (after_read held got input t).held input
-  pub over : r.over ≡ (after_read held got input t).over
+  pub over : is_none r.held ≡ (after_read held got input t).over
 
 -- the end of the input, where some bytes are held
 abbrev pub Ending : (held : ℕ) (out out' : List ℕ) → ℕ → Type 0
@@ -31,7 +35,3 @@ Ending held out out' r = Replies (cond (eqb held 0) [] (reply_text (refused 1)))
 pub record RefusedBehind (wrote : ℕ) (out out' : List ℕ) (r : ℕ) : Type 0 where
   pub long : r ≡ wrote + length (reply_text (refused 1))
   pub left : out' ≡ take wrote out ++ at_front (reply_text (refused 1)) (drop wrote out)
-
--- a buffer whose bytes from a place up to another are moved to its front
-abbrev pub moved_front : (from end : ℕ) (buffer : List ℕ) → List ℕ
-moved_front from end z = take (end - from) (drop from z) ++ drop (end - from) z

@@ -8,12 +8,11 @@ mod serving; // serving.rt: one read
 
 pub use serving::serve_in_room;
 
-// After one read: the bytes to write, the bytes held at the input's front, and whether nothing more is to be read.
+// After one read: the bytes to write, and the bytes held at the input's front for the next; none where nothing more is to be read.
 #[derive(Clone, Copy)]
 pub struct Served {
     pub wrote: usize,
-    pub held: usize,
-    pub over: bool,
+    pub held: Option<usize>,
 }
 
 // A command's longest line: its number, a due slot, a weight, a class, a payload and the 0A.

@@ -1,11 +1,12 @@
 // One read: its complete lines answered, a line begun kept for the next read or refused.
-ghost use Rattle.std.specs.Prelude.{◌≡◌, true, ◌+◌, ◌*◌, ◌≤◌, length};
+ghost use Rattle.std.specs.Prelude.{◌+◌, ◌*◌, ◌≤◌, length};
 ghost use Rattle.rules.specs.Lines.{reply_ratio, reply_room};
-ghost use Rattle.serving.specs.Serving.{Serves, Ending, RefusedBehind, moved_front};
+ghost use Rattle.serving.specs.Serving.{Serves, Ending, RefusedBehind};
 
 use crate::{LONGEST_LINE, Served};
 use answering::answer_lines_in_room;
-use replying::write_refusal_in_room;
+use refusals::Refusal;
+use saying::say_refusal;
 
 // The bytes got stand behind those held; no bytes are the end of the input.
 pub fn serve_in_room(
@@ -19,35 +20,29 @@ pub fn serve_in_room(
     ensures { Serves held got input.old table.old out.old input.new table.new out.new result }
 {
     if got == 0 {
-        return over(end_input(held, out));
+        return Served {
+            wrote: end_input(held, out),
+            held: None,
+        };
     }
     let n = held + got;
     let progress = answer_lines_in_room(&input[..n], table, out);
     let wrote = progress.wrote;
     if progress.stopped {
-        return over(wrote);
+        return Served { wrote, held: None };
     }
     let read = progress.read;
     let rest = n - read;
     if LONGEST_LINE < rest {
-        return over(refuse_behind(wrote, out));
+        return Served {
+            wrote: refuse_behind(wrote, out),
+            held: None,
+        };
     }
-    keep_rest(input, read, n);
+    input.copy_within(read..n, 0);
     Served {
         wrote,
-        held: rest,
-        over: false,
-    }
-}
-
-// Nothing is held, and nothing more is read.
-fn over(wrote: usize) -> Served
-    ensures { (result.wrote ≡ wrote) × (result.held ≡ 0) × (result.over ≡ true) }
-{
-    Served {
-        wrote,
-        held: 0,
-        over: true,
+        held: Some(rest),
     }
 }
 
@@ -59,7 +54,7 @@ fn end_input(held: usize, out: &mut [u8]) -> usize
     if held == 0 {
         return 0;
     }
-    write_refusal_in_room(1, out)
+    say_refusal(Refusal::BadLine, out)
 }
 
 // A line begun that is longer than any command's: refusal 1 behind the replies. It answers how many bytes are written then.
@@ -67,18 +62,5 @@ fn refuse_behind(wrote: usize, out: &mut [u8]) -> usize
     requires { wrote + reply_room ≤ length out.old }
     ensures { RefusedBehind wrote out.old out.new result }
 {
-    wrote + write_refusal_in_room(1, &mut out[wrote..])
-}
-
-// The bytes from a place up to another, moved to the front.
-fn keep_rest(buffer: &mut [u8], from: usize, end: usize)
-    requires { (from ≤ end) × (end ≤ length buffer.old) }
-    ensures { buffer.new ≡ moved_front from end buffer.old }
-{
-    let count = end - from;
-    let mut i = 0;
-    while i < count {
-        buffer[i] = buffer[from + i];
-        i += 1;
-    }
+    wrote + say_refusal(Refusal::BadLine, &mut out[wrote..])
 }

@@ -8,9 +8,7 @@ ghost use Rattle.station.specs.Exports.{Exports, ExportsLook};
 
 use marking::mark_of;
 use opening::open_round;
-use packing::{
-    pack_marked, pack_opened, pack_sealed, pack_sent, pack_substituted, pack_taken, pack_totalled,
-};
+use packing::pack_reply;
 use sealing::seal_round;
 use sending::send_slot;
 use sorts::{Class, Slot, Ticket, Weight};
@@ -22,7 +20,7 @@ use totalling::plan_total;
 pub extern "C" fn lirvedd_open(last: u32, table: &mut [u8]) -> u64
     ensures { Exports (opening (until last)) result table.old table.new }
 {
-    pack_opened(open_round(Slot(last), table))
+    pack_reply(open_round(Slot(last), table))
 }
 
 // A frame of class 0.
@@ -30,28 +28,28 @@ pub extern "C" fn lirvedd_open(last: u32, table: &mut [u8]) -> u64
 pub extern "C" fn lirvedd_take(due: u32, weight: u32, table: &mut [u8]) -> u64
     ensures { Exports (acting (taking (framed due weight 0))) result table.old table.new }
 {
-    pack_taken(take_frame(Slot(due), Weight(weight), Class(0), table))
+    pack_reply(take_frame(Slot(due), Weight(weight), Class(0), table))
 }
 
 #[unsafe(no_mangle)]
 pub extern "C" fn lirvedd_take_class(due: u32, weight: u32, class: u32, table: &mut [u8]) -> u64
     ensures { Exports (acting (taking (framed due weight class))) result table.old table.new }
 {
-    pack_taken(take_frame(Slot(due), Weight(weight), Class(class), table))
+    pack_reply(take_frame(Slot(due), Weight(weight), Class(class), table))
 }
 
 #[unsafe(no_mangle)]
 pub extern "C" fn lirvedd_send(table: &mut [u8]) -> u64
     ensures { Exports (acting sending) result table.old table.new }
 {
-    pack_sent(send_slot(table))
+    pack_reply(send_slot(table))
 }
 
 #[unsafe(no_mangle)]
 pub extern "C" fn lirvedd_seal(table: &mut [u8]) -> u64
     ensures { Exports (acting sealing) result table.old table.new }
 {
-    pack_sealed(seal_round(table))
+    pack_reply(seal_round(table))
 }
 
 // The calls below only read the table.
@@ -59,19 +57,19 @@ pub extern "C" fn lirvedd_seal(table: &mut [u8]) -> u64
 pub extern "C" fn lirvedd_mark(slot: u32, table: &[u8]) -> u64
     ensures { Exports (asking (marking slot)) result table.now table.now }
 {
-    pack_marked(mark_of(Slot(slot), table))
+    pack_reply(mark_of(Slot(slot), table))
 }
 
 #[unsafe(no_mangle)]
 pub extern "C" fn lirvedd_total(table: &[u8]) -> u64
     ensures { Exports (asking totalling) result table.now table.now }
 {
-    pack_totalled(plan_total(table))
+    pack_reply(plan_total(table))
 }
 
 #[unsafe(no_mangle)]
 pub extern "C" fn lirvedd_substitute(ticket: u32, table: &[u8]) -> u64
     ensures { ExportsLook (substitute_answer ticket table.now) result table.now table.now }
 {
-    pack_substituted(substitute_of(Ticket(ticket), table))
+    pack_reply(substitute_of(Ticket(ticket), table))
 }

@@ -1,4 +1,5 @@
 -- The program's loop: its table and the bytes held are those after the reads so far, whatever these were.
+use Rattle.std.specs.Prelude.{Some, is_none}
 use mathlib.Core.Path.{◌≡◌, sym, ap, ◌∙◌}
 use mathlib.Core.Bool.{false, false≢true}
 use mathlib.Core.Logic.{inl, inr}
@@ -12,7 +13,7 @@ use Rattle.rules.specs.Lines.{fresh_table}
 use Rattle.rules.specs.Reads.{Between, served, between_after, SomeBytes}
 use Rattle.theory.specs.Tests.{either}
 use Rattle.serving.specs.declared.Served.{Served}
-use Rattle.serving.specs.Serving.{after_read, Serves}
+use Rattle.serving.specs.Serving.{held_in, after_read, Serves}
 
 -- one read more
 more : (t h : List ℕ) (xs : List (List ℕ)) (x : List ℕ) {z k : List ℕ} → between_after t h xs ≡ record { table = z; held = k; over = false } →
@@ -52,12 +53,12 @@ so_far_none t input e = record { reads = []; some = tt; after = rw e }
 
 -- the bytes held before are served with those read behind them, and those that are held then are held on
 pub so_far_more : {t t' input read input' out out' : List ℕ} {held got with on : ℕ} {r : Served} → SoFar t input held → take held read ≡ take held input →
-    Serves with got read t out input' t' out' r → with ≡ held → r.over ≡ false → on ≡ r.held → SoFar t' input' on
-so_far_more {t} {t'} {input} {read} {input'} {held = held} {got = got} {with = with} {on = on} {r = r} s k p e o f =
+    Serves with got read t out input' t' out' r → with ≡ held → r.held ≡ Some on → SoFar t' input' on
+so_far_more {t} {t'} {input} {read} {input'} {held = held} {got = got} {with = with} {on = on} {r = r} s k p e o =
     let x = take got (drop with read) in
     let h = (after_read with got read t).held in
-    let front : take on input' ≡ h = ap (take on) p.kept ∙ take_at h (drop (length h) read) on (sym (f ∙ p.holds)) in
-    let goes = sym p.over ∙ o in
+    let front : take on input' ≡ h = ap (take on) p.kept ∙ take_at h (drop (length h) read) on (sym p.holds ∙ ap held_in o) in
+    let goes = sym p.over ∙ ap is_none o in
     let before : take held input ≡ take with read = sym k ∙ rw e in
     record {
       reads = s.reads ++ (x ∷ []);

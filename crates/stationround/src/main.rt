@@ -12,28 +12,23 @@ const INPUT_SIZE: usize = 4096;
 // Room for the replies to all lines of one read.
 const OUT_SIZE: usize = 65536;
 
-// Replies to all complete lines are written before the next read. A proved loop has to end, so it counts down from a number that no run uses up.
+// Replies to all complete lines are written before the next read. A proved loop has to end, so it has a count that no run uses up.
 fn main(rt: HostRuntime) {
     let mut stdin = rt.stdin();
     let mut table = fresh_table();
-    let mut input_space = [0u8; INPUT_SIZE];
-    let input: &mut [u8] = &mut input_space;
-    let mut out_space = [0u8; OUT_SIZE];
-    let out: &mut [u8] = &mut out_space;
+    let mut input = [0; INPUT_SIZE];
+    let mut out = [0; OUT_SIZE];
     let mut held = 0;
-    let mut turns = u64::MAX;
-    while turns > 0 {
-        let got = read_behind(&mut stdin, input, held);
-        let served = serve_in_room(input, held, got, &mut table, out);
-        let wrote = served.wrote;
-        if rt.write_all(&out[..wrote]).is_err() {
+    for _ in 0..u64::MAX {
+        let got = read_behind(&mut stdin, &mut input, held);
+        let served = serve_in_room(&mut input, held, got, &mut table, &mut out);
+        if rt.write_all(&out[..served.wrote]).is_err() {
             return;
         }
-        if served.over {
+        let Some(kept) = served.held else {
             return;
-        }
-        held = served.held;
-        turns -= 1;
+        };
+        held = kept;
     }
 }
 

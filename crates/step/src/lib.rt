@@ -11,8 +11,9 @@ ghost use Rattle.step.specs.Step.{PlannedStep, WholeStep};
 use keys::{BLANK, row_of, weight_of};
 use lead::Lead;
 use leap::{send_blank, send_swapped};
+use replies::Step;
 use sorts::Round;
-use went::{Went, send_kept, send_row};
+use went::{send_kept, send_row};
 use whole::Whole;
 
 // A far row has no substitute, so its score is its weight's alone.
@@ -33,15 +34,15 @@ pub fn send_planned(
     far: u64,
     lead: Lead,
     expiring: usize,
-) -> Went
+) -> Step
     requires { PlannedStep table.old round ends.now tops.now lows.old far lead × DueNow table.old expiring }
     ensures { SentSays table.old table.new result }
 {
     if lead.score < far_score(far) {
-        return send_row(table, round, row_of(far), true, expiring);
+        return Step::Leap(send_row(table, round, row_of(far), expiring));
     }
     if lead.segment + 1 == lead.count {
-        return send_row(table, round, row_of(lead.key), false, expiring);
+        return Step::Ordinary(send_row(table, round, row_of(lead.key), expiring));
     }
     if lead.other == BLANK {
         return send_blank(table, ends, tops, lows, round, lead, expiring);
@@ -50,13 +51,13 @@ pub fn send_planned(
 }
 
 // The same where no row is left out: as the passes over the table found it.
-pub fn send_whole(table: &mut [u8], round: Round, whole: Whole, expiring: usize) -> Went
+pub fn send_whole(table: &mut [u8], round: Round, whole: Whole, expiring: usize) -> Step
     requires { WholeStep table.old round whole × DueNow table.old expiring }
     ensures { SentSays table.old table.new result }
 {
     match whole {
-        Whole::First { row } => send_row(table, round, row, false, expiring),
-        Whole::Far { row } => send_row(table, round, row, true, expiring),
+        Whole::First { row } => Step::Ordinary(send_row(table, round, row, expiring)),
+        Whole::Far { row } => Step::Leap(send_row(table, round, row, expiring)),
         Whole::Kept { row, first, mark } => send_kept(table, round, row, first, mark, expiring),
     }
 }

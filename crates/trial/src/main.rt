@@ -1,121 +1,75 @@
 // A program for the tests: makes the calls that neither C nor stationround reaches, as requests ask (tests/trial.md).
 #![tactic(auto)]
 
-ghost use Rattle.std.specs.Prelude.{◌≡◌, ◌≤◌, length};
+ghost use Rattle.std.specs.Prelude.{◌≤◌};
 
 use crate::entries::try_list;
 use crate::reading::try_read;
+use crate::request::{Asked, HEAD_SIZE, MOST_SIZE, Request};
 use crate::writing::try_write;
-use numbers::read4;
-use sorts::{Class, Slot, Weight};
+use numbers::write;
+use refusals::Refusal;
 use std::io::{Read, Stdin, Stdout, Write};
 
+mod request; // request.rt: what a request asks for
 mod entries; // entries.rt: the listing
 mod writing; // writing.rt: the line writer
 mod reading; // reading.rt: the command, and the payload with its place
 
-// A request's head: the kind, the size of what follows, the room lent, and for the writer a command with its numbers.
-#[derive(Clone, Copy)]
-pub struct Request {
-    pub kind: u32,
-    pub size: usize,
-    pub room: usize,
-    pub command: u32,
-    pub slot: Slot,
-    pub weight: Weight,
-    pub class: Class,
-}
+pub const OUT_SIZE: usize = 65536;
 
-const LIST: u32 = 0;
-
-const WRITE: u32 = 1;
-
-const READ: u32 = 2;
-
-const HEAD_SIZE: usize = 28;
-
-const MOST_SIZE: usize = 24640;
-
-const MOST_ROOM: usize = 1024;
-
-const OUT_SIZE: usize = 65536;
-
-// A proved loop has to end, so it counts down from a number that no run uses up.
+// A proved loop has to end, so it has a count that no run uses up.
 fn main(rt: HostRuntime) {
     let mut stdin = rt.stdin();
     let mut stdout = rt.stdout();
-    let mut body_space = [0u8; MOST_SIZE];
-    let body: &mut [u8] = &mut body_space;
-    let mut out_space = [0u8; OUT_SIZE];
-    let out: &mut [u8] = &mut out_space;
-    let mut turns = u64::MAX;
-    while turns > 0 {
-        if !answer_next(&mut stdin, &mut stdout, body, out) {
+    let mut body = [0; MOST_SIZE];
+    let mut out = [0; OUT_SIZE];
+    for _ in 0..u64::MAX {
+        if answer_next(&mut stdin, &mut stdout, &mut body, &mut out).is_none() {
             return;
         }
-        turns -= 1;
     }
 }
 
-// Whether a whole request was there and its outcome is written.
-fn answer_next(stdin: &mut Stdin, stdout: &mut Stdout, body: &mut [u8], out: &mut [u8]) -> bool
-    requires { (length body.old ≡ 24640) × (length out.old ≡ 65536) }
-{
-    let mut head_space = [0u8; HEAD_SIZE];
-    let head: &mut [u8] = &mut head_space;
-    if stdin.read_exact(head).is_err() {
-        return false;
-    }
-    let request = request_of(head);
-    let size = request.size;
-    if MOST_SIZE < size {
-        return false;
-    }
-    if MOST_ROOM < request.room {
-        return false;
-    }
-    if stdin.read_exact(&mut body[..size]).is_err() {
-        return false;
-    }
-    let n = outcome(request, &body[..size], out);
-    if n == 0 {
-        return false;
-    }
-    stdout.write_all(&out[..n]).is_ok()
+// None where no whole request is there, or its outcome cannot be written.
+fn answer_next(
+    stdin: &mut Stdin,
+    stdout: &mut Stdout,
+    body: &mut [u8; MOST_SIZE],
+    out: &mut [u8; OUT_SIZE],
+) -> Option<()> {
+    let mut head = [0; HEAD_SIZE];
+    stdin.read_exact(&mut head).ok()?;
+    let request = Request::of(&head)?;
+    let body = &mut body[..request.size];
+    stdin.read_exact(body).ok()?;
+    let n = outcome(request, body, out);
+    stdout.write_all(&out[..n]).ok()
 }
 
-fn request_of(head: &[u8]) -> Request
-    requires { length head.now ≡ 28 }
-{
-    Request {
-        kind: read4(head, 0),
-        size: read4(head, 4) as usize,
-        room: read4(head, 8) as usize,
-        command: read4(head, 12),
-        slot: Slot(read4(head, 16)),
-        weight: Weight(read4(head, 20)),
-        class: Class(read4(head, 24)),
-    }
-}
-
-// The outcome's length; 0 where the kind or the command is none.
-fn outcome(request: Request, body: &[u8], out: &mut [u8]) -> usize
-    requires { (request.room ≤ 1024) × (length out.old ≡ 65536) }
+// The outcome's length.
+fn outcome(request: Request, body: &[u8], out: &mut [u8; OUT_SIZE]) -> usize
     ensures { result ≤ 65536 }
 {
-    let kind = request.kind;
-    match kind {
-        LIST => {
-            let room = request.room;
-            try_list(body, room, out)
-        }
-        WRITE => try_write(request, body, out),
-        READ => try_read(body, out),
-        _ => 0,
+    let room = request.room;
+    match request.asked {
+        Asked::List => try_list(body, room, out),
+        Asked::Write(command) => try_write(command, body, room, out),
+        Asked::Read => try_read(body, out),
     }
+}
+
+// The refusal, 0 if there is none, and the count, 0 on a refusal.
+pub fn put_counted(counted: Result<usize, Refusal>, out: &mut [u8; OUT_SIZE]) {
+    let (refusal, count) = match counted {
+        Ok(count) => (0, small(count)),
+        Err(refusal) => (u32::from(refusal), 0),
+    };
+    write::<4>(out, 0, refusal);
+    write::<4>(out, 4, count);
 }
 
 // A length or a place as a number of 4 bytes; one that is out of all bounds shows as FFFFFFFF.
 pub fn small(n: usize) -> u32 {
-    if n < 65536 { n as u32 } else { u32::MAX }
+    u32::try_from(n).unwrap_or(u32::MAX)
 }

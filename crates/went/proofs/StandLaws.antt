@@ -11,7 +11,7 @@ use Rattle.rules.specs.Plan.{plan, tight_after, mark}
 use Rattle.rules.specs.Steps.{changed}
 use Rattle.rules.specs.Conditions.{used_in}
 use Rattle.rules.specs.Table.{table, round_in, table_refusal}
-use Rattle.rules.specs.Calls.{Step, out_of, ordinary, leap, step}
+use Rattle.rules.specs.Calls as rules
 use Rattle.theory.specs.All.{all_in}
 use Rattle.theory.specs.Bounds.{RowFine}
 use Rattle.theory.specs.Full.{Fine, Rising}
@@ -32,8 +32,9 @@ use Rattle.round.proofs.ReadLaws.{known}
 use Rattle.round.specs.Rows.{Ready}
 use Rattle.closing.specs.Close.{closed_up}
 use Rattle.chain.specs.Chain.{having}
-use Rattle.went.specs.Send.{WentOf, went_out, went_step, SentSays}
-use Rattle.went.specs.declared.Went.{Went}
+use Rattle.replies.specs.declared.Step.{Step}
+use Rattle.replies.specs.Replies.{of_step}
+use Rattle.went.specs.Send.{SentSays}
 
 -- rows that a sound table of a round can have
 pub record RowsFit (r : Round) (xs : List Row) : Type 0 where
@@ -97,20 +98,20 @@ unfolding closed_up
 alone_closed t v g e = e
 
 -- WHAT IS SAID of what is sent
-flipped : (b : Bool) (x y : Step) → cond (not b) x y ≡ cond b y x
+flipped : (b : Bool) (x y : rules.Step) → cond (not b) x y ≡ cond b y x
 flipped true x y = refl
 flipped false x y = refl
 
-pub sent_says : (t : List ℕ) (h : Head) → Ready t h → (p : Row) (leaps : Bool) (g : ℕ) (xs : List Row) (v : List ℕ) (w : Went) →
+pub sent_says : (t : List ℕ) (h : Head) → Ready t h → (p : Row) (leaps : Bool) (g : ℕ) (xs : List Row) (v : List ℕ) (w : Step) →
     Sends (round_in t) p (not leaps) g xs →
-    v ≡ table (after_slot (round_in t) (closed (suc (round_in t).slot) g xs)) → WentOf p leaps w → SentSays t v w
-unfolding went_step went_out out_of row
+    v ≡ table (after_slot (round_in t) (closed (suc (round_in t).slot) g xs)) →
+    of_step w ≡ cond leaps (rules.leap (rules.out_of p)) (rules.ordinary (rules.out_of p)) → SentSays t v w
 sent_says t h k p leaps g xs v w s e d =
     let o : (round_in t).slot ≤ (round_in t).last = omega (arith, k.time, (known t h k).slot, (known t h k).last) in
     record {
       leaves = e ∙ sym (ap table s.leaves) ∙ sym (sending_leaves t k.sound o);
-      answers = sends_answer t p (not leaps) g xs k.sound o s ∙ ap step (flipped leaps (ordinary (out_of p)) (leap (out_of p))
-          ∙ (rw (d.leap, d.ticket, d.kind)));
+      answers = sends_answer t p (not leaps) g xs k.sound o s
+          ∙ ap rules.step (flipped leaps (rules.ordinary (rules.out_of p)) (rules.leap (rules.out_of p)) ∙ sym d);
     }
 
 -- ROWS THAT FIT: the round's own, one changed, and those of a chain moved

@@ -1,40 +1,36 @@
 -- What goes out, what it leaves in the table, and what is said of it.
-use Rattle.std.specs.Prelude.{◌≡◌, Bool, false, not, cond, List, ℕ, ◌≤◌, ◌<◌}
+use Rattle.std.specs.Prelude.{◌≡◌, Bool, false, not, List, ℕ, ◌≤◌, ◌<◌}
 use Rattle.rules.specs.Limits.{most_weight}
-use Rattle.rules.specs.Rows.{Row, row}
+use Rattle.rules.specs.Rows.{Row}
 use Rattle.rules.specs.Steps.{kept_at, changed}
 use Rattle.rules.specs.Table.{round_in}
-use Rattle.rules.specs.Calls.{Out, Step, out_of, sending, ordinary, leap, step, answer, left, acting}
+use Rattle.rules.specs.Calls.{out_of, sending, ordinary, silence, step, answer, left, acting}
 use Rattle.theory.specs.Whole.{Sends}
 use Rattle.sorts.specs.declared.Round.{Round as Head}
 use Rattle.round.specs.Rows.{Ready, at}
-use Rattle.closing.specs.Close.{closed_up}
-use Rattle.went.specs.declared.Went.{Went}
+use Rattle.closing.specs.Close.{gone_ticket, closed_up}
+use Rattle.replies.specs.declared.Out.{Out}
+use Rattle.replies.specs.declared.Step.{Step}
+use Rattle.replies.specs.Replies.{of_out, of_step}
 
--- the row that goes, and the kind of step
-pub record WentOf (p : Row) (leaps : Bool) (w : Went) : Type 0 where
-  pub leap : w.leap ≡ leaps
-  pub ticket : w.ticket.0 ≡ p.ticket
-  pub kind : w.kind ≡ p.tail.kind
+-- what goes out of a row
+pub record OutOf (p : Row) (o : Out) : Type 0 where
+  pub is : of_out o ≡ out_of p
 
 -- SILENCE: the slot moves on, no ticket goes, and none is told
-pub record Silent (t u : List ℕ) (w : Went) : Type 0 where
+pub record Silent (t u : List ℕ) (s : Step) : Type 0 where
   pub leaves : u ≡ closed_up 0 t
-  pub leap : w.leap ≡ false
-  pub ticket : w.ticket.0 ≡ 0
-  pub kind : w.kind ≡ 0
+  pub answers : of_step s ≡ ordinary silence
 
--- what went out, by ticket and kind; no answer tells more of a row
-unfoldable pub went_out : Went → Out
-went_out w = out_of (row w.ticket.0 0 0 (record { kind = w.kind; class = 0 }))
+-- GONE: row j leaves the table t, and no other row changes; o is what went out
+pub record Gone (t u : List ℕ) (j : ℕ) (o : Out) : Type 0 where
+  pub leaves : u ≡ closed_up (gone_ticket t j) t
+  pub out : OutOf (at (round_in t) j) o
 
-unfoldable pub went_step : Went → Step
-went_step w = cond w.leap (leap (went_out w)) (ordinary (went_out w))
-
--- SENT: u is what sending leaves of the table t, and w what it answers
-pub record SentSays (t u : List ℕ) (w : Went) : Type 0 where
+-- SENT: u is what sending leaves of the table t, and s what it answers
+pub record SentSays (t u : List ℕ) (s : Step) : Type 0 where
   pub leaves : u ≡ left (acting sending) t
-  pub answers : answer (acting sending) t ≡ step (went_step w)
+  pub answers : answer (acting sending) t ≡ step (of_step s)
 
 -- A ROW THAT LEAVES ALONE: it goes, and no other row changes
 pub record LeavesAlone (t : List ℕ) (h : Head) (leaps : Bool) (j : ℕ) : Type 0 where

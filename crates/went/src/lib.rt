@@ -6,54 +6,47 @@ ghost use Rattle.std.specs.Prelude.{◌<◌};
 ghost use Rattle.rules.specs.Table.{round_in};
 ghost use Rattle.round.specs.Rows.{Ready, at};
 ghost use Rattle.closing.specs.Close.{DueNow};
-ghost use Rattle.went.specs.Send.{WentOf, Silent, SentSays, LeavesAlone, KeepsBlank};
+ghost use Rattle.went.specs.Send.{OutOf, Silent, SentSays, Gone, KeepsBlank};
 
 use closing::close_up;
-use round::read::{kind_at, ticket_at};
+use replies::{Out, Step};
+use round::read::Sound;
 use row::write::write_kept;
-use sorts::{Round, Slot, Ticket, Weight};
+use sorts::{Round, Slot, Weight};
 
-// What went out: a row's ticket and kind; ticket 0 is silence.
-#[derive(Clone, Copy)]
-pub struct Went {
-    pub leap: bool,
-    pub ticket: Ticket,
-    pub kind: u8,
-}
-
-// Read before anything is written.
-pub fn went_of(table: &[u8], round: Round, row: usize, leap: bool) -> Went
-    requires { Ready table.now round × (row < round.used) }
-    ensures { WentOf (at (round_in table.now) row) leap result }
+// What goes out of a row. Read before anything is written.
+pub fn out_of(sound: &Sound, row: usize) -> Out
+    requires { row < sound.now.round.used }
+    ensures { OutOf (at (round_in sound.now.table.now) row) result }
 {
-    Went {
-        leap,
-        ticket: ticket_at(table, round, row),
-        kind: kind_at(table, round, row),
+    let ticket = sound.ticket_at(row);
+    if sound.is_kept(row) {
+        return Out::KeptBlank(ticket);
     }
+    Out::Frame(ticket)
 }
 
 // The slot alone moves on: right where no row waits, or where a sealed round has none to send yet.
-pub fn send_silence(table: &mut [u8], round: Round, expiring: usize) -> Went
+pub fn send_silence(table: &mut [u8], round: Round, expiring: usize) -> Step
     requires { Ready table.old round × DueNow table.old expiring }
     ensures { Silent table.old table.new result }
 {
     close_up(table, round, expiring, round.used); // no row's turn
-    Went {
-        leap: false,
-        ticket: Ticket(0),
-        kind: 0,
-    }
+    Step::Ordinary(Out::Silence)
 }
 
-// Only the row that goes leaves: an ordinary step, or a leap from afar.
-pub fn send_row(table: &mut [u8], round: Round, row: usize, leaps: bool, expiring: usize) -> Went
-    requires { LeavesAlone table.old round leaps row × DueNow table.old expiring }
-    ensures { SentSays table.old table.new result }
+// Only the row that goes leaves: in an ordinary step, or a leap from afar.
+pub fn send_row(table: &mut [u8], round: Round, row: usize, expiring: usize) -> Out
+    requires { Ready table.old round × (row < round.used) × DueNow table.old expiring }
+    ensures { Gone table.old table.new row result }
 {
-    let went = went_of(table, round, row, leaps);
+    let sound = Sound {
+        table: &*table,
+        round,
+    };
+    let out = out_of(&sound, row);
     close_up(table, round, expiring, row);
-    went
+    out
 }
 
 // A leap onto a blank, which is kept in the row that goes.
@@ -64,12 +57,16 @@ pub fn send_kept(
     first: Slot,
     mark: Weight,
     expiring: usize,
-) -> Went
+) -> Step
     requires { KeepsBlank table.old round row first.0 mark.0 × DueNow table.old expiring }
     ensures { SentSays table.old table.new result }
 {
-    let went = went_of(table, round, row, true);
+    let sound = Sound {
+        table: &*table,
+        round,
+    };
+    let out = out_of(&sound, row);
     write_kept(table, row, first, mark);
     close_up(table, round, expiring, round.used); // no row goes
-    went
+    Step::Leap(out)
 }

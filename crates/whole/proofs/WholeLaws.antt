@@ -3,7 +3,7 @@ use mathlib.Core.Path.{◌≡◌, refl, sym, ap, ◌∙◌, subst}
 use mathlib.Core.Logic.{inl, inr}
 use mathlib.Core.Bool.{Bool, true, false}
 use mathlib.Core.List.{List}
-use Prim.Native.Nat.{ℕ, ◌+◌, ◌-◌, ◌≤◌, ◌<◌}
+use Prim.Native.Nat.{ℕ, ◌+◌, ◌≤◌, ◌<◌}
 use native.Mathlib.Omega.{arith}
 use lib.ListN.{length}
 use Rattle.rules.specs.PlanM.{score}
@@ -124,11 +124,6 @@ module _ {t cs : List ℕ} {h : Head} {x : Reach} (g : Given t cs h x) where
 module _ {t cs : List ℕ} {h : Head} {x : Reach} {b : Best} {e d : ℕ} (p : Past t cs h x b e) (v : d ≡ slot_of b.rank) where
   pub past_from : h.slot.0 ≤ d
   past_from = omega (arith, v, p.past, p.segment.by, (facts p.given).slot)
-
-  pub past_by : {y : Stretch} {a : ℕ} → a ≡ d - h.slot.0 → Stretches cs x.free a y → e ≤ h.slot.0 + y.last
-  past_by q s =
-      let c : e < d = omega (arith, v, p.past) in
-      omega (arith, c, q, s.by, past_from)
 
 -- and the second pass is done
 module _ {t cs : List ℕ} {h : Head} {x : Reach} {b : Best} {e own : ℕ} {f : Found} (p : Past t cs h x b e) (l : Looks (round_in t) 0 e own f) where

@@ -10,7 +10,8 @@ use keys::rank_due;
 use lead::score_of;
 use passes::best::Best;
 use passes::look::{Found, heaviest, look};
-use sorts::{Round, Slot, Weight};
+use round::read::Sound;
+use sorts::{Slot, Weight};
 
 // The row that goes, and how.
 #[derive(Clone, Copy)]
@@ -36,28 +37,18 @@ fn first_goes(best: Best, found: Found) -> bool
     ensures { FirstGoes best found result }
 {
     let past = score_of(Weight(best.weight), Weight(0));
-    if past <= score_of(Weight(found.first.weight), Weight(found.lightest)) {
-        return true;
-    }
-    false
+    past <= score_of(Weight(found.first.weight), Weight(found.lightest))
 }
 
 // The heaviest row is due past the first segment, which ends at slot end.
-fn choose_past(
-    table: &[u8],
-    counts: &[u32],
-    round: Round,
-    reach: Reach,
-    best: Best,
-    end: u32,
-) -> Whole
-    requires { Past table.now counts.now round reach best end }
-    ensures { Picked (round_in table.now) reach.free result }
+fn choose_past(sound: &Sound, counts: &[u32], reach: Reach, best: Best, end: u32) -> Whole
+    requires { Past sound.now.table.now counts.now sound.now.round reach best end }
+    ensures { Picked (round_in sound.now.table.now) reach.free result }
 {
-    let slot = round.slot.0;
+    let slot = sound.round.slot.0;
     let ahead = (rank_due(best.rank) - slot) as usize;
     if reach.free <= ahead {
-        let found = look(table, round, end, end);
+        let found = look(sound, end, end);
         if first_goes(best, found) {
             return Whole::First {
                 row: found.first.row,
@@ -66,7 +57,7 @@ fn choose_past(
         return Whole::Far { row: best.row };
     }
     let own = stretch_of(counts, reach.free, ahead);
-    let found = look(table, round, end, slot + own.last as u32);
+    let found = look(sound, end, slot + own.last as u32);
     if first_goes(best, found) {
         return Whole::First {
             row: found.first.row,
@@ -80,17 +71,17 @@ fn choose_past(
 }
 
 // Counts are the scan's, reach what they say.
-pub fn choose_whole(table: &[u8], counts: &[u32], round: Round, reach: Reach) -> Whole
-    requires { Given table.now counts.now round reach }
-    ensures { Picked (round_in table.now) reach.free result }
+pub fn choose_whole(sound: &Sound, counts: &[u32], reach: Reach) -> Whole
+    requires { Given sound.now.table.now counts.now sound.now.round reach }
+    ensures { Picked (round_in sound.now.table.now) reach.free result }
 {
-    let best = heaviest(table, round);
+    let best = heaviest(sound);
     if reach.free == 0 {
         return Whole::Far { row: best.row };
     }
-    let end = round.slot.0 + stretch_of(counts, reach.free, 0).last as u32;
+    let end = sound.round.slot.0 + stretch_of(counts, reach.free, 0).last as u32;
     if rank_due(best.rank) <= end {
         return Whole::First { row: best.row };
     }
-    choose_past(table, counts, round, reach, best, end)
+    choose_past(sound, counts, reach, best, end)
 }

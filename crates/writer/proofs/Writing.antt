@@ -2,9 +2,10 @@
 use mathlib.Core.Path.{◌≡◌, refl, sym, ap, ◌∙◌}
 use mathlib.Core.Bool.{true, false}
 use mathlib.Core.List.{List, [], ◌∷◌, ◌++◌, append_assoc, append-nil}
-use Prim.Native.Nat.{ℕ, suc, ◌+◌, ◌^◌, ◌≤◌, ◌<◌}
+use Prim.Native.Nat.{ℕ, suc, ◌+◌, ◌-◌, ◌^◌, ◌≤◌, ◌<◌}
 use native.Mathlib.Omega.{arith}
 use native.Mathlib.Numerals.{add-one}
+use borrow.Rule.Slice.PartMut.{put_mid}
 use lib.Dec.{ltb}
 use lib.ListN.{length, get_or, set, take, drop, length-append, take-append-drop}
 use lib.Seq.{length-take-le, take_all}
@@ -15,8 +16,8 @@ use Rattle.rules.specs.Lines as rules
 use Rattle.theory.specs.Digits.{length_digits}
 use Rattle.theory.specs.Numerals.{length_numerals, count_more, count_least, numerals_more}
 use Rattle.theory.specs.Lines.{as_many, length_front, text_front, from_stands, length_text, unfit, no_room, room, write_refused, write_done}
-use Rattle.digits.specs.Spelling.{put, Puts}
-use Rattle.digits.proofs.Filling.{Filled, filled_none, filled_put, filled_number, filled_byte}
+use Rattle.digits.specs.Spelling.{put}
+use Rattle.digits.proofs.Filling.{Filled, filled_none, filled_put, filled_long, filled_number, filled_byte}
 use Rattle.forms.specs.declared.form.Form.{Form}
 use Rattle.forms.specs.Forms.{values_in, can_stand, HasForm, HasValues}
 use Rattle.forms.proofs.FormLaws.{front_count}
@@ -61,18 +62,20 @@ module _ {ns vs before b : List ℕ} {i at w v : ℕ} (f : ValuesPut ns vs befor
   pub next_room : at + w ≤ length b
   next_room = omega (arith, f.place, f.long, wide, count_more ns i more, count_least ns (suc i))
 
-  pub values_more : {b' : List ℕ} → length b' ≡ length b → Puts v w at b b' → ValuesPut ns vs before (i + 1) (at + w) b'
-  values_more {b'} l p =
+  pub values_more : {ys : List ℕ} → ys ≡ digits (length (take (at + w - at) (drop at b))) v →
+      ValuesPut ns vs before (i + 1) (at + w) (put_mid at (at + w - at) b ys)
+  values_more {ys} e =
       let xs = take short_digits before in
-      let ys = numerals (take i ns) (take i vs) in
-      let n : at ≡ length (xs ++ ys) = f.place ∙ sym (length_put ns vs before i f.within same (omega arith)) in
-      let g = filled_number w v f.filled p (refl, refl, n, omega (arith, next_room, f.long)) in
-      let m : xs ++ numerals (take (suc i) ns) (take (suc i) vs) ≡ (xs ++ ys) ++ digits w v =
-      ap (λ (zs : List ℕ). xs ++ zs) (numerals_more ns vs i more same ∙ rw (wide, valued)) ∙ sym (append_assoc xs ys (digits w v)) in
-      rw add-one record {
+      let zs = numerals (take i ns) (take i vs) in
+      let j : at + w - at ≡ w = omega arith in
+      let n : at ≡ length (xs ++ zs) = f.place ∙ sym (length_put ns vs before i f.within same (omega arith)) in
+      let g = filled_number at w v f.filled (rw j at e) n (omega (arith, next_room, f.long)) in
+      let m : xs ++ numerals (take (suc i) ns) (take (suc i) vs) ≡ (xs ++ zs) ++ digits w v =
+      ap (λ (us : List ℕ). xs ++ us) (numerals_more ns vs i more same ∙ rw (wide, valued)) ∙ sym (append_assoc xs zs (digits w v)) in
+      rw (add-one, j) record {
         within = omega arith;
         place = omega (arith, f.place, wide, count_more ns i more);
-        long = l ∙ f.long;
+        long = filled_long g;
         filled = rw m g;
       }
 
@@ -104,15 +107,16 @@ module _ {c : rules.Command} {k : ℕ} {r : Form} {vs : List ℕ} (number : k �
   unfolding stands
   stands_here ps = rw (values_here, form_here.widths, form_here.payload)
 
-  pub front_put : {z b b' : List ℕ} → r.front ≤ length z → Puts k short_digits 0 z b → b' ≡ put short_digits (numerals (r.widths.now) (values_in r vs)) b →
+  pub front_put : {z y b b' : List ℕ} → r.front ≤ length z → y ≡ digits (length (take short_digits z)) k → b ≡ put_mid 0 short_digits z y →
+      b' ≡ put short_digits (numerals r.widths.now (values_in r vs)) b →
       Filled (front c) z b'
   unfolding front
-  front_put {z} h p e =
+  front_put {z} {y} h p w e =
       let q = front_count form in
-      let ns = numerals (r.widths.now) (values_in r vs) in
-      let l = length_numerals (r.widths.now) (values_in r vs) (ap length values_here ∙ as_many c ∙ sym (ap length form_here.widths)) in
-      let one = filled_number short_digits (line_number c) (filled_none z) p (number, refl, refl, omega arith) in
-      let two = filled_put short_digits ns one (length_digits short_digits (line_number c)) (omega arith) e in
+      let ns = numerals r.widths.now (values_in r vs) in
+      let l = length_numerals r.widths.now (values_in r vs) (ap length values_here ∙ as_many c ∙ sym (ap length form_here.widths)) in
+      let one = filled_number 0 short_digits (line_number c) (filled_none z) (rw number at p) refl (omega arith) in
+      let two = filled_put short_digits ns one (length_digits short_digits (line_number c)) (omega arith) (rw w at e) in
       rw (← form_here.widths, ← values_here) two
 
 -- THE ANSWERS

@@ -29,7 +29,7 @@ pub fn write_line(command: Command, payload: &[u8], buffer: &mut [u8]) -> Result
     if buffer.len() <= end {
         return Err(Refusal::NoRoom);
     }
-    put_number(number, SHORT_DIGITS, 0, buffer);
+    put_number(number, &mut buffer[0..SHORT_DIGITS]);
     put_values(form.widths, &values[0..form.widths.len()], buffer);
     buffer[front..end].copy_from_slice(payload);
     buffer[end] = LINE_END;
@@ -61,7 +61,8 @@ fn put_values(widths: &[usize], values: &[u32], buffer: &mut [u8])
 {
     let mut at = SHORT_DIGITS;
     for (i, width) in widths.iter().enumerate() {
-        put_number(values[i], *width, at, buffer);
-        at += *width;
+        let next = at + *width;
+        put_number(values[i], &mut buffer[at..next]);
+        at = next;
     }
 }

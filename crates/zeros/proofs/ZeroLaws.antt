@@ -2,14 +2,13 @@
 use mathlib.Core.Path.{◌≡◌, refl, sym, ap, ◌∙◌}
 use mathlib.Core.Logic.{inl, inr, ◌≢◌}
 use mathlib.Core.Bool.{Bool, true, false, ◌&&◌, false≢true}
-use mathlib.Core.List.{List, [], ◌∷◌, ◌++◌, append_assoc, append-nil}
-use Prim.Native.Nat.{ℕ, suc, ◌+◌, ◌*◌, ◌-◌, ◌≤◌, ◌<◌}
+use mathlib.Core.List.{List, [], ◌∷◌, ◌++◌}
+use Prim.Native.Nat.{ℕ, ◌+◌, ◌*◌, ◌≤◌, ◌<◌}
 use native.Mathlib.Omega.{arith}
-use native.Mathlib.Numerals.{add-one}
 use lib.Dec.{ltb, leb, eqb}
 use borrow.Author.Tests.{lt-ltb, le-ltb}
-use lib.ListN.{length, set, take, drop, replicate, take-append-drop, drop_of_length-le, replicate-append-replicate}
-use lib.Seq.{take-add, drop-drop, take-suc-set}
+use lib.ListN.{length, take, drop, take-append-drop, drop_of_length-le}
+use lib.Seq.{take-add, drop-drop}
 use Rattle.rules.specs.Table.{value, field}
 use Rattle.rules.specs.Conditions.{◌⟺◌}
 use Rattle.theory.specs.Tests.{either, leb?, eqb?}
@@ -71,7 +70,7 @@ row_last bs a b c u v w d e f p q k l m n =
           | inl x ↦ elim (leb? (b + 8) i) [ inr y ↦ e.0 q i (omega (arith, x.1)) y.1 | inl y ↦ f.0 r i (omega (arith, y.1)) (omega arith) ]
         ]
 
--- FOUR ROWS are not zero where one of them is not; without a gap, and three of them zero, they are where the last is
+-- FOUR ROWS are not zero where one of them is not
 pub four_foul : (bs : List ℕ) (a b : ℕ) (x : Bool) → x ≡ zero_part b 24 bs → x ≡ false → a ≤ b → b + 24 ≤ a + 96 → false ≡ zero_part a 96 bs
 four_foul bs a b x e f h k =
     elim (either (zero_part a 96 bs)) [
@@ -79,26 +78,18 @@ four_foul bs a b x e f h k =
       | inr z ↦ sym z
     ]
 
-pub four_last : (bs : List ℕ) (a b c d : ℕ) (x y z w : Bool) → x ≡ zero_part a 24 bs → y ≡ zero_part b 24 bs → z ≡ zero_part c 24 bs →
-    w ≡ zero_part d 24 bs → x ≡ true → y ≡ true → z ≡ true → a ≤ d → b ≤ a + 24 → c ≤ b + 24 → d ≤ c + 24 → d + 24 ≡ a + 96 →
-    w ≡ zero_part a 96 bs
-four_last bs a b c d x y z w ex ey ez ew p q r k l m n o =
-    elim (either w) [
-      | inl h ↦ h ∙ sym ((part_zeros a 96 bs).1 (all (sym ew ∙ h)))
-      | inr h ↦ h ∙ four_foul bs a d w ew h k (omega arith)
-    ]
+-- and zero as far as they are looked at, one by one
+pub rows_none : (bs : List ℕ) (a : ℕ) → zero_part a 0 bs ≡ true
+rows_none bs a = (part_zeros a 0 bs).1 (λ i p q. absurd (omega (arith, p, q)))
+
+pub rows_more : (bs : List ℕ) (a n b : ℕ) (x : Bool) → x ≡ zero_part b 24 bs → x ≡ true → b ≡ a + n → zero_part a n bs ≡ true → zero_part a (n + 24) bs ≡ true
+rows_more bs a n b x e p d z = (part_zeros a (n + 24) bs).1 all
   where
-    all : zero_part d 24 bs ≡ true → Zeros a (a + 96) bs
-    all s i g h =
-        elim (leb? (a + 24) i) [
-          | inr u ↦ (part_zeros a 24 bs).0 (sym ex ∙ p) i g u.1
-          | inl u ↦ elim (leb? (b + 24) i) [
-            | inr v ↦ (part_zeros b 24 bs).0 (sym ey ∙ q) i (omega (arith, u.1)) v.1
-            | inl v ↦ elim (leb? (c + 24) i) [
-              | inr t ↦ (part_zeros c 24 bs).0 (sym ez ∙ r) i (omega (arith, v.1)) t.1
-              | inl t ↦ (part_zeros d 24 bs).0 s i (omega (arith, t.1)) (omega arith)
-            ]
-          ]
+    all : Zeros a (a + (n + 24)) bs
+    all i g h =
+        elim (leb? (a + n) i) [
+          | inr u ↦ (part_zeros a n bs).0 z i g u.1
+          | inl u ↦ (part_zeros b 24 bs).0 (sym e ∙ p) i (omega (arith, u.1, d)) (omega (arith, h, d))
         ]
 
 -- the bytes from a place on: so many, and the rest
@@ -118,24 +109,6 @@ zeros_more bs f a n x v e k inv =
 pub zeros_none : (bs : List ℕ) (a : ℕ) → length bs ≤ a → zeros (drop a bs) ≡ true
 unfolding zeros
 zeros_none bs a h = rw (drop_of_length-le bs h)
-
--- CLEARED from f up to i, and one byte more
-pub cleared_none : (t : List ℕ) (f : ℕ) → take f t ≡ take f t ++ replicate (f - f) 0
-cleared_none t f =
-    let e : f - f ≡ 0 = omega arith in
-    rw e (sym (append-nil (take f t)))
-
-pub cleared_more : (t z : List ℕ) (f i : ℕ) → f ≤ i → i < length z → take i z ≡ take f t ++ replicate (i - f) 0 →
-    take (i + 1) (set z i 0) ≡ take f t ++ replicate (i + 1 - f) 0
-cleared_more t z f i h k inv =
-    let e : i + 1 - f ≡ i - f + 1 = omega arith in
-    let n : take (i + 1) (set z i 0) ≡ take (suc i) (set z i 0) = rw add-one in
-    n
-    ∙ take-suc-set z i 0 k
-    ∙ ap (λ (bs : List ℕ). bs ++ replicate 1 0) inv
-    ∙ append_assoc (take f t) (replicate (i - f) 0) (replicate 1 0)
-    ∙ ap (λ (bs : List ℕ). take f t ++ bs) (replicate-append-replicate (i - f) 1 0)
-    ∙ ap (λ (m : ℕ). take f t ++ replicate m 0) (sym e)
 
 -- A WORD IS BELOW 1,024 when its second byte is at most 3 and those behind it are zero
 pub word_in_two : (b c : ℕ) (bs : List ℕ) → b < 256 → ltb (value (b ∷ c ∷ bs)) 1024 ≡ leb c 3 && zeros bs

@@ -1,10 +1,10 @@
--- `buckets::reach_of` meets its contract: the loop is `Levels`.
-use Prim.Native.Nat.{suc, ◌-◌}
+-- `buckets::reach_of` meets its contract: the loops are `Levels`.
+use Prim.Native.Nat.{◌+◌, ◌*◌, ◌/◌}
 use Rattle.buckets.specs.Reach.{Levels}
 use Rattle.buckets.proofs.reach_of.Given as goal
 
-abbrev pub invariant-loop-s : goal.invariant-loop-s
-invariant-loop-s l = Levels l.counts l.top l.s l.sum l.most
+abbrev pub invariant-loop-four : goal.invariant-loop-four
+invariant-loop-four l = Levels l.counts l.top (4 * l.four-index) l.sum l.most
 
-abbrev pub decreases-loop-s : goal.decreases-loop-s
-decreases-loop-s l = suc l.top - l.s
+abbrev pub invariant-loop-count : goal.invariant-loop-count
+invariant-loop-count l = Levels l.counts l.top ((l.top + 1) / 4 * 4 + l.count-index) l.sum l.most

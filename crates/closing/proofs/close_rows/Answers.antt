@@ -1,5 +1,4 @@
 -- `closing::close_rows` meets its contract.
-use Prim.Native.Nat.{◌-◌}
 use borrow.Author.Rules.{rules}
 use Rattle.closing.proofs.CloseLaws.{search_start, runs_start, some_left, search_more, run_room, runs_more, runs_end}
 use Rattle.closing.proofs.close_rows.Goals as goal

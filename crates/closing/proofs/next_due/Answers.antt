@@ -1,5 +1,4 @@
 -- `closing::next_due` meets its contract.
-use Prim.Native.Nat.{◌-◌}
 use borrow.Author.Rules.{rules}
 use Rattle.closing.proofs.SearchLaws.{none_start, none_more, next_found, next_none}
 use Rattle.closing.proofs.next_due.Goals as goal

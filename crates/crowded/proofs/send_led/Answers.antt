@@ -1,5 +1,6 @@
 -- `crowded::send_led` meets its contract.
 use Rattle.crowded.proofs.CrowdedLaws.{first_lent, first_alone, planned_step}
+use Rattle.went.proofs.SendLaws.{alone_asks, alone_goes}
 use native.Mathlib.Omega.{arith}
 use Rattle.crowded.proofs.send_led.Goals as goal
 
@@ -8,7 +9,11 @@ first_planned-row-requires c = first_lent c.requires
 
 pub send_row-requires : goal.send_row-requires
 send_row-requires c =
-    (first_alone c.requires (omega arith) c.first_planned-row.ensures, c.requires.due)
+    alone_asks (first_alone c.requires (omega arith) c.first_planned-row.ensures) c.requires.due
+
+pub returns-then-round-eq1 : goal.returns-then-round-eq1
+returns-then-round-eq1 c =
+    alone_goes (first_alone c.requires (omega arith) c.first_planned-row.ensures) c.send_row.ensures
 
 pub send_planned-requires : goal.send_planned-requires
 send_planned-requires c =

@@ -3,4 +3,4 @@ use Rattle.digits.proofs.Spelling.{NumberPut}
 use Rattle.digits.proofs.put_number.Given as goal
 
 abbrev pub invariant-loop-i : goal.invariant-loop-i
-invariant-loop-i l = NumberPut l.value l.count l.at l.initial.buffer l.buffer l.rest l.i
+invariant-loop-i l = NumberPut l.value l.initial.part l.part l.rest l.i

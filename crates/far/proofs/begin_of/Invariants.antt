@@ -6,11 +6,8 @@ use Rattle.far.proofs.begin_of.Given as goal
 abbrev pub invariant-loop-s : goal.invariant-loop-s
 invariant-loop-s l = (l.mid ≤ l.s) × Waiting l.counts l.mid l.top l.s l.waiting
 
-abbrev pub decreases-loop-s : goal.decreases-loop-s
-decreases-loop-s l = l.s
-
 abbrev pub invariant-loop-waiting : goal.invariant-loop-waiting
-invariant-loop-waiting l = Seeking l.counts l.mid l.top l.s l.waiting
+invariant-loop-waiting l = Seeking l.counts l.mid l.top l.begin l.waiting
 
 abbrev pub decreases-loop-waiting : goal.decreases-loop-waiting
-decreases-loop-waiting l = l.s
+decreases-loop-waiting l = l.begin

@@ -1,7 +1,6 @@
 -- `far::substitute_far` meets its contract.
 use mathlib.Core.Path.{refl}
-use native.Mathlib.Omega.{arith}
-use Rattle.far.proofs.FarLaws.{few, due_far, window_small, roomy, blank_begins, begin_fits}
+use Rattle.far.proofs.FarLaws.{few, due_far, window_small, roomy, blank_begins}
 use Rattle.far.proofs.substitute_far.Goals as goal
 
 pub window_of-window-requires : goal.window_of-window-requires
@@ -9,27 +8,11 @@ window_of-window-requires c = let p = c.requires in ((few _ _ _ _ _ p).0, (few _
 
 pub count_in-requires : goal.count_in-requires
 count_in-requires c = let p = c.requires in
-    let w = window_small _ _ _ _ _ p _ c.due_at.ensures _ c.window_of-window.ensures in (p.ready, w.0, w.1, p.none)
+    let w = window_small _ _ _ _ _ p _ c.due_at.ensures _ c.window_of-window.ensures in (w.0, w.1, p.none)
 
 pub begin_of-begin-requires : goal.begin_of-begin-requires
 begin_of-begin-requires c = let p = c.requires in
     roomy _ _ _ _ _ p _ c.due_at.ensures _ c.window_of-window.ensures _ c.count_in.ensures
-
-pub overflow_cast-result : goal.overflow_cast-result
-overflow_cast-result c = let p = c.requires in
-    omega (
-      arith,
-      (begin_fits _ _ _ _ _ p _ c.due_at.ensures _ c.window_of-window.ensures _ c.count_in.ensures _
-          c.begin_of-begin.ensures).0,
-    )
-
-pub overflow_add-result : goal.overflow_add-result
-overflow_add-result c = let p = c.requires in
-    omega (
-      arith,
-      (begin_fits _ _ _ _ _ p _ c.due_at.ensures _ c.window_of-window.ensures _ c.count_in.ensures _
-          c.begin_of-begin.ensures).1,
-    )
 
 pub returns : goal.returns
 returns c = let p = c.requires in

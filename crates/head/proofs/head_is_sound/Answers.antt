@@ -3,5 +3,5 @@ use Rattle.head.proofs.HeadLaws.{head_is}
 use Rattle.head.proofs.head_is_sound.Goals as goal
 
 pub returns : goal.returns
-returns c = rw (c.head_is_good.ensures, c.read1.ensures, c.read4.ensures)
+returns c = rw (c.head_is_good.ensures, c.read.ensures, c.read-2.ensures)
     (search (head_is, c.requires.1))

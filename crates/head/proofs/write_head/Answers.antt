@@ -5,5 +5,5 @@ use Rattle.head.proofs.write_head.Goals as goal
 
 pub returns : goal.returns
 returns c =
-    head_stored _ _ _ _ _ _ _ _ _ _ (tail_of c.args.round) c.requires.0 c.write2.ensures c.write2-2.ensures
-    c.write4.ensures c.write2-3.ensures (cc c.write1.ensures)
+    head_stored _ _ _ _ _ _ _ _ _ _ (tail_of c.args.round) c.requires.0 c.write.ensures c.write-2.ensures
+    c.write-3.ensures c.write-4.ensures (cc c.write-5.ensures)

@@ -1,9 +1,7 @@
--- `kinds::kinds_are_good` meets its contract. The invariant: what is said of all kinds is said of those left (`KindsLeft`).
-use Rattle.kinds.proofs.KindLaws.{KindsLeft}
+-- `kinds::kinds_are_good` meets its contract. The invariant: what is said of all kinds is said of those left.
+use mathlib.Core.Path.{◌≡◌}
+use Rattle.kinds.specs.Kinds.{kinds_good}
 use Rattle.kinds.proofs.kinds_are_good.Given as goal
 
-abbrev pub invariant-loop-left : goal.invariant-loop-left
-invariant-loop-left l = KindsLeft l.table l.used l.left
-
-abbrev pub decreases-loop-left : goal.decreases-loop-left
-decreases-loop-left l = l.left
+abbrev pub invariant-loop-i : goal.invariant-loop-i
+invariant-loop-i l = kinds_good l.table l.used ≡ kinds_good l.table l.i

@@ -1,32 +1,16 @@
--- `step::send_swapped` meets its contract.
+-- `leap::send_swapped` meets its contract.
 use borrow.Author.Rules.{rules}
-use Rattle.leap.proofs.LeapLaws.{leap_used, swap_own, swap_near, swap_chained, swap_low, swap_place, swap_small, swap_there, swap_good, swap_due, swap_says}
+use Rattle.leap.proofs.LeapLaws.{leap_used, swap_own, swap_near, swap_chained, swap_small, swap_there, swap_good, swap_due, swap_says}
 use Rattle.leap.proofs.send_swapped.Goals as goal
 
-pub went_of-went-requires : goal.went_of-went-requires
-went_of-went-requires c = search (leap_used, rules)
+pub out_of-out-requires : goal.out_of-out-requires
+out_of-out-requires c = search (leap_used, rules)
 
 pub segment_by-to-requires : goal.segment_by-to-requires
 segment_by-to-requires c = search (swap_own, swap_near, rules)
 
 pub shift_chain-requires : goal.shift_chain-requires
 shift_chain-requires c = search (swap_chained, rules)
-
-pub offset_bounds-lows-to : goal.offset_bounds-lows-to
-offset_bounds-lows-to c =
-    let h = swap_low c.requires.0 c.due_of.ensures
-    c.segment_by-to.ensures in
-    let to-by = h.0 in
-    let own-fits = h.1 in
-    search rules
-
-pub bounds-lows-to : goal.bounds-lows-to
-bounds-lows-to c =
-    let h = swap_place c.requires.0 c.due_of.ensures
-    c.segment_by-to.ensures c.lower_marks.ensures in
-    let to-by = h.0 in
-    let own-fits = h.1 in
-    search rules
 
 pub write_weight-requires : goal.write_weight-requires
 write_weight-requires c = search (swap_small, swap_there, rules)
@@ -48,4 +32,4 @@ pub returns : goal.returns
 returns c =
     swap_says c.requires.0 c.due_of.ensures c.segment_by-to.ensures c.lower_marks.ensures
     c.shift_chain.ensures c.row_of.ensures c.write_weight.ensures (search rules)
-    c.row_of-sent.ensures c.went_of-went.ensures c.close_up.ensures
+    c.row_of-sent.ensures c.out_of-out.ensures c.close_up.ensures

@@ -8,9 +8,7 @@ pub starts-many-requires : goal.starts-many-requires
 starts-many-requires c = startable _ _ _ _ _ _ _ c.requires
 
 pub sort-far-requires : goal.sort-far-requires
-sort-far-requires c =
-    let l = c.requires in
-    (l.ready, unsorted _ _ _ _ _ _ _ l _ _ _ c.starts-many.ensures (search rules))
+sort-far-requires c = unsorted _ _ _ _ _ _ _ c.requires _ _ _ c.starts-many.ensures (search rules)
 
 pub leave_out-lost-requires : goal.leave_out-lost-requires
 leave_out-lost-requires c =

@@ -11,5 +11,5 @@ pub returns : goal.returns
 unfolding digits bare_text
 returns c =
     let s = c.args in
-    let one = filled_number 2 s.number (filled_none s.buffer.now) c.put_number.ensures (search rules) in
+    let one = filled_number 0 2 s.number (filled_none s.buffer.now) c.put_number.ensures refl (search rules) in
     replied (filled_byte 2 10 one refl (search rules)) (search rules)

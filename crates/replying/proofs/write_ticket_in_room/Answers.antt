@@ -10,6 +10,6 @@ pub returns : goal.returns
 unfolding digits reply_digits reply_text
 returns c =
     let s = c.args in
-    let one = filled_number 2 1 (filled_none s.buffer.now) c.put_number.ensures (search rules) in
-    let two = filled_number 8 s.given.0 one c.put_number-2.ensures (search rules) in
+    let one = filled_number 0 2 1 (filled_none s.buffer.now) c.put_number.ensures refl (search rules) in
+    let two = filled_number 2 8 s.given.0 one c.put_number-2.ensures refl (search rules) in
     replied (filled_byte 10 10 two refl (search rules)) (search rules)

@@ -6,4 +6,4 @@ pub returns-then-kind-eq0 : goal.returns-then-kind-eq0
 returns-then-kind-eq0 c = rw c.if-kind-eq0.true
 
 pub returns : goal.returns
-returns c = search (kept_test c.args.kind c.args.class, c.if-kind-eq0.false)
+returns c = rw c.from.ensures (kept_test c.args.kind c.args.class c.if-kind-eq0.false)

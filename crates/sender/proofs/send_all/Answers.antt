@@ -1,5 +1,6 @@
 -- `sender::send_all` meets its contract.
 use native.Mathlib.Omega.{arith}
+use Rattle.went.proofs.SendLaws.{alone_asks, alone_goes}
 use Rattle.sender.proofs.SenderLaws.{whole_step, all_alone, all_idle}
 use Rattle.sender.proofs.send_all.Goals as goal
 
@@ -13,4 +14,8 @@ returns-then-reach-eq0 c =
 
 pub send_row-requires : goal.send_row-requires
 send_row-requires c =
-    (all_alone c.requires.0 (omega arith) (λ e. omega (arith, e)) c.first_of_all-row.ensures, c.requires.1)
+    alone_asks (all_alone c.requires.0 (omega arith) (λ e. omega (arith, e)) c.first_of_all-row.ensures) c.requires.1
+
+pub returns : goal.returns
+returns c =
+    alone_goes (all_alone c.requires.0 (omega arith) (λ e. omega (arith, e)) c.first_of_all-row.ensures) c.send_row.ensures

@@ -28,10 +28,18 @@ send_all-requires c = (
   due_now _ _ _ c.requires.0 c.requires.1 _ refl,
 )
 
-pub send_few-requires : goal.send_few-requires
-send_few-requires c =
-    (c.requires.0, c.requires.1, c.reach_of-reach.ensures, (λ z. omega (arith, z)), due_now _ _ _ c.requires.0 c.requires.1 _ refl, omega arith)
+pub send_in_arrays-requires : goal.send_in_arrays-requires
+send_in_arrays-requires c =
+    (c.requires.0, c.requires.1, c.reach_of-reach.ensures, (λ z. omega (arith, z)), due_now _ _ _ c.requires.0 c.requires.1 _ refl, omega arith, omega arith)
 
-pub send_many-requires : goal.send_many-requires
-send_many-requires c =
-    (c.requires.0, c.requires.1, c.reach_of-reach.ensures, (λ z. omega (arith, z)), due_now _ _ _ c.requires.0 c.requires.1 _ refl, omega (arith, (known _ _ c.requires.0).used, (known _ _ c.requires.0).small))
+pub send_in_arrays-requires-2 : goal.send_in_arrays-requires-2
+send_in_arrays-requires-2 c =
+    let n = known _ _ c.requires.0 in (
+      c.requires.0,
+      c.requires.1,
+      c.reach_of-reach.ensures,
+      (λ z. omega (arith, z)),
+      due_now _ _ _ c.requires.0 c.requires.1 _ refl,
+      omega (arith, n.used, n.small),
+      omega arith,
+    )

@@ -1,18 +1,17 @@
 -- `stationround::main`: nothing is read at first; a read served is one read more.
 use Rattle.std.proofs.Common.{rules, arith}
+use mathlib.Core.Path.{ap}
+use Rattle.serving.specs.Serving.{held_in}
 use Rattle.serving.proofs.OneRead.{held_short}
 use Rattle.stationround.proofs.SoFar.{so_far_none, so_far_more}
 use Rattle.stationround.proofs.main.Goals as goal
 
-pub loop-turns-init : goal.loop-turns-init
-loop-turns-init c = (search rules, search rules, search rules, search rules, so_far_none _ _ (search rules))
+pub loop-init : goal.loop-init
+loop-init c = (search rules, so_far_none _ _ (search rules))
 
-pub loop-turns-preserved : goal.loop-turns-preserved
-loop-turns-preserved c =
+pub loop-preserved : goal.loop-preserved
+loop-preserved c =
     let served = c.serve_in_room-served.ensures in (
-      search rules,
-      search rules,
-      search rules,
-      held_short served,
-      so_far_more c.loop-turns.invariant.4 c.read_behind-got.ensures.input_unchanged served (omega arith) (search rules) (omega arith),
+      omega (arith, held_short served, ap held_in c.in-Some.is),
+      so_far_more c.loop.invariant.1 c.read_behind-got.ensures.input_unchanged served (omega arith) c.in-Some.is,
     )

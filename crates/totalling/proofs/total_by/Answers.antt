@@ -1,11 +1,9 @@
 -- `totalling::total_by` meets its contract.
 use Rattle.std.proofs.Common.{◌≡◌, ◌∙◌, Err, rules, arith, sym}
-use Rattle.theory.specs.Outcomes.{says_refused, question_judges, by_table, total_said}
+use Rattle.theory.specs.Outcomes.{question_judges, total_said}
 use Rattle.rules.specs.Calls.{totalling, asking}
-use Rattle.refusals.proofs.Numbers.{refusal_counts}
-use Rattle.checks.proofs.Accepted.{send_accepted}
+use Rattle.checks.proofs.Refused.{refused_says, unsound_says}
 use Rattle.round.proofs.ByHead.{totalling_by}
-use Rattle.questions.proofs.SeenLaws.{ready}
 use Rattle.totalling.proofs.total_by.Goals as goal
 
 pub whole_as_slice-scan : goal.whole_as_slice-scan
@@ -17,15 +15,14 @@ whole_as_slice-total_ahead g c = omega arith
 pub returns-in_err-round : goal.returns-in_err-round
 returns-in_err-round g c =
     let e : c.from_residual.result ≡ Err c.in_err-round.field-0.0 = search rules in
-    let h = c.in_err-round.ensures in
-    rw e (says_refused (asking totalling) c.args.table.now _ (by_table (asking totalling) c.args.table.now _ (question_judges totalling) h.0 h.1) h.1)
+    rw e (unsound_says (asking totalling) c.args.table.now _ (question_judges totalling) c.in_err-round.ensures.0)
 
 pub returns-in_err-may_send : goal.returns-in_err-may_send
 returns-in_err-may_send g c =
     let e : c.from_residual-in_err-may_send.result ≡ Err c.in_err-may_send.field-0.0 = search rules in
     let k = c.in_ok-round.ensures in
-    rw e (says_refused (asking totalling) c.args.table.now _ (totalling_by c.args.table.now c.in_ok-round.round k.0 k.1 ∙ sym c.in_err-may_send.ensures)
-    (λ z. omega (arith, z, refusal_counts c.in_err-may_send.field-0.0)))
+    rw e (refused_says (asking totalling) c.args.table.now _ _ (totalling_by c.args.table.now c.in_ok-round.round k.0 k.1)
+    (omega (arith, c.in_err-may_send.ensures)))
 
 pub returns : goal.returns
 returns g c =

@@ -17,19 +17,14 @@ overflow_add-end c = omega (arith, (slots_fit c.requires c.stretch_of.ensures).0
 
 pub returns-then-rank_due-end : goal.returns-then-rank_due-end
 returns-then-rank_due-end c =
-    let pre = c.requires in
-    let stretch-of = c.stretch_of in
-    let heaviest = c.heaviest-best in
-    first_all pre heaviest.ensures stretch-of.ensures (omega (arith, c.if-rank_due-end.true)) (omega arith)
+    first_all c.requires c.heaviest-best.ensures c.stretch_of.ensures (omega (arith, c.if-rank_due-end.true)) (omega arith)
 
 pub choose_past-requires : goal.choose_past-requires
 choose_past-requires c =
-    let pre = c.requires in
-    let stretch-of = c.stretch_of in
     record {
-      given = pre;
+      given = c.requires;
       best = c.heaviest-best.ensures;
-      near = ends_near pre stretch-of.ensures (omega arith);
-      segment = ends_first pre stretch-of.ensures (omega arith);
+      near = ends_near c.requires c.stretch_of.ensures (omega arith);
+      segment = ends_first c.requires c.stretch_of.ensures (omega arith);
       past = omega (arith, c.if-rank_due-end.false);
     }

@@ -4,6 +4,7 @@ use Prim.Native.Nat.{◌+◌, ◌-◌}
 use native.Mathlib.Omega.{arith}
 use native.Mathlib.Nat.{sub-zero}
 use lib.ListN.{length}
+use borrow.Author.Rules.{rules}
 use Rattle.rules.specs.Lines.{form_of, front_size, stands}
 use Rattle.theory.specs.Lines.{front_small}
 use Rattle.digits.proofs.Filling.{put_part}
@@ -33,10 +34,15 @@ pub returns-then-buffer-end : goal.returns-then-buffer-end
 returns-then-buffer-end c =
     let here = goal.at.returns-then-buffer-end c in
     let ask = asked here.After-can_stand in
-    record { writes = write_full (of_command c.args.command) c.args.payload.now c.args.buffer.now (sym ask ∙ c.if-not-can_stand.false) (omega (arith, front here.After-values_of-values, c.if-buffer-end.true)); payload_value = refl }
+    record {
+      writes =
+          write_full (of_command c.args.command) c.args.payload.now c.args.buffer.now (sym ask ∙ c.if-not-can_stand.false)
+          (omega (arith, front here.After-values_of-values, c.if-buffer-end.true));
+      payload_value = refl;
+    }
 
-pub put_number-requires : goal.put_number-requires
-put_number-requires c = omega (arith, c.if-buffer-end.false, front_count c.form_of-form.ensures)
+pub slice_bounds-put_number-end : goal.slice_bounds-put_number-end
+slice_bounds-put_number-end c = omega (arith, c.if-buffer-end.false, front_count c.form_of-form.ensures)
 
 pub put_values-requires-clause-room : goal.put_values-requires-clause-room
 put_values-requires-clause-room c = omega (arith, c.if-buffer-end.false, front_count c.form_of-form.ensures)
@@ -45,13 +51,14 @@ pub returns : goal.returns
 returns c =
     let here = goal.at.returns c in
     let m = c.form_of-form.result.front in
-    let filled = front_put c.line_number-number.ensures c.form_of-form.ensures c.values_of-values.ensures (omega (arith, c.if-buffer-end.false))
-    c.put_number.ensures (rw sub-zero at c.put_values.ensures) in
+    let filled =
+    front_put c.line_number-number.ensures c.form_of-form.ensures c.values_of-values.ensures {z = c.args.buffer.now} {y = c.put_number.new.part}
+    (omega (arith, c.if-buffer-end.false)) c.put_number.ensures refl (rw sub-zero at c.put_values.ensures) in
     let copied = put_part m (m + length c.args.payload.now - m) c.put_values.new.buffer c.copy_from_slice.ensures.after (omega arith) in
     let ask = asked here.After-can_stand in
     record {
       writes =
           write_on (of_command c.args.command) c.args.payload.now c.args.buffer.now (sym ask ∙ c.if-not-can_stand.false)
-          (front here.After-values_of-values) c.if-buffer-end.false filled copied refl;
+          (front here.After-values_of-values) c.if-buffer-end.false filled copied (search rules);
       payload_value = refl;
     }

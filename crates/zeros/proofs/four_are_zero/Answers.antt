@@ -1,26 +1,26 @@
 -- `zeros::four_are_zero` meets its contract: four rows without a gap.
-use borrow.Author.Rules.{rules}
-use Rattle.zeros.proofs.ZeroLaws.{four_foul, four_last}
+use mathlib.Core.Path.{◌≡◌, sym, ap, ◌∙◌}
+use Prim.Native.Nat.{ℕ, ◌+◌, ◌*◌}
+use native.Mathlib.Omega.{arith}
+use Rattle.zeros.specs.Zeros.{zero_part}
+use Rattle.zeros.proofs.ZeroLaws.{four_foul, rows_none, rows_more}
 use Rattle.zeros.proofs.four_are_zero.Goals as goal
+
+pub loop-row-init : goal.loop-row-init
+loop-row-init c = rows_none c.args.table.now c.args.at
 
 pub returns-then-not-row_is_zero : goal.returns-then-not-row_is_zero
 returns-then-not-row_is_zero c =
-    let s = c.args in
-    four_foul s.table.now s.at _ _ c.row_is_zero.ensures c.if-not-row_is_zero.true (search rules) (search rules)
+    four_foul c.args.table.now c.args.at _ _ c.row_is_zero.ensures c.if-not-row_is_zero.true (omega arith) (omega arith)
 
-pub returns-then-not-row_is_zero-2 : goal.returns-then-not-row_is_zero-2
-returns-then-not-row_is_zero-2 c =
+pub loop-row-preserved : goal.loop-row-preserved
+loop-row-preserved c =
     let s = c.args in
-    four_foul s.table.now s.at _ _ c.row_is_zero-2.ensures c.if-not-row_is_zero-2.true (search rules) (search rules)
-
-pub returns-then-not-row_is_zero-3 : goal.returns-then-not-row_is_zero-3
-returns-then-not-row_is_zero-3 c =
-    let s = c.args in
-    four_foul s.table.now s.at _ _ c.row_is_zero-3.ensures c.if-not-row_is_zero-3.true (search rules) (search rules)
+    let e : 24 * c.loop-row.row + 24 ≡ 24 * (c.loop-row.row + 1) = omega arith in
+    sym (ap (λ (n : ℕ). zero_part s.at n s.table.now) e)
+    ∙ rows_more s.table.now s.at (24 * c.loop-row.row) _ _ c.row_is_zero.ensures c.if-not-row_is_zero.false (omega arith) c.loop-row.invariant
 
 pub returns : goal.returns
 returns c =
-    let s = c.args in
-    four_last s.table.now s.at _ _ _ _ _ _ _ c.row_is_zero.ensures c.row_is_zero-2.ensures
-    c.row_is_zero-3.ensures c.row_is_zero-4.ensures c.if-not-row_is_zero.false c.if-not-row_is_zero-2.false
-    c.if-not-row_is_zero-3.false (search rules) (search rules) (search rules) (search rules) (search rules)
+    let e : 24 * c.loop-row.row ≡ 96 = omega arith in
+    sym c.loop-row.invariant ∙ ap (λ (n : ℕ). zero_part c.args.at n c.args.table.now) e

@@ -1,7 +1,6 @@
 -- `zeros::zeros_from` meets its contract. The invariant: the bytes from the start are zero where those from here on are, and whole rows follow.
 use mathlib.Core.Bool.{true, false}
 use mathlib.Core.Path.{refl, sym, ◌∙◌}
-use Prim.Native.Nat.{◌-◌}
 use borrow.Author.Rules.{rules}
 use Rattle.zeros.proofs.ZeroLaws.{zeros_more, zeros_none}
 use Rattle.zeros.proofs.zeros_from.Goals as goal

@@ -1,5 +1,4 @@
 -- `buckets::stretch::stretch_of` meets its contract: the loop is `On`.
-use Prim.Native.Nat.{◌-◌}
 use native.Mathlib.Omega.{arith}
 use Rattle.buckets.proofs.StretchLaws.{full_fits, covered, on_start, on_left, on_covered, on_step, on_end}
 use Rattle.buckets.proofs.stretch.stretch_of.Goals as goal

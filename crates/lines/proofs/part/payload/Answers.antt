@@ -16,13 +16,13 @@ within c =
     (omega (arith, h.0, p.starts, p.ends), omega (arith, h.1, p.ends))
 
 pub slice_bounds-result-count : goal.slice_bounds-result-count
-slice_bounds-result-count c = (within (goal.at.slice_bounds-result-count c).After-payload_place-place).0
+slice_bounds-result-count c = let h = within (goal.at.slice_bounds-result-count c).After-payload_place-place in omega (arith, h.0, h.1)
 
 pub slice_bounds-result-start : goal.slice_bounds-result-start
 slice_bounds-result-start c = let h = within (goal.at.slice_bounds-result-start c).After-payload_place-place in omega (arith, h.0, h.1)
 
 pub slice_bounds-result-end : goal.slice_bounds-result-end
-slice_bounds-result-end c = (within (goal.at.slice_bounds-result-end c).After-payload_place-place).1
+slice_bounds-result-end c = let h = within (goal.at.slice_bounds-result-end c).After-payload_place-place in omega (arith, h.0, h.1)
 
 pub returns : goal.returns
 returns c =

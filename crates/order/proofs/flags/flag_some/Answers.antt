@@ -6,14 +6,14 @@ use Rattle.order.proofs.flags.flag_some.Goals as goal
 
 pub plan_of-requires : goal.plan_of-requires
 plan_of-requires c =
-    let few = few_rows _ _ c.requires.0 in
+    let few = few_rows _ _ c.args.sound.now.ready in
     record {
-      ready = c.requires.0;
-      counted = c.requires.1;
-      reaches = c.requires.2;
-      some = c.requires.3;
+      ready = c.args.sound.now.ready;
+      counted = c.requires.0;
+      reaches = c.requires.1;
+      some = c.requires.2;
       keys = omega (arith, few);
-      flags = c.requires.4;
+      flags = c.requires.3;
       heap = refl;
       room = omega (arith, few);
     }

@@ -7,5 +7,5 @@ use Rattle.row.proofs.judge.see_row.Goals as goal
 pub returns : goal.returns
 returns c =
     let bytes : Bytes c.args.row.now = λ i. omega (arith, c.type_inv.row i) in
-    row_seen _ _ _ _ c.read8.result c.read8-2.result c.read2.result c.read4-2.result c.less-2.result
+    row_seen _ _ _ _ c.read8.result c.read8-2.result c.read-2.result c.read-3.result c.less-2.result
     bytes c.requires (search rules) (search rules) (search rules) (search rules) (search rules) (search rules) (search rules) (search rules) (search rules)

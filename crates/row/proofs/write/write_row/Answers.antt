@@ -6,10 +6,10 @@ use Rattle.row.proofs.write.write_row.Goals as goal
 pub returns : goal.returns
 returns c =
     row_stored _ _ _ _ _ _ _ _ _ _ c.args.class.0 _ _
-    c.write4.ensures
-    c.write2.ensures
-    c.write4-2.ensures
-    c.write1.ensures
-    c.write1-2.ensures
+    c.write.ensures
+    c.write-2.ensures
+    c.write-3.ensures
+    c.write-4.ensures
+    c.write-5.ensures
     (omega arith)
     (omega arith)

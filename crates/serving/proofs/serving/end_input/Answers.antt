@@ -11,4 +11,4 @@ returns-then-held-eq0 c = ending_none {held = c.args.held} (search rules)
 
 pub returns : goal.returns
 returns c =
-    ending_refused {held = c.args.held} (search rules) (said_by {text = reply_text (refused 1)} c.write_refusal_in_room.ensures cc)
+    ending_refused {held = c.args.held} (search rules) (said_by {text = reply_text (refused 1)} c.say_refusal.ensures cc)

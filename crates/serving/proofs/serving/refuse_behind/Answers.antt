@@ -9,9 +9,9 @@ use borrow.Author.Rules.{rules}
 use Rattle.serving.proofs.serving.refuse_behind.Goals as goal
 
 pub overflow_add-result : goal.overflow_add-result
-overflow_add-result c = let wrote = c.write_refusal_in_room in omega (arith, reply_within wrote.ensures wrote.auto.buffer)
+overflow_add-result c = let wrote = c.say_refusal in omega (arith, reply_within wrote.ensures wrote.auto.reply)
 
 pub returns : goal.returns
 returns c =
-    let wrote = c.write_refusal_in_room in
-    behind (put_line (search rules) (said_by {text = reply_text (refused 1)} wrote.ensures cc) wrote.auto.buffer)
+    let wrote = c.say_refusal in
+    behind (put_line (search rules) (said_by {text = reply_text (refused 1)} wrote.ensures cc) wrote.auto.reply)

@@ -11,7 +11,7 @@ use Rattle.serving.proofs.serving.serve_in_room.Goals as goal
 pub returns-then-got-eq0 : goal.returns-then-got-eq0
 returns-then-got-eq0 c =
     serves_end {held = c.args.held} {got = c.args.got} {input = c.args.input.now} (search rules) c.requires.0
-    c.end_input.ensures c.over.ensures
+    c.end_input.ensures (refl, refl)
 
 pub slice_bounds-answer_lines_in_room-end-2 : goal.slice_bounds-answer_lines_in_room-end-2
 slice_bounds-answer_lines_in_room-end-2 c = simp length-take (omega arith)
@@ -24,7 +24,7 @@ answer_lines_in_room-progress-requires c =
 pub returns-then-progress : goal.returns-then-progress
 returns-then-progress c =
     serves_stopped c.args.held c.args.got c.args.input.now (search rules) c.requires.0
-    c.answer_lines_in_room-progress.ensures.answers (search rules) c.over-then-progress.ensures
+    c.answer_lines_in_room-progress.ensures.answers (search rules) (refl, refl)
 
 pub overflow_sub-rest : goal.overflow_sub-rest
 overflow_sub-rest c =
@@ -40,13 +40,9 @@ pub returns-then-rest-gt-LONGEST_LINE : goal.returns-then-rest-gt-LONGEST_LINE
 returns-then-rest-gt-LONGEST_LINE c =
     serves_overlong c.args.held c.args.got c.args.input.now (search rules) c.requires.0
     c.answer_lines_in_room-progress.ensures.answers (search rules) (search rules) c.refuse_behind.ensures
-    c.over-then-rest-gt-LONGEST_LINE.ensures
-
-pub keep_rest-requires : goal.keep_rest-requires
-keep_rest-requires c =
-    (read_within c.args.held c.args.got c.args.input.now c.requires.0 c.answer_lines_in_room-progress.ensures.answers, c.requires.0)
+    (refl, refl)
 
 pub returns : goal.returns
 returns c =
     serves_on c.args.held c.args.got c.args.input.now (search rules) c.requires.0
-    c.answer_lines_in_room-progress.ensures.answers (search rules) (search rules) c.keep_rest.ensures (refl, omega arith, refl)
+    c.answer_lines_in_room-progress.ensures.answers (search rules) (search rules) c.copy_within.ensures.after (refl, refl)

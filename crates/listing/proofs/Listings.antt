@@ -1,5 +1,5 @@
 -- What a listing is to do: refused, or the rows that its view shows, in their order.
-use mathlib.Core.Path.{◌≡◌, refl, sym, ap, ◌∙◌}
+use mathlib.Core.Path.{◌≡◌, refl, sym, ◌∙◌}
 use mathlib.Core.List.{List, [], ◌∷◌}
 use Prim.Native.Nat.{ℕ, ◌≤◌, ◌<◌}
 use native.Mathlib.Omega.{arith}
@@ -18,7 +18,7 @@ use Rattle.order.specs.Ordered.{Ordered}
 use Rattle.listing.specs.declared.View.{View as Asked}
 use Rattle.listing.specs.declared.View.TheVariants as asked
 use Rattle.listing.specs.Entries.{of_view}
-use Rattle.listing.specs.Listing.{filled, RowsListed, NothingListed, RowsShown}
+use Rattle.listing.specs.Listing.{RowsListed, NothingListed, RowsShown}
 use Rattle.listing.proofs.ListFilled.{filled_all}
 
 -- BY VIEW: past the last slot nothing is shown; else nothing is refused beside 12; and the rows
@@ -70,6 +70,9 @@ table_says v t room n j = refused_says v t room n (list_table v t room n j.0 j.1
 pub over_says : (v : View) (t : List ℕ) (h : Round) (room n : ℕ) → table_refusal t ≡ 0 → HeadOf t h → n ≡ sending_number h → (n ≡ 0 → ⊥) →
     NothingListed v t room n
 over_says v t h room n s k e g = refused_says v t room n (list_over v t room s n (slot_left_by t h s k ∙ sym e) g) g
+
+pub ready : (t : List ℕ) (h : Round) → table_refusal t ≡ 0 → HeadOf t h → h.slot.0 ≤ h.last.0 → Ready t h
+ready t h sound head e = record { sound = sound; head = head; time = e }
 
 module _ (v : View) (t : List ℕ) (h : Round) (room : ℕ) (o : Order) (k : Ready t h) (d : RowsShown (round_in t) (shows v (round_in t)).items o) where
   pub short_says : room < o.count → NothingListed v t room 12

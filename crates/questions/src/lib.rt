@@ -19,11 +19,15 @@ pub fn ask_plan<R, F: FnOnce(&[u64], &[u8], u64) -> R>(
     ask: F,
 ) -> R
     requires seen { Seen sound.now.table.now counts.old sound.now.round reach × (1 ≤ reach.over) }
-    requires can { (ks : _) (fs : _) (n : _) → Gives (round_in sound.now.table.now) reach ks.now fs.now → Lost (round_in sound.now.table.now) n → F.pre ask ks fs n }
-    ensures { (ks : _) × ((fs : _) × ((n : _) × (Gives (round_in sound.now.table.now) reach ks.now fs.now × (Lost (round_in sound.now.table.now) n × F.post ask ks fs n result)))) }
+    requires can { (ks : _) (fs : _) (n : _) → Gives (round_in sound.now.table.now) reach ks.now fs.now
+        → Lost (round_in sound.now.table.now) n → F.pre ask ks fs n }
+    ensures { (ks : _) × ((fs : _) × ((n : _) × (Gives (round_in sound.now.table.now) reach ks.now fs.now
+        × (Lost (round_in sound.now.table.now) n × F.post ask ks fs n result)))) }
 {
     if sound.round.used <= Round::FEW {
-        return ask_in_arrays::<{ Round::FEW_PLACES }, { Round::FEW }, R, F>(sound, counts, reach, ask);
+        return ask_in_arrays::<{ Round::FEW_PLACES }, { Round::FEW }, R, F>(
+            sound, counts, reach, ask,
+        );
     }
     ask_in_arrays::<{ Round::PLACES }, { Round::ROWS }, R, F>(sound, counts, reach, ask)
 }
@@ -36,8 +40,10 @@ fn ask_in_arrays<const PLACES: usize, const ROWS: usize, R, F: FnOnce(&[u64], &[
 ) -> R
     requires fits { (sound.now.round.used ≤ ROWS) × (ROWS + 2 ≤ PLACES) × (PLACES ≤ 1026) }
     requires seen { Seen sound.now.table.now counts.old sound.now.round reach × (1 ≤ reach.over) }
-    requires can { (ks : _) (fs : _) (n : _) → Gives (round_in sound.now.table.now) reach ks.now fs.now → Lost (round_in sound.now.table.now) n → F.pre ask ks fs n }
-    ensures { (ks : _) × ((fs : _) × ((n : _) × (Gives (round_in sound.now.table.now) reach ks.now fs.now × (Lost (round_in sound.now.table.now) n × F.post ask ks fs n result)))) }
+    requires can { (ks : _) (fs : _) (n : _) → Gives (round_in sound.now.table.now) reach ks.now fs.now
+        → Lost (round_in sound.now.table.now) n → F.pre ask ks fs n }
+    ensures { (ks : _) × ((fs : _) × ((n : _) × (Gives (round_in sound.now.table.now) reach ks.now fs.now
+        × (Lost (round_in sound.now.table.now) n × F.post ask ks fs n result)))) }
 {
     let mut keys = [0u64; PLACES];
     let mut ones = [1u8; ROWS];

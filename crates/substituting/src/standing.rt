@@ -38,11 +38,7 @@ fn named(sound: &Sound, sub: Sub) -> Substitute
 }
 
 // A far row needs no plan.
-pub fn substitute_row(
-    sound: &Sound,
-    counts: &mut [u32],
-    row: usize,
-) -> Result<Substitute, Refusal>
+pub fn substitute_row(sound: &Sound, counts: &mut [u32], row: usize) -> Result<Substitute, Refusal>
     requires { Counted (round_in sound.now.table.now) counts.old × (row < sound.now.round.used) }
     ensures { StoodIn (round_in sound.now.table.now) row (of_substituted result) }
 {

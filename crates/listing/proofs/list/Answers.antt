@@ -1,6 +1,5 @@
 -- `list`: no entry, and one more.
 use native.Mathlib.Numerals.{add-one}
-use Rattle.std.proofs.Common.{rules}
 use Rattle.listing.specs.Entries.{of_view}
 use Rattle.listing.proofs.ListFilled.{filled_none, filled_more}
 use Rattle.listing.proofs.list.Goals as goal

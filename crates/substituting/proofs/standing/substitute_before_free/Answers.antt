@@ -1,9 +1,7 @@
 -- `substituting::standing::substitute_before_free` meets its contract.
 use Rattle.std.proofs.Common.{◌≡◌, ◌<◌, length, Err, subst, rules, of_calls}
 use Rattle.std.proofs.iter.Serving.{serving}
-use native.Mathlib.Omega.{arith}
 use Rattle.rules.specs.Table.{round_in}
-use Rattle.questions.proofs.SeenLaws.{whole}
 use Rattle.substituting.specs.Finding.{Flagged}
 use Rattle.substituting.proofs.StandLaws.{flag_there, flag_in, every_in, stands, row_asked, row_kept, row_out, sub_there}
 use Rattle.substituting.proofs.standing.substitute_before_free.Goals as goal
@@ -24,11 +22,11 @@ returns-then-reach-eq0 c =
 pub ask_plan-requires-clause-can : goal.ask_plan-requires-clause-can
 ask_plan-requires-clause-can c =
     λ ks fs n g l.
-      let s = c.args.sound.now in
-      let a = row_asked s.table.now s.round s.ready c.args.reach c.requires.0.reaches ks.now fs.now g c.args.row c.requires.1 c.due_at.result c.due_at.ensures
-      c.requires.2 in
-      let f : c.args.row < length fs.now = flag_there s.table.now s.round s.ready c.args.row c.requires.1 fs.now g.chosen in
-      grind serving
+    let s = c.args.sound.now in
+    let a = row_asked s.table.now s.round s.ready c.args.reach c.requires.0.reaches ks.now fs.now g c.args.row c.requires.1 c.due_at.result c.due_at.ensures
+    c.requires.2 in
+    let f : c.args.row < length fs.now = flag_there s.table.now s.round s.ready c.args.row c.requires.1 fs.now g.chosen in
+    grind serving
 
 pub returns-in_err-sub : goal.returns-in_err-sub
 returns-in_err-sub c =

@@ -9,7 +9,8 @@ use Rattle.substituting.proofs.StandLaws.{far_in, stands, sub_there}
 use Rattle.substituting.proofs.standing.substitute_row.Goals as goal
 
 pub reach_of-reach-requires : goal.reach_of-reach-requires
-reach_of-reach-requires c = (c.args.sound.now.ready.time, multiples c.args.sound.now.table.now c.args.sound.now.round c.args.counts.now c.args.sound.now.ready c.requires.0)
+reach_of-reach-requires c =
+    let s = c.args.sound.now in (s.ready.time, multiples s.table.now s.round c.args.counts.now s.ready c.requires.0)
 
 pub is_far-requires : goal.is_far-requires
 is_far-requires c = (omega (arith, c.due_at-due.ensures.from, (known c.args.sound.now.table.now c.args.sound.now.round c.args.sound.now.ready).slot))

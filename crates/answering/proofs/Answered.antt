@@ -1,11 +1,11 @@
 -- The complete lines of an input answered one after another: the whole gives what is there so far, and then what the rest gives.
 use mathlib.Core.Logic.{inl, inr}
-use mathlib.Core.Path.{◌≡◌, refl, sym, ap, ◌∙◌}
+use mathlib.Core.Path.{◌≡◌, sym, ap, ◌∙◌}
 use mathlib.Core.Bool.{true, false}
 use mathlib.Core.List.{List, [], ◌∷◌, ◌++◌, append-nil, append_assoc}
 use Prim.Native.Nat.{ℕ, ◌+◌, ◌*◌, ◌-◌, ◌≤◌, ◌<◌}
 use native.Mathlib.Omega.{arith}
-use lib.ListN.{length, take, drop, length-take, length-drop, take-append-drop}
+use lib.ListN.{length, take, drop, length-drop, take-append-drop}
 use lib.Seq.{length-take-le, drop-drop}
 use Rattle.rules.specs.Calls.{refused, answer, left, run}
 use Rattle.rules.specs.Lines.{Command, call_of, command, broken, read, read_refusal, reply_text, reply_room, reply_ratio, turn, printed_from}
@@ -60,28 +60,8 @@ pub record Answering (input t z before after : List ℕ) (read wrote : ℕ) : Ty
   pub size : bytes_read (lines input) ≡ bytes_read (lines (drop read input)) + read
   pub begun : begun_from [] input ≡ begun_from [] (drop read input)
 
-pub answering_none : (input t o : List ℕ) → reply_ratio * length input + reply_room ≤ length o → Answering input t t o o 0 0
-answering_none input t o h =
-    record {
-      room = h;
-      within = omega arith;
-      small = omega arith;
-      long = refl;
-      kept = refl;
-      said = refl;
-      moved = refl;
-      stopped = refl;
-      size = omega arith;
-      begun = refl;
-    }
-
 pub out_within : {input t z before after : List ℕ} {from wrote : ℕ} → Answering input t z before after from wrote → wrote ≤ length after
 out_within s = omega (arith, s.room, s.within, s.small, s.long)
-
-pub room_left : {input t z before after : List ℕ} {from wrote : ℕ} → Answering input t z before after from wrote →
-    reply_room ≤ length (take (length after - wrote) (drop wrote after))
-room_left {after = o} {wrote = w} s =
-    omega (arith, s.room, s.within, s.small, s.long, length-take (length o - w) (drop w o), length-drop w o)
 
 kept_on : (a b c : List ℕ) (w r : ℕ) → drop (w + r) a ≡ drop (w + r) b → drop w b ≡ drop w c → drop (w + r) a ≡ drop (w + r) c
 kept_on a b c w r e f = e ∙ sym (drop-drop r w b) ∙ ap (drop r) f ∙ drop-drop r w c

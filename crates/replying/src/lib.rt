@@ -10,7 +10,11 @@ use digits::{LINE_END, put_number};
 use sorts::Ticket;
 
 // The room that each reply's line fits in.
+// Kept: a buffer may be longer, so a clause says the room, and no array type.
 pub const REPLY_ROOM: usize = 15;
+
+// Kept: four straight writers; one over a list of numbers with their digits would have a loop, and the sum of the digits in its contract.
+// Kept: numbers and no enums, since the contracts give a line for every number.
 
 // An opening's (0) or a sealing's (3), into REPLY_ROOM or more.
 pub fn write_bare_in_room(number: u32, buffer: &mut [u8]) -> usize

@@ -50,7 +50,7 @@ pub fn say_refusal(refusal: Refusal, reply: &mut [u8]) -> usize
     write_refusal_in_room(u32::from(refusal), reply)
 }
 
-// A step's two numbers.
+// A step's two numbers, as its line has them.
 const ORDINARY: u32 = 0;
 
 const LEAP: u32 = 1;

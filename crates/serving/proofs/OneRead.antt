@@ -6,17 +6,15 @@ use mathlib.Core.List.{List, [], ◌∷◌, ◌++◌, append-nil, append_assoc}
 use Prim.Native.Nat.{ℕ, ◌+◌, ◌-◌, ◌≤◌, ◌<◌}
 use native.Mathlib.Omega.{arith}
 use Rattle.std.specs.List.{copy_within}
-use lib.ListN.{length, take, drop, length-append, length-drop, take-append-drop}
+use lib.ListN.{length, take, drop, length-append, length-drop}
 use lib.Seq.{length-take-le, drop-drop, take-add, take_at, drop_at}
-use borrow.Author.Tests.{lt-ltb, le-ltb, ne_eqb}
+use borrow.Author.Tests.{lt-ltb, le-ltb}
 use Rattle.rules.specs.Calls.{refused, run}
 use Rattle.rules.specs.Lines.{reply_text, printed_from}
 use Rattle.rules.specs.Reads.{begun_from, calls_of, stops, longest_line, overlong, served, written}
 use Rattle.theory.specs.Served.{served_short}
-use Rattle.replying.specs.Replying.{Replies}
 use Rattle.answering.specs.declared.Progress.{Progress}
 use Rattle.answering.specs.Answering.{lines, Answers}
-use Rattle.answering.proofs.Put.{LinePut}
 use Rattle.serving.specs.declared.Served.{Served}
 use Rattle.serving.specs.Serving.{held_in, after_read, to_write, Serves, Ending, RefusedBehind}
 
@@ -49,24 +47,6 @@ drop_take r n l h k =
 pub read_within : (held got : ℕ) (input : List ℕ) {t out t' out' : List ℕ} {p : Progress} → held + got ≤ length input →
     Answers (take (held + got) input) t out t' out' p → p.read ≤ held + got
 read_within held got input h a = omega (arith, a.within, length-take-le (held + got) input h)
-
--- THE END of the input: nothing is held, or an unended line
-pub ending_none : {held : ℕ} {out : List ℕ} → held ≡ 0 → Ending held out out 0
-ending_none e = record { long = rw e; left = rw e }
-
-pub ending_refused : {held r : ℕ} {out out' : List ℕ} → (held ≡ 0 → ⊥) → Replies (reply_text (refused 1)) out out' r → Ending held out out' r
-ending_refused {held} f p = rw (ne_eqb held 0 f) p
-
--- REFUSAL 1 behind the replies
-pub behind : {o o' : List ℕ} {w r : ℕ} → LinePut (reply_text (refused 1)) o o' w r → RefusedBehind w o o' (w + r)
-behind {o} {o'} {w} {r} p =
-    let rf = reply_text (refused 1) in
-    record {
-      long = omega (arith, p.size);
-      left =
-          sym (take-append-drop (w + r) o')
-          ∙ rw (p.said, p.kept, drop-drop (length rf) w o, p.size) (append_assoc (take w o) rf (drop (w + length rf) o));
-    }
 
 -- NOTHING MORE IS READ
 abbrev pub Over : (wrote : ℕ) → Served → Type 0

@@ -5,11 +5,11 @@ use Rattle.kinds.proofs.kinds_are_good.Goals as goal
 
 pub returns-then-not-kind_is_good : goal.returns-then-not-kind_is_good
 returns-then-not-kind_is_good c =
-    kinds_off _ _ _ _ _ c.loop-i-test.true c.row_at-at.ensures c.kind_is_good.ensures c.loop-i.invariant c.if-not-kind_is_good.true
+    kinds_off _ _ _ _ _ (search rules) c.row_at-at.ensures c.kind_is_good.ensures c.loop-i.invariant c.if-not-kind_is_good.true
 
 pub loop-i-preserved : goal.loop-i-preserved
 loop-i-preserved c =
-    kinds_on _ _ _ _ _ c.loop-i-test.true c.row_at-at.ensures c.kind_is_good.ensures c.loop-i.invariant c.if-not-kind_is_good.false
+    kinds_on _ _ _ _ _ (search rules) c.row_at-at.ensures c.kind_is_good.ensures c.loop-i.invariant c.if-not-kind_is_good.false
 
 pub returns : goal.returns
 returns c = kinds_all _ _ _ (search rules) c.loop-i.invariant

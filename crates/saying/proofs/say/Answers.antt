@@ -5,14 +5,6 @@ use Rattle.saying.proofs.say.Goals as goal
 pub returns-in-Ok-Opened : goal.returns-in-Ok-Opened
 returns-in-Ok-Opened c = said_by c.write_bare_in_room.ensures (rw (c.in-Ok-Opened.is, rw c.in-Ok-Opened.is at c.in-Ok-Opened.field-0-is) done_said)
 
-pub returns-in-Ok-Taken : goal.returns-in-Ok-Taken
-returns-in-Ok-Taken c = said_by c.write_ticket_in_room.ensures (rw (c.in-Ok-Taken.is, rw c.in-Ok-Taken.is at c.in-Ok-Taken.field-0-is))
-
-pub returns-in-Ok-Sent : goal.returns-in-Ok-Sent
-returns-in-Ok-Sent c = said_by c.say_step.ensures (rw (c.in-Ok-Sent.is, rw c.in-Ok-Sent.is at c.in-Ok-Sent.field-0-is))
-
 pub returns-in-Ok-Sealed : goal.returns-in-Ok-Sealed
-returns-in-Ok-Sealed c = said_by c.write_bare_in_room-in-Ok-Sealed.ensures (rw (c.in-Ok-Sealed.is, rw c.in-Ok-Sealed.is at c.in-Ok-Sealed.field-0-is) closed_said)
-
-pub returns-in-Err : goal.returns-in-Err
-returns-in-Err c = said_by c.say_refusal.ensures (rw c.in-Err.is)
+returns-in-Ok-Sealed c =
+    said_by c.write_bare_in_room-in-Ok-Sealed.ensures (rw (c.in-Ok-Sealed.is, rw c.in-Ok-Sealed.is at c.in-Ok-Sealed.field-0-is) closed_said)

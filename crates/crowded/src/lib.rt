@@ -21,6 +21,7 @@ use step::send_planned;
 use went::send_row;
 
 // Sealed: the plan's first. Else by its segments: counts and heap have served once the plan is made, and take their ends and tops.
+// Kept: the arrays each on their own, since some are lent to be written and come back for another use.
 fn send_led(
     table: &mut [u8],
     counts: &mut [u32],

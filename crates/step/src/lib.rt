@@ -22,7 +22,7 @@ fn far_score(far: u64) -> u64
     requires { far ≤ blank_key }
     ensures { result ≡ weight_of far * 39088169 }
 {
-    weight_of(far) as u64 * 39088169
+    u64::from(weight_of(far)) * 39088169
 }
 
 // The heaviest far row goes if it scores more than the segment that leads; else that segment's heaviest row: in an ordinary step from the first, else in a leap.

@@ -1,5 +1,6 @@
 // What goes out, and what it leaves in the table where no row but its own changes.
 // At most expiring rows are due in the current slot.
+// Kept: table, round and expiring each on their own, since the table is written while the head and the count speak of it as it was.
 #![tactic(auto)]
 
 ghost use Rattle.std.specs.Prelude.{◌<◌};

@@ -1,32 +1,30 @@
 -- What a listing is to do: refused, or the rows that its view shows, in their order.
-use mathlib.Core.Path.{◌≡◌, refl, sym, ap, ◌∙◌}
-use mathlib.Core.List.{List}
+use mathlib.Core.Path.{◌≡◌, refl, sym, ◌∙◌}
+use mathlib.Core.List.{List, [], ◌∷◌}
 use Prim.Native.Nat.{ℕ, ◌≤◌, ◌<◌}
 use native.Mathlib.Omega.{arith}
 use borrow.Author.Tests.{lt-ltb, le-ltb, ne_eqb}
 use lib.ListN.{length, get_or}
-use Rattle.rules.specs.Rows.{round}
 use Rattle.rules.specs.Table.{round_in, table_refusal}
-use Rattle.rules.specs.Calls.{first, first_of}
+use Rattle.rules.specs.Calls.{first, first_of, over}
 use Rattle.rules.specs.Looking.{View, the_plan, shows, list_refusal, list_answer, list_left}
 use Rattle.sorts.specs.declared.Round.{Round}
 use Rattle.head.specs.Head.{HeadOf}
 use Rattle.round.specs.Rows.{Ready}
 use Rattle.round.proofs.ReadLaws.{Known, known, at_is, reads_within}
+use Rattle.round.proofs.ByHead.{sending_number, slot_left_by}
 use Rattle.order.specs.declared.Order.{Order}
 use Rattle.order.specs.Ordered.{Ordered}
-use Rattle.listing.specs.declared.Listing.{Listing}
-use Rattle.listing.specs.declared.Listed.TheVariants.{Count}
 use Rattle.listing.specs.declared.View.{View as Asked}
 use Rattle.listing.specs.declared.View.TheVariants as asked
-use Rattle.listing.specs.Entries.{of_view, of_listed}
-use Rattle.listing.specs.Listing.{filled, ListingSays, NothingListed, RowsShown}
+use Rattle.listing.specs.Entries.{of_view}
+use Rattle.listing.specs.Listing.{RowsListed, NothingListed, RowsShown}
 use Rattle.listing.proofs.ListFilled.{filled_all}
 
 -- BY VIEW: past the last slot nothing is shown; else nothing is refused beside 12; and the rows
-pub early_over : (v : View) (t : List ℕ) → (round_in t).last < (round_in t).slot → first_of (shows v (round_in t)).early ≡ 5
+pub early_over : (v : View) (t : List ℕ) (n : ℕ) → first_of (over (round_in t).slot (round_in t).last ∷ []) ≡ n → first_of (shows v (round_in t)).early ≡ n
 unfolding shows
-early_over the_plan t h = rw (lt-ltb (round_in t).last (round_in t).slot h)
+early_over the_plan t n e = e
 
 pub early_none : (v : View) (t : List ℕ) → (round_in t).slot ≤ (round_in t).last → first_of (shows v (round_in t)).early ≡ 0
 unfolding shows
@@ -47,9 +45,9 @@ module _ (v : View) (t : List ℕ) (room : ℕ) where
   list_table n e h = let f = ne_eqb (table_refusal t) 0 (λ z. h (e ∙ z)) in rw f (sym e)
 
   module _ (sound : table_refusal t ≡ 0) where
-    pub list_over : (round_in t).last < (round_in t).slot → list_refusal (shows v) t room ≡ 5
+    pub list_over : (n : ℕ) → first_of (over (round_in t).slot (round_in t).last ∷ []) ≡ n → (n ≡ 0 → ⊥) → list_refusal (shows v) t room ≡ n
     unfolding list_refusal first
-    list_over h = rw (sound, early_over v t h)
+    list_over n e h = rw (sound, early_over v t n e, ne_eqb n 0 h)
 
     module _ (time : (round_in t).slot ≤ (round_in t).last) where
       pub list_short : room < length (shows v (round_in t)).items → list_refusal (shows v) t room ≡ 12
@@ -61,44 +59,36 @@ module _ (v : View) (t : List ℕ) (room : ℕ) where
       list_fits h = rw (sound, early_none v t time, le-ltb room (length (shows v (round_in t)).items) h, late_none v t)
 
 -- REFUSED: the number alone, and nothing to list
-pub refused_says : (v : View) (t : List ℕ) (room n : ℕ) (l : Listing) → list_refusal (shows v) t room ≡ n → (n ≡ 0 → ⊥) → NothingListed n l →
-    ListingSays v t room l
-unfolding list_answer list_left filled
-refused_says v t room n l e h g =
-    let f = ne_eqb (list_refusal (shows v) t room) 0 (λ z. h (sym e ∙ z)) in
-    record {
-      reply = ap of_listed g.reply ∙ rw (f, e);
-      fits = omega (arith, g.count);
-      few = omega (arith, g.count);
-      row = λ i a. absurd (omega (arith, g.count));
-      left = λ es a. rw (g.count, a, f);
-    }
+pub refused_says : (v : View) (t : List ℕ) (room n : ℕ) → list_refusal (shows v) t room ≡ n → (n ≡ 0 → ⊥) → NothingListed v t room n
+unfolding list_answer list_left
+refused_says v t room n e h =
+    let f = ne_eqb (list_refusal (shows v) t room) 0 (λ z. h (sym e ∙ z)) in record { reply = rw (f, e); left = λ es a. rw (a, f) }
 
-pub table_says : (v : View) (t : List ℕ) (room n : ℕ) (l : Listing) → (n ≡ table_refusal t) × (n ≡ 0 → ⊥) → NothingListed n l → ListingSays v t room l
-table_says v t room n l j g = refused_says v t room n l (list_table v t room n j.0 j.1) j.1 g
+pub table_says : (v : View) (t : List ℕ) (room n : ℕ) → (n ≡ table_refusal t) × (n ≡ 0 → ⊥) → NothingListed v t room n
+table_says v t room n j = refused_says v t room n (list_table v t room n j.0 j.1) j.1
 
-pub over_says : (v : View) (t : List ℕ) (h : Round) (room : ℕ) (l : Listing) → table_refusal t ≡ 0 → HeadOf t h → h.last.0 < h.slot.0 → NothingListed 5 l →
-    ListingSays v t room l
-unfolding round_in round
-over_says v t h room l s k e g =
-    refused_says v t room 5 l (list_over v t room s (omega (arith, k.slot, k.last))) (λ z. omega (arith, z)) g
+pub over_says : (v : View) (t : List ℕ) (h : Round) (room n : ℕ) → table_refusal t ≡ 0 → HeadOf t h → n ≡ sending_number h → (n ≡ 0 → ⊥) →
+    NothingListed v t room n
+over_says v t h room n s k e g = refused_says v t room n (list_over v t room s n (slot_left_by t h s k ∙ sym e) g) g
 
-module _ (v : View) (t : List ℕ) (h : Round) (room : ℕ) (o : Order) (l : Listing) (k : Ready t h)
-    (d : RowsShown (round_in t) (shows v (round_in t)).items o) where
-  pub short_says : room < o.count → NothingListed 12 l → ListingSays v t room l
-  short_says e g = refused_says v t room 12 l (list_short v t room k.sound (known t h k).time (omega (arith, d.count))) (λ z. omega (arith, z)) g
+pub ready : (t : List ℕ) (h : Round) → table_refusal t ≡ 0 → HeadOf t h → h.slot.0 ≤ h.last.0 → Ready t h
+ready t h sound head e = record { sound = sound; head = head; time = e }
+
+module _ (v : View) (t : List ℕ) (h : Round) (room : ℕ) (o : Order) (k : Ready t h) (d : RowsShown (round_in t) (shows v (round_in t)).items o) where
+  pub short_says : room < o.count → NothingListed v t room 12
+  short_says e = refused_says v t room 12 (list_short v t room k.sound (known t h k).time (omega (arith, d.count))) (λ z. omega (arith, z))
 
   -- ACCEPTED: the rows in their order
-  pub accepted_says : o.count ≤ room → l.reply ≡ Count o.count → l.count ≡ o.count → l.at ≡ o.at → ListingSays v t room l
+  pub accepted_says : o.count ≤ room → RowsListed v t room o
   unfolding list_answer list_left
-  accepted_says fit x y z =
+  accepted_says fit =
       record {
-        reply = ap of_listed x ∙ rw (f, ← d.count);
-        fits = omega (arith, y, fit);
-        few = omega (arith, y, d.few);
-        row = λ i a. rw z (reads_within t h k (get_or o.at i 0) (omega (arith, d.within i (omega (arith, y, a)), n.used)));
+        reply = rw (f, ← d.count);
+        fits = fit;
+        few = d.few;
+        row = λ i a. reads_within t h k (get_or o.at i 0) (omega (arith, d.within i a, n.used));
         left = λ es a.
-            rw (y, z, a, f, d.count)
+            rw (a, f, d.count)
             (filled_all v t o.at (shows v (round_in t)).items es (omega (arith, d.count))
             (λ i b. sym (at_is t h k (get_or o.at i 0) (omega (arith, d.within i (omega (arith, d.count)), n.used))) ∙ d.is i (omega (arith, d.count))));
       }

@@ -1,22 +1,24 @@
 // Listings of a view's rows into a lent list of entries, or refusal 2, 3, 5 or 12.
 #![tactic(auto)]
 
-ghost use Rattle.std.specs.Prelude.{◌≡◌};
+ghost use Rattle.std.specs.Prelude.{◌≡◌, ◌≤◌, replicate};
 ghost use Rattle.rules.specs.Table.{round_in};
 ghost use Rattle.rules.specs.Looking.{shows};
-ghost use Rattle.round.specs.Judge.{ScanAsks, ScanSays};
-ghost use Rattle.round.specs.declared.sound.Judged.TheVariants.{Sound};
-ghost use Rattle.round.specs.Rows.{Ready};
+ghost use Rattle.round.specs.Judge.{ScanAsks};
 ghost use Rattle.round.specs.Buckets.{Counted};
 ghost use Rattle.listing.specs.Entries.{of_view, of_listed, Lists};
-ghost use Rattle.listing.specs.Listing.{RowThere, entry_in, ListingSays, NothingListed, RowsShown};
+ghost use Rattle.listing.specs.Listing.{RowThere, entry_in, ListingSays, RowsShown};
 
+use checks::may_send;
 use order::{Order, order_of};
-use round::sound::{Judged, scan};
+use refusals::Refusal;
+use round::read::Sound;
+use round::sound::scan;
 use row::entry::numbers_at;
 use sorts::{Round, Slot, Ticket, Weight};
 
 // What is listed.
+// Kept: callers name what they list, so that a further view joins here and changes no call.
 #[derive(Clone, Copy)]
 pub enum View {
     Plan,
@@ -30,32 +32,15 @@ pub struct Entry {
     pub weight: Weight,
 }
 
-#[derive(Clone, Copy)]
-pub enum Listed {
-    Count(usize),
-    Refused(u32),
-}
-
-// What a listing will do: its reply, and the rows that it lists, none where it is refused.
-#[derive(Drop)]
-struct Listing {
-    reply: Listed,
-    count: usize,
-    at: [u16; 1024],
-}
-
-// Entries past the count do not change.
-pub fn list(view: View, table: &[u8], entries: &mut [Entry]) -> Listed
+// How many rows are listed; entries past them do not change.
+pub fn list(view: View, table: &[u8], entries: &mut [Entry]) -> Result<usize, Refusal>
     ensures { Lists (of_view view) (of_listed result) table.now table.now entries.old entries.new }
 {
-    let listing = listing_of(view, table, entries.len());
-    let at = listing.at;
-    let mut i: usize = 0;
-    while i < listing.count {
-        entries[i] = entry_at(view, table, at[i]);
-        i += 1;
+    let order = order_for(view, table, entries.len())?;
+    for i in 0..order.count {
+        entries[i] = entry_at(view, table, order.at[i]);
     }
-    listing.reply
+    Ok(order.count)
 }
 
 // The entry of one row.
@@ -76,67 +61,38 @@ fn entry_at(view: View, table: &[u8], row: u16) -> Entry
     }
 }
 
-// The reply and the rows in their order, for a list of some room.
-fn listing_of(view: View, table: &[u8], room: usize) -> Listing
+// The rows to list in their order, where a list of some room has an entry for each.
+fn order_for(view: View, table: &[u8], room: usize) -> Result<Order, Refusal>
     ensures { ListingSays (of_view view) table.now room result }
 {
     if table.len() <= Round::FEW_SIZE {
-        let mut counts = [0u32; Round::FEW_PLACES];
-        return listing_by(view, table, &mut counts, room);
+        return order_by::<{ Round::FEW_PLACES }>(view, table, room);
     }
-    let mut counts = [0u32; Round::PLACES];
-    listing_by(view, table, &mut counts, room)
+    order_by::<{ Round::PLACES }>(view, table, room)
 }
 
-// The same with lent counts.
-fn listing_by(view: View, table: &[u8], counts: &mut [u32], room: usize) -> Listing
-    requires { ScanAsks table.now counts.old }
+// The same with so many places for counts.
+fn order_by<const PLACES: usize>(view: View, table: &[u8], room: usize) -> Result<Order, Refusal>
+    requires { ScanAsks table.now (replicate PLACES 0) × (PLACES ≤ 1026) }
     ensures { ListingSays (of_view view) table.now room result }
 {
-    match scan(table, counts) {
-        Judged::Refused(n) => refused(n),
-        Judged::Sound(round) => listing_in(view, table, counts, round, room),
+    let mut counts = [0u32; PLACES];
+    let round = scan(table, &mut counts)?;
+    may_send(round)?;
+    let sound = Sound { table, round };
+    let order = rows_of(view, &sound, &mut counts);
+    if room < order.count {
+        return Err(Refusal::NoRoom);
     }
-}
-
-// The same on a sound table, its rows counted where a slot is left.
-fn listing_in(view: View, table: &[u8], counts: &mut [u32], round: Round, room: usize) -> Listing
-    requires { ScanSays table.now counts.old (Sound round) }
-    ensures { ListingSays (of_view view) table.now room result }
-{
-    if round.last.0 < round.slot.0 {
-        return refused(5);
-    }
-    let order = rows_of(view, table, counts, round);
-    let count = order.count;
-    if room < count {
-        return refused(12);
-    }
-    let at = order.at;
-    Listing {
-        reply: Listed::Count(count),
-        count,
-        at,
-    }
+    Ok(order)
 }
 
 // The rows that a view shows, in their order.
-fn rows_of(view: View, table: &[u8], counts: &mut [u32], round: Round) -> Order
-    requires { Ready table.now round × Counted (round_in table.now) counts.old }
-    ensures { RowsShown (round_in table.now) (shows (of_view view) (round_in table.now)).items result }
+fn rows_of(view: View, sound: &Sound, counts: &mut [u32]) -> Order
+    requires { Counted (round_in sound.now.table.now) counts.old }
+    ensures { RowsShown (round_in sound.now.table.now) (shows (of_view view) (round_in sound.now.table.now)).items result }
 {
     match view {
-        View::Plan => order_of(table, counts, round),
-    }
-}
-
-fn refused(number: u32) -> Listing
-    ensures { NothingListed number result }
-{
-    let at = [0u16; 1024];
-    Listing {
-        reply: Listed::Refused(number),
-        count: 0,
-        at,
+        View::Plan => order_of(sound, counts),
     }
 }

@@ -2,6 +2,7 @@
 ghost use Rattle.passes.specs.Best.{Sees};
 
 // The heaviest row so far; it weighs nothing before there is one.
+// Kept: weight 0 stands for no row, so that a pass compares numbers alone, where an Option would ask at each row.
 #[derive(Clone, Copy)]
 pub struct Best {
     pub weight: u32,

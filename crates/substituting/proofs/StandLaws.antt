@@ -4,6 +4,7 @@ use mathlib.Core.Logic.{inl, inr}
 use mathlib.Core.Bool.{true}
 use mathlib.Core.List.{List, [], ◌∷◌}
 use mathlib.Core.Option.{none, some}
+use Rattle.std.specs.Prelude.{Ok, Err}
 use Prim.Native.Nat.{ℕ, zero, suc, ◌+◌, ◌≤◌, ◌<◌}
 use native.Mathlib.Omega.{arith}
 use lib.Dec.{eqb}
@@ -23,14 +24,19 @@ use Rattle.theory.specs.Near.{near_out}
 use Rattle.theory.specs.Keys.{getD_in}
 use Rattle.theory.specs.Flags.{raised, Chosen, raised_at, all_chosen}
 use Rattle.sorts.specs.declared.Round.{Round as Head}
-use Rattle.round.specs.Rows.{Ready, at}
+use Rattle.refusals.specs.declared.Refusal.{Refusal}
+use Rattle.refusals.specs.Refusals.{refusal_number}
+use Rattle.round.specs.Rows.{Ready, DueAt, at}
 use Rattle.round.proofs.ReadLaws.{known}
 use Rattle.buckets.specs.Reach.{Reaches}
 use Rattle.buckets.specs.declared.Reach.{Reach}
 use Rattle.sub.specs.Substitute.{Substitutes}
 use Rattle.sub.specs.declared.Sub.{Sub}
 use Rattle.sub.specs.declared.Sub.TheVariants.{Row as Row-of, Blank}
-use Rattle.substituting.specs.Finding.{StoodIn, There, Named}
+use Rattle.marks.specs.Given.{LentAsked}
+use Rattle.questions.specs.Seen.{Gives}
+use Rattle.questions.proofs.PlanLaws.{plan_asked, plan_substitute}
+use Rattle.substituting.specs.Finding.{StoodIn, There, Named, Flagged}
 
 -- IN THE PLAN: by its flag, as a far row, and where no row is left out
 module _ (t : List ℕ) (h : Head) (ready : Ready t h) (i : ℕ) (l : i < h.used) where
@@ -80,6 +86,19 @@ module _ (t : List ℕ) (h : Head) (ready : Ready t h) (i : ℕ) (l : i < h.used
       (getD_in (round_in t).rows (blank 0) j s.0) in
       rw (p, s.1, ne_eqb (at (round_in t) j).ticket 0 (λ z. omega (arith, z, m))) e
   stands (Blank d) a p s e = rw (p, s) e
+
+-- BY THE PLAN: a row due before free
+module _ (t : List ℕ) (h : Head) (k : Ready t h) (x : Reach) (w : Reaches (round_in t) x) (ks fs : List ℕ) (g : Gives (round_in t) x ks fs) (i : ℕ) (l : i < h.used)
+    (d : ℕ) (due : DueAt (round_in t) i d) (b : (at (round_in t) i).due < h.slot.0 + x.free) where
+  pub row_asked : LentAsked ks fs (length ks) h.slot.0 d
+  row_asked = plan_asked t h x k w ks fs g d (omega (arith, due.from, (known t h k).slot)) (omega (arith, due.is, b))
+
+  pub row_kept : (s : Sub) → Flagged ks fs h.slot.0 d i (Ok s) → Substitutes (round_in t) i s
+  row_kept s f =
+      plan_substitute t h x k w ks fs g d (omega (arith, due.from, (known t h k).slot)) (omega (arith, due.is, b)) i s l f.0 (sym due.is) f.1
+
+  pub row_out : (e : Refusal) → Flagged ks fs h.slot.0 d i (Err e) → StoodIn (round_in t) i (refused (refusal_number e))
+  row_out e f = rw f.1 (stands_outside t h k i l fs g.chosen f.0)
 
 pub sub_there : (r : Round) (i : ℕ) (s : Sub) → Substitutes r i s → There r s
 sub_there r i (Row-of j) s = s.0

@@ -1,27 +1,20 @@
 // The row of a ticket.
 ghost use Rattle.rules.specs.Table.{round_in};
-ghost use Rattle.round.specs.Rows.{Ready};
 ghost use Rattle.substituting.specs.Finding.{Parts, Finds};
 
-use round::read::ticket_at;
-use sorts::{Round, Ticket};
-
-#[derive(Clone, Copy)]
-pub enum Found {
-    At(usize),
-    Nowhere,
-}
+use round::read::Sound;
+use sorts::Ticket;
 
 // How many rows have an earlier ticket: tickets rise with rows, so each look halves what is left.
-fn rows_before(table: &[u8], round: Round, ticket: Ticket) -> usize
-    requires { Ready table.now round }
-    ensures { Parts (round_in table.now) ticket.0 result result }
+fn rows_before(sound: &Sound, ticket: Ticket) -> usize
+    ensures { Parts (round_in sound.now.table.now) ticket.0 result result }
 {
     let mut low: usize = 0;
-    let mut high = round.used;
+    let mut high = sound.round.used;
+    // Kept: a walk by halves over a table's bytes: there is no slice of tickets that a library search takes.
     while low < high {
         let mid = low + (high - low) / 2;
-        if ticket_at(table, round, mid).0 < ticket.0 {
+        if sound.ticket_at(mid).0 < ticket.0 {
             low = mid + 1;
         } else {
             high = mid;
@@ -30,16 +23,15 @@ fn rows_before(table: &[u8], round: Round, ticket: Ticket) -> usize
     low
 }
 
-pub fn find_row(table: &[u8], round: Round, ticket: Ticket) -> Found
-    requires { Ready table.now round }
-    ensures { Finds (round_in table.now) ticket.0 result }
+pub fn find_row(sound: &Sound, ticket: Ticket) -> Option<usize>
+    ensures { Finds (round_in sound.now.table.now) ticket.0 result }
 {
-    let row = rows_before(table, round, ticket);
-    if row == round.used {
-        return Found::Nowhere;
+    let row = rows_before(sound, ticket);
+    if row == sound.round.used {
+        return None;
     }
-    if ticket_at(table, round, row).0 != ticket.0 {
-        return Found::Nowhere;
+    if sound.ticket_at(row).0 != ticket.0 {
+        return None;
     }
-    Found::At(row)
+    Some(row)
 }

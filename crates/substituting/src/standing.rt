@@ -1,22 +1,23 @@
 // Who stands in for a row: refusal 11 where the row is not in the plan.
-ghost use Rattle.std.specs.Prelude.{false, ◌+◌, ◌≤◌, ◌<◌};
+ghost use Rattle.std.specs.Prelude.{◌+◌, ◌*◌, ◌≤◌, ◌<◌, length};
 ghost use Rattle.rules.specs.Table.{round_in};
-ghost use Rattle.round.specs.Rows.{Ready, at};
+ghost use Rattle.round.specs.Rows.{at};
 ghost use Rattle.round.specs.Buckets.{Counted};
 ghost use Rattle.buckets.specs.Reach.{Reaches};
-ghost use Rattle.plan.specs.Plans.{Lent, Plans};
+ghost use Rattle.marks.specs.Given.{LentAsked};
 ghost use Rattle.sub.specs.Substitute.{Substitutes};
-ghost use Rattle.replies.specs.Replies.{of_substituted};
+ghost use Rattle.replies.specs.Replies.{of_substitute, of_substituted};
 ghost use Rattle.questions.specs.Seen.{Seen};
-ghost use Rattle.substituting.specs.Finding.{StoodIn, There, Named};
+ghost use Rattle.substituting.specs.Finding.{StoodIn, There, Named, Flagged};
 
 use buckets::{Reach, reach_of};
 use every::substitute_every;
 use far::{is_far, substitute_far};
 use marks::substitute::substitute_near;
-use plan::{Planned, plan_of};
-use replies::Substituted;
-use round::read::{due_at, ticket_at};
+use questions::ask_plan;
+use refusals::Refusal;
+use replies::Substitute;
+use round::read::Sound;
 use sorts::{Round, Slot};
 use sub::Sub;
 
@@ -26,160 +27,86 @@ const FEW_AROUND: usize = 66;
 const AROUND: usize = 2050;
 
 // A substitute as it is answered.
-fn named(table: &[u8], round: Round, sub: Sub) -> Substituted
-    requires { Ready table.now round × There (round_in table.now) sub }
-    ensures { Named (round_in table.now) sub (of_substituted result) }
+fn named(sound: &Sound, sub: Sub) -> Substitute
+    requires { There (round_in sound.now.table.now) sub }
+    ensures { Named (round_in sound.now.table.now) sub (of_substitute result) }
 {
     match sub {
-        Sub::Row(row) => Substituted::Row(ticket_at(table, round, row)),
-        Sub::Blank(slot) => Substituted::Blank(slot),
+        Sub::Row(row) => Substitute::Row(sound.ticket_at(row)),
+        Sub::Blank(slot) => Substitute::Blank(slot),
     }
 }
 
 // A far row needs no plan.
-pub fn substitute_row(table: &[u8], counts: &mut [u32], round: Round, row: usize) -> Substituted
-    requires { Ready table.now round × Counted (round_in table.now) counts.old × (row < round.used) }
-    ensures { StoodIn (round_in table.now) row (of_substituted result) }
+pub fn substitute_row(sound: &Sound, counts: &mut [u32], row: usize) -> Result<Substitute, Refusal>
+    requires { Counted (round_in sound.now.table.now) counts.old × (row < sound.now.round.used) }
+    ensures { StoodIn (round_in sound.now.table.now) row (of_substituted result) }
 {
-    let reach = reach_of(counts, round);
-    let due = due_at(table, round, row);
-    if is_far(round, reach, Slot(due)) {
-        return named(table, round, substitute_away(table, round, reach, row));
+    let reach = reach_of(counts, sound.round);
+    let due = sound.due_at(row);
+    if is_far(sound.round, reach, Slot(due)) {
+        return Ok(named(sound, substitute_away(sound, reach, row)));
     }
-    substitute_before_free(table, counts, round, reach, row)
+    substitute_before_free(sound, counts, reach, row)
 }
 
 // A row due from free on: in small arrays, or in large ones.
-fn substitute_away(table: &[u8], round: Round, reach: Reach, row: usize) -> Sub
-    requires { Ready table.now round × Reaches (round_in table.now) reach × (row < round.used)
-        × (round.slot.0 + reach.free ≤ (at (round_in table.now) row).due) }
-    ensures { Substitutes (round_in table.now) row result }
+fn substitute_away(sound: &Sound, reach: Reach, row: usize) -> Sub
+    requires { Reaches (round_in sound.now.table.now) reach × (row < sound.now.round.used)
+        × (sound.now.round.slot.0 + reach.free ≤ (at (round_in sound.now.table.now) row).due) }
+    ensures { Substitutes (round_in sound.now.table.now) row result }
 {
-    if round.used <= Round::FEW {
-        let mut around = [0u16; FEW_AROUND];
-        return substitute_far(table, &mut around, round, reach, row);
+    if sound.round.used <= Round::FEW {
+        return substitute_around::<{ FEW_AROUND }>(sound, reach, row);
     }
-    let mut around = [0u16; AROUND];
-    substitute_far(table, &mut around, round, reach, row)
+    substitute_around::<{ AROUND }>(sound, reach, row)
 }
 
-// A row due before free; where no row is left out the counts tell its segment.
+fn substitute_around<const PLACES: usize>(sound: &Sound, reach: Reach, row: usize) -> Sub
+    requires { (2 * sound.now.round.used + 2 ≤ PLACES) × (PLACES ≤ 2050)
+        × Reaches (round_in sound.now.table.now) reach × (row < sound.now.round.used)
+        × (sound.now.round.slot.0 + reach.free ≤ (at (round_in sound.now.table.now) row).due) }
+    ensures { Substitutes (round_in sound.now.table.now) row result }
+{
+    let mut around = [0u16; PLACES];
+    substitute_far(sound, &mut around, reach, row)
+}
+
+// A row due before free; where no row is left out the counts tell its segment, else the plan does.
 fn substitute_before_free(
-    table: &[u8],
+    sound: &Sound,
     counts: &mut [u32],
-    round: Round,
     reach: Reach,
     row: usize,
-) -> Substituted
-    requires { Seen table.now counts.old round reach × (row < round.used)
-        × ((at (round_in table.now) row).due < round.slot.0 + reach.free) }
-    ensures { StoodIn (round_in table.now) row (of_substituted result) }
+) -> Result<Substitute, Refusal>
+    requires { Seen sound.now.table.now counts.old sound.now.round reach × (row < sound.now.round.used)
+        × ((at (round_in sound.now.table.now) row).due < sound.now.round.slot.0 + reach.free) }
+    ensures { StoodIn (round_in sound.now.table.now) row (of_substituted result) }
 {
     if reach.over == 0 {
-        return named(
-            table,
-            round,
-            substitute_every(table, counts, round, reach, row),
-        );
+        return Ok(named(sound, substitute_every(sound, counts, reach, row)));
     }
-    if round.used <= Round::FEW {
-        return substitute_few(table, counts, round, reach, row);
-    }
-    substitute_many(table, counts, round, reach, row)
+    let current = sound.round.slot;
+    let due = Slot(sound.due_at(row));
+    let sub = ask_plan(sound, counts, reach, |keys, flags, _| {
+        substitute_flagged(keys, flags, current, due, row)
+    })?;
+    Ok(named(sound, sub))
 }
 
-// Some rows are left out: in small arrays, and in large ones.
-fn substitute_few(
-    table: &[u8],
-    counts: &mut [u32],
-    round: Round,
-    reach: Reach,
-    row: usize,
-) -> Substituted
-    requires { Seen table.now counts.old round reach × (1 ≤ reach.over) × (round.used ≤ 32) × (row < round.used)
-        × ((at (round_in table.now) row).due < round.slot.0 + reach.free) }
-    ensures { StoodIn (round_in table.now) row (of_substituted result) }
-{
-    let used = round.used;
-    let mut keys = [0u64; Round::FEW_PLACES];
-    let mut flags = [1u8; Round::FEW];
-    let mut heap = [0u64; Round::FEW_PLACES];
-    substitute_planned(
-        table,
-        counts,
-        &mut keys,
-        &mut flags[..used],
-        &mut heap,
-        round,
-        reach,
-        row,
-    )
-}
-
-fn substitute_many(
-    table: &[u8],
-    counts: &mut [u32],
-    round: Round,
-    reach: Reach,
-    row: usize,
-) -> Substituted
-    requires { Seen table.now counts.old round reach × (1 ≤ reach.over) × (row < round.used)
-        × ((at (round_in table.now) row).due < round.slot.0 + reach.free) }
-    ensures { StoodIn (round_in table.now) row (of_substituted result) }
-{
-    let used = round.used;
-    let mut keys = [0u64; Round::PLACES];
-    let mut flags = [1u8; Round::ROWS];
-    let mut heap = [0u64; Round::PLACES];
-    substitute_planned(
-        table,
-        counts,
-        &mut keys,
-        &mut flags[..used],
-        &mut heap,
-        round,
-        reach,
-        row,
-    )
-}
-
-// By the plan.
-fn substitute_planned(
-    table: &[u8],
-    counts: &mut [u32],
-    keys: &mut [u64],
-    flags: &mut [u8],
-    heap: &mut [u64],
-    round: Round,
-    reach: Reach,
-    row: usize,
-) -> Substituted
-    requires { Lent table.now counts.old keys.old flags.old heap.old round reach × (row < round.used)
-        × ((at (round_in table.now) row).due < round.slot.0 + reach.free) }
-    ensures { StoodIn (round_in table.now) row (of_substituted result) }
-{
-    let planned = plan_of(table, counts, keys, flags, heap, round, reach, false);
-    substitute_flagged(table, keys, flags, round, reach, planned, row)
-}
-
-// By its keys and flags.
+// By the plan's keys and flags, for a row due then.
 fn substitute_flagged(
-    table: &[u8],
     keys: &[u64],
     flags: &[u8],
-    round: Round,
-    reach: Reach,
-    planned: Planned,
+    current: Slot,
+    due: Slot,
     row: usize,
-) -> Substituted
-    requires { Ready table.now round × Reaches (round_in table.now) reach × Plans (round_in table.now) reach false keys.now flags.now planned
-        × (row < round.used) × ((at (round_in table.now) row).due < round.slot.0 + reach.free) }
-    ensures { StoodIn (round_in table.now) row (of_substituted result) }
+) -> Result<Sub, Refusal>
+    requires { LentAsked keys.now flags.now (length keys.now) current.0 due.0 × (row < length flags.now) }
+    ensures { Flagged keys.now flags.now current.0 due.0 row result }
 {
     if flags[row] != 1 {
-        return Substituted::Refused(11);
+        return Err(Refusal::NotInPlan);
     }
-    let due = due_at(table, round, row);
-    let sub = substitute_near(&keys[..planned.many], flags, round.slot, Slot(due));
-    named(table, round, sub)
+    Ok(substitute_near(keys, flags, current, due))
 }

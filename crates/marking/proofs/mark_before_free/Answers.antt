@@ -1,17 +1,19 @@
 -- `marking::mark_before_free` meets its contract.
-use Rattle.questions.proofs.SeenLaws.{whole}
-use native.Mathlib.Omega.{arith}
+use Rattle.std.proofs.Common.{rules, of_calls}
+use Rattle.std.proofs.iter.Serving.{serving}
+use Rattle.questions.proofs.PlanLaws.{plan_asked, plan_mark}
 use Rattle.marking.proofs.mark_before_free.Goals as goal
 
-pub mark_every-requires : goal.mark_every-requires
-mark_every-requires c = (whole c.args.table.now c.args.round c.args.counts.now c.args.reach c.requires.0 c.if-reach-eq0.true, c.requires.1, c.requires.2)
+pub ask_plan-requires-clause-can : goal.ask_plan-requires-clause-can
+ask_plan-requires-clause-can c =
+    λ ks fs n g l.
+    let s = c.args.sound.now in
+    let a = plan_asked s.table.now s.round c.args.reach s.ready c.requires.0.reaches ks.now fs.now g c.args.slot.0 c.requires.1 c.requires.2 in
+    grind serving
 
-pub mark_few-requires : goal.mark_few-requires
-mark_few-requires c =
-    let n = c.if-reach-eq0.false in
-    (c.requires.0, omega (arith, n), omega arith, c.requires.1, c.requires.2)
-
-pub mark_many-requires : goal.mark_many-requires
-mark_many-requires c =
-    let n = c.if-reach-eq0.false in
-    (c.requires.0, omega (arith, n), c.requires.1, c.requires.2)
+pub returns : goal.returns
+returns c =
+    let e = c.ask_plan.ensures in
+    let s = c.args.sound.now in
+    let f = plan_mark s.table.now s.round c.args.reach s.ready c.requires.0.reaches e.0.now e.1.0.now e.1.1.1.0 c.args.slot.0 c.requires.1 c.requires.2 in
+    search (rules, of_calls, f)

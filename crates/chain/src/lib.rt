@@ -9,6 +9,15 @@ use keys::{row_of, weight_of};
 use row::write::write_shift;
 use sorts::{Slot, Weight};
 
+// Segments by their numbers: each one's end, the key of its heaviest row, and its lightest weight or its mark.
+// Kept: three slices side by side, since a sending's counts and heap serve again as ends and tops; one of whole segments would need 8 KB of stack more.
+#[derive(Drop)]
+pub struct Segments<'a> {
+    pub ends: &'a [u32],
+    pub tops: &'a [u64],
+    pub lows: &'a mut [u32],
+}
+
 // The segment in which a slot lies, own or a later one.
 pub fn segment_by(ends: &[u32], own: usize, slot: Slot) -> usize
     requires { (own < length ends.now) × (slot.0 ≤ get_or ends.now 0 0) }
@@ -43,44 +52,31 @@ fn shift_link(table: &mut [u8], key: u64, end: u32, mark: u32)
 }
 
 // From a segment to the one before it: if its heaviest row is heavier than the link that waits, it is the next link, and the other moves to its end.
-fn pass_segment(
-    table: &mut [u8],
-    ends: &[u32],
-    tops: &[u64],
-    marks: &[u32],
-    waiting: u64,
-    k: usize,
-) -> u64
-    requires { Named waiting table.old × (k < length ends.now) × (k < length tops.now) × (k < length marks.now) }
-    ensures { (result ≡ min waiting (get_or tops.now k 0))
-        × (table.new ≡ passed ends.now tops.now marks.now waiting k table.old) }
+fn pass_segment(table: &mut [u8], segments: &Segments, waiting: u64, k: usize) -> u64
+    requires { Named waiting table.old × (k < length segments.now.ends.now) × (k < length segments.now.tops.now)
+        × (k < length segments.now.lows.now) }
+    ensures { (result ≡ min waiting (get_or segments.now.tops.now k 0))
+        × (table.new ≡ passed segments.now.ends.now segments.now.tops.now segments.now.lows.now waiting k table.old) }
 {
-    let top = tops[k];
+    let top = segments.tops[k];
     if waiting <= top {
         return waiting;
     }
-    shift_link(table, waiting, ends[k], marks[k]);
+    shift_link(table, waiting, segments.ends[k], segments.lows[k]);
     top
 }
 
 // Every link between the ends of two segments moves to the end before it.
-pub fn shift_chain(
-    table: &mut [u8],
-    ends: &[u32],
-    tops: &[u64],
-    marks: &[u32],
-    to: usize,
-    own: usize,
-)
-    requires { Chained table.old ends.now tops.now marks.now to own }
-    ensures { Shifts (round_in table.old) (get_or ends.now own 0) (get_or ends.now to 0) table.new }
+pub fn shift_chain(table: &mut [u8], segments: &Segments, to: usize, own: usize)
+    requires { Chained table.old segments.now.ends.now segments.now.tops.now segments.now.lows.now to own }
+    ensures { Shifts (round_in table.old) (get_or segments.now.ends.now own 0) (get_or segments.now.ends.now to 0) table.new }
 {
     if to == own {
         return;
     }
-    let mut waiting = tops[to];
+    let mut waiting = segments.tops[to];
     for k in to + 1..own {
-        waiting = pass_segment(table, ends, tops, marks, waiting, k);
+        waiting = pass_segment(table, segments, waiting, k);
     }
-    shift_link(table, waiting, ends[own], marks[own]);
+    shift_link(table, waiting, segments.ends[own], segments.lows[own]);
 }

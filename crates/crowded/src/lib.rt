@@ -14,6 +14,7 @@ use buckets::Reach;
 use flagged::first_planned;
 use plan::{Planned, plan_of};
 use replies::Step;
+use round::read::Sound;
 use segments::segments_of;
 use sorts::Round;
 use step::send_planned;
@@ -68,7 +69,11 @@ fn send_crowded(
     ensures { SentSays table.old table.new result }
 {
     let asked = round.sealed != 1;
-    let planned = plan_of(table, counts, keys, flags, heap, round, reach, asked);
+    let sound = Sound {
+        table: &*table,
+        round,
+    };
+    let planned = plan_of(&sound, counts, keys, flags, heap, reach, asked);
     send_led(
         table,
         counts,

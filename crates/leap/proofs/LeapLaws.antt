@@ -88,6 +88,12 @@ module _ {t : List ℕ} {h : Head} {es ts ls : List ℕ} {l : Lead} (w : Leaps t
 
 -- ONTO A BLANK
 module _ {t : List ℕ} {h : Head} {es ts ls : List ℕ} {l : Lead} (w : LeapsBlank t h es ts ls l) where
+  pub blank_fits : get_or es (l.segment + 1) 0 ≤ 4095
+  blank_fits =
+      let q : suc l.segment ≡ l.segment + 1 = omega arith in
+      let s = (w.leaps.pieces.piece (suc l.segment) w.leaps.later).spans in
+      omega (arith, s.ahead, (leap_known w.leaps).cap, ap (λ (k : ℕ). get_or es k 0) q)
+
   pub blank_keeps : {us : List ℕ} → Lowered l.count l.segment ls us → {j : ℕ} → j ≡ row_of l.key →
       KeepsBlank t h j (get_or es (l.segment + 1) 0 + 1) (get_or us l.segment 0)
   blank_keeps {us} m {j} d =

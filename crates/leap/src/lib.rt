@@ -6,7 +6,7 @@ ghost use Rattle.closing.specs.Close.{DueNow};
 ghost use Rattle.went.specs.Send.{SentSays};
 ghost use Rattle.leap.specs.Leap.{LeapsBlank, LeapsRow};
 
-use chain::{lower_marks, segment_by, shift_chain};
+use chain::{Segments, lower_marks, segment_by, shift_chain};
 use closing::close_up;
 use keys::{due_of, row_of};
 use lead::Lead;
@@ -19,20 +19,18 @@ use went::{out_of, send_kept};
 // A leap onto the blank of the segment that leads, due in its first slot with its mark.
 pub fn send_blank(
     table: &mut [u8],
-    ends: &[u32],
-    tops: &[u64],
-    lows: &mut [u32],
+    segments: Segments,
     round: Round,
     lead: Lead,
     expiring: usize,
 ) -> Step
-    requires { LeapsBlank table.old round ends.now tops.now lows.old lead × DueNow table.old expiring }
+    requires { LeapsBlank table.old round segments.ends.now segments.tops.now segments.lows.now lead × DueNow table.old expiring }
     ensures { SentSays table.old table.new result }
 {
     let own = lead.segment;
-    lower_marks(lows, lead.count, own);
-    let first = ends[own + 1] + 1;
-    let mark = lows[own];
+    lower_marks(segments.lows, lead.count, own);
+    let first = segments.ends[own + 1] + 1;
+    let mark = segments.lows[own];
     let row = row_of(lead.key);
     send_kept(table, round, row, Slot(first), Weight(mark), expiring)
 }
@@ -40,14 +38,12 @@ pub fn send_blank(
 // A leap onto a row left out: the links between the two segments' ends move, and that row gets its segment's mark.
 pub fn send_swapped(
     table: &mut [u8],
-    ends: &[u32],
-    tops: &[u64],
-    lows: &mut [u32],
+    segments: Segments,
     round: Round,
     lead: Lead,
     expiring: usize,
 ) -> Step
-    requires { LeapsRow table.old round ends.now tops.now lows.old lead × DueNow table.old expiring }
+    requires { LeapsRow table.old round segments.ends.now segments.tops.now segments.lows.now lead × DueNow table.old expiring }
     ensures { SentSays table.old table.new result }
 {
     let sent = row_of(lead.key);
@@ -57,10 +53,10 @@ pub fn send_swapped(
     };
     let out = out_of(&sound, sent);
     let own = lead.segment;
-    let to = segment_by(ends, own, Slot(due_of(lead.other)));
-    lower_marks(lows, lead.count, to);
-    shift_chain(table, ends, tops, lows, to, own);
-    let mark = lows[to];
+    let to = segment_by(segments.ends, own, Slot(due_of(lead.other)));
+    lower_marks(segments.lows, lead.count, to);
+    shift_chain(table, &segments, to, own);
+    let mark = segments.lows[to];
     write_weight(table, row_of(lead.other), Weight(mark));
     close_up(table, round, expiring, sent);
     Step::Leap(out)

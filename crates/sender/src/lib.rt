@@ -12,6 +12,7 @@ use buckets::{Reach, reach_of};
 use crowded::send_in_arrays;
 use first::first_of_all;
 use replies::Step;
+use round::read::Sound;
 use sorts::Round;
 use step::send_whole;
 use went::{send_row, send_silence};
@@ -22,14 +23,18 @@ fn send_all(table: &mut [u8], counts: &[u32], round: Round, reach: Reach, expiri
     requires { Given table.old counts.now round reach × DueNow table.old expiring }
     ensures { SentSays table.old table.new result }
 {
+    let sound = Sound {
+        table: &*table,
+        round,
+    };
     if round.sealed != 1 {
-        let whole = choose_whole(table, counts, round, reach);
+        let whole = choose_whole(&sound, counts, reach);
         return send_whole(table, round, whole, expiring);
     }
     if reach.free == 0 {
         return send_silence(table, round, expiring);
     }
-    let row = first_of_all(table, round);
+    let row = first_of_all(&sound);
     Step::Ordinary(send_row(table, round, row, expiring))
 }
 

@@ -8,6 +8,7 @@ ghost use Rattle.closing.specs.Close.{DueNow};
 ghost use Rattle.went.specs.Send.{SentSays};
 ghost use Rattle.step.specs.Step.{PlannedStep, WholeStep};
 
+use chain::Segments;
 use keys::{BLANK, row_of, weight_of};
 use lead::Lead;
 use leap::{send_blank, send_swapped};
@@ -25,6 +26,7 @@ fn far_score(far: u64) -> u64
 }
 
 // The heaviest far row goes if it scores more than the segment that leads; else that segment's heaviest row: in an ordinary step from the first, else in a leap.
+// Kept: three slices, since the check does not follow a struct that lends one to be written if it is passed on; a leap's is made here.
 pub fn send_planned(
     table: &mut [u8],
     ends: &[u32],
@@ -44,10 +46,11 @@ pub fn send_planned(
     if lead.segment + 1 == lead.count {
         return Step::Ordinary(send_row(table, round, row_of(lead.key), expiring));
     }
+    let segments = Segments { ends, tops, lows };
     if lead.other == BLANK {
-        return send_blank(table, ends, tops, lows, round, lead, expiring);
+        return send_blank(table, segments, round, lead, expiring);
     }
-    send_swapped(table, ends, tops, lows, round, lead, expiring)
+    send_swapped(table, segments, round, lead, expiring)
 }
 
 // The same where no row is left out: as the passes over the table found it.

@@ -120,6 +120,7 @@ CONTRACTS = {
     "sender": "`send_sound` (`SentSays`): a slot of any sound table",
     "far": "`substitute_far` (`Substitutes`): the blank where a far row's segment begins",
     "every": "`mark_every` (`mark`) and `substitute_every` (`Substitutes`): the answers where no row is left out",
+    "questions": "`ask_plan`: what those who ask a plan are lent of it",
     "marks": "marks, totals and substitutes read off the plan, equal to `mark`, `total` and `substitute`",
     "order": "`order_of` (`Ordered`): the plan's rows in canonical order",
     "opening": "`open_round` (`Says`): reply and bytes",

@@ -1,5 +1,5 @@
 -- What ranks and keys tell, and that keys are the order heavier: rank_less, ranked_key, key_weight, key_due, key_row, key_some, lacks_more, heavier_key, keys_apart.
-use Rattle.std.specs.Prelude.{◌≡◌, ◌⊎◌, true, false, ℕ, zero, suc, ◌+◌, ◌*◌, ◌-◌, ◌≤◌, ◌<◌, ltb, length}
+use Rattle.std.specs.Prelude.{◌≡◌, ◌⊎◌, true, false, ℕ, ◌+◌, ◌*◌, ◌-◌, ◌≤◌, ◌<◌, ltb, length}
 use Rattle.std.proofs.Common.{sym, ap, ◌∙◌, inl, inr, arith, lt-ltb, le-ltb, ltb-true, ltb-false}
 use Rattle.rules.specs.Rows.{Row, Round, blank, heavier, Heavier}
 use Rattle.theory.specs.Tests.{ltb?}

@@ -1,7 +1,7 @@
 // One number for a row, by which rows are compared, and the laws of that number: the only place that knows how a key is made.
 #![tactic(auto)]
 
-ghost use Rattle.std.specs.Prelude.{◌≡◌, ◌*◌, ◌≤◌, ◌<◌, max, min};
+ghost use Rattle.std.specs.Prelude.{◌≡◌, ◌*◌, ◌≤◌, ◌<◌};
 ghost use Rattle.keys.specs.Key.{key, rank, slot_of, ranked, weight_of, lack_of, due_of, row_of, blank_key, MayLack, Lacks};
 
 use sorts::{Class, Slot, Weight};
@@ -84,23 +84,4 @@ pub fn flagged(key: u64, flag: u8) -> u64
     ensures { result ≡ key * flag }
 {
     key * u64::from(flag)
-}
-
-// The lighter of two rows, and the heavier.
-pub fn larger(a: u64, b: u64) -> u64
-    ensures { result ≡ max a b }
-{
-    if a < b {
-        return b;
-    }
-    a
-}
-
-pub fn lesser(a: u64, b: u64) -> u64
-    ensures { result ≡ min a b }
-{
-    if b < a {
-        return b;
-    }
-    a
 }

@@ -11,4 +11,4 @@ pub loop-s-preserved : goal.loop-s-preserved
 loop-s-preserved c = (omega arith, wait_back _ _ _ _ _ _ _ c.loop-s-test.true c.loop-s.invariant.1 c.saturating_sub.ensures (search rules))
 
 pub loop-waiting-preserved : goal.loop-waiting-preserved
-loop-waiting-preserved c = seek_back _ _ _ _ _ _ c.requires c.loop-waiting-test.true c.loop-waiting.invariant (search rules)
+loop-waiting-preserved c = seek_back _ _ _ _ _ _ c.requires (omega arith) c.loop-waiting.invariant (search rules)

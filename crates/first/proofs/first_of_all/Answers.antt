@@ -17,10 +17,10 @@ loop-row-preserved c =
     elim c.if-due-first.branch [
       | then-due-first w ↦
           rw w.first-is (lead_sees _ n.fine n.small n.cap _ (omega (arith, n.used)) _ c.loop-row.invariant _ c.due_at-due.ensures _
-          w.key_at-key.ensures w.if-due-first.true _ w.see-first.ensures)
+          w.key_at-key.ensures (omega arith) _ w.see-first.ensures)
       | else-due-first w ↦
           rw w.first-is (lead_passes _ n.fine n.small n.cap _ (omega (arith, n.used)) _ c.loop-row.invariant _ c.due_at-due.ensures
-          w.if-due-first.false)
+          (omega arith))
     ]
 
 pub returns : goal.returns

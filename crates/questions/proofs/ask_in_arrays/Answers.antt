@@ -8,7 +8,7 @@ ask-requires g c =
     let p = c.plan_of-planned in
     let f = plan_gives s.table.now s.round c.args.reach s.ready _ _ p.result p.ensures in
     let l = plan_lost s.table.now s.round c.args.reach s.ready _ _ p.result p.ensures in
-    c.requires.can _ _ _ f l
+    c.requires.can _ _ _ f (search l)
 
 pub returns : goal.returns
 returns g c =

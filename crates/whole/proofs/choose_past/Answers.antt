@@ -16,7 +16,7 @@ returns-then-reach-ahead c =
     c.rank_due.ensures (omega (arith, c.if-reach-ahead.true, past_from c.requires c.rank_due.ensures)) (omega arith)
 
 pub stretch_of-own-requires : goal.stretch_of-own-requires
-stretch_of-own-requires c = (filled c.requires.given, c.if-reach-ahead.false)
+stretch_of-own-requires c = (filled c.requires.given, omega (arith, c.if-reach-ahead.false))
 
 pub overflow_cast-own : goal.overflow_cast-own
 overflow_cast-own c = omega (arith, (slots_fit c.requires.given c.stretch_of-own.ensures).0)

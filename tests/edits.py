@@ -116,7 +116,7 @@ CONTRACTS = {
     "step": "`send_planned` (`SentSays`): the row that goes, from near or afar",
     "first": "`first_of_all` (`IsFirst`): the plan's canonical first where no row is left out",
     "flagged": "`first_planned` (`FirstSays`): the plan's canonical first where rows are left out",
-    "crowded": "`send_few` and `send_many` (`SentSays`): a slot where rows are left out of the plan",
+    "crowded": "`send_in_arrays` (`SentSays`): a slot where rows are left out of the plan",
     "sender": "`send_sound` (`SentSays`): a slot of any sound table",
     "far": "`substitute_far` (`Substitutes`): the blank where a far row's segment begins",
     "every": "`mark_every` (`mark`) and `substitute_every` (`Substitutes`): the answers where no row is left out",

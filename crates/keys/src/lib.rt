@@ -13,6 +13,7 @@ pub mod canonical; // canonical.rt: one number for a row's place in canonical or
 pub const BLANK: u64 = 281474993487872;
 
 // Due slot and class as one number: rows of one weight go by it. The due slot that it tells.
+// Kept: bounds stand in the clauses from here on, since a Slot, a Weight and a Class hold whatever number a caller gives.
 pub fn rank_of(due: Slot, class: Class) -> u32
     requires { (due.0 ≤ 65535) × (class.0 ≤ 3) }
     ensures { result ≡ rank due.0 class.0 }

@@ -62,6 +62,7 @@ fn entry_at(view: View, table: &[u8], row: u16) -> Entry
 }
 
 // The rows to list in their order, where a list of some room has an entry for each.
+// Kept: it chooses one of two sizes by the table's length; a shared function for that would take the rest as a closure, and its clauses with it.
 fn order_for(view: View, table: &[u8], room: usize) -> Result<Order, Refusal>
     ensures { ListingSays (of_view view) table.now room result }
 {

@@ -21,6 +21,7 @@ use round::read::Sound;
 use round::sound::scan;
 use sorts::{Round, Slot, Weight};
 
+// Kept: it chooses one of two sizes by the table's length; a shared function for that would take the rest as a closure, and its clauses with it.
 pub fn mark_of(slot: Slot, table: &[u8]) -> Result<Weight, Refusal>
     ensures { Says (asking (marking slot.0)) (of_marked result) table.now table.now }
 {

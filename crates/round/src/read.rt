@@ -59,13 +59,3 @@ impl<'a> Sound<'a> {
         class_in(self.table, row)
     }
 }
-
-// The bucket of a slot so far ahead.
-pub fn cut(ahead: usize, top: usize) -> usize
-    ensures { result ≡ min ahead top }
-{
-    if ahead < top {
-        return ahead;
-    }
-    top
-}

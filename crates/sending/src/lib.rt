@@ -13,6 +13,7 @@ use round::sound::scan;
 use sender::send_sound;
 use sorts::Round;
 
+// Kept: it chooses one of two sizes by the table's length; a shared function for that would take the rest as a closure, and its clauses with it.
 pub fn send_slot(table: &mut [u8]) -> Result<Step, Refusal>
     ensures { Says (acting sending) (of_sent result) table.old table.new }
 {

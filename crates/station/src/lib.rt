@@ -16,6 +16,7 @@ use substituting::substitute_of;
 use taking::take_frame;
 use totalling::plan_total;
 
+// Kept: an export for each call, as the C interface names them.
 #[unsafe(no_mangle)]
 pub extern "C" fn lirvedd_open(last: u32, table: &mut [u8]) -> u64
     ensures { Exports (opening (until last)) result table.old table.new }

@@ -18,6 +18,7 @@ use round::read::Sound;
 use round::sound::scan;
 use sorts::{Round, Ticket};
 
+// Kept: it chooses one of two sizes by the table's length; a shared function for that would take the rest as a closure, and its clauses with it.
 pub fn substitute_of(ticket: Ticket, table: &[u8]) -> Result<Substitute, Refusal>
     ensures { Looks (substitute_answer ticket.0 table.now) (of_substituted result) table.now table.now }
 {

@@ -18,6 +18,7 @@ use round::read::Sound;
 use round::sound::scan;
 use sorts::Round;
 
+// Kept: it chooses one of two sizes by the table's length; a shared function for that would take the rest as a closure, and its clauses with it.
 pub fn plan_total(table: &[u8]) -> Result<u64, Refusal>
     ensures { Says (asking totalling) (of_totalled result) table.now table.now }
 {

@@ -132,7 +132,7 @@ CONTRACTS = {
     "substituting": "`substitute_of` (`Looks`): the reply; and the bytes as they were",
     "listing": "`list` (`Lists`): reply and entries, by view",
     "station": "each exported call: the packed reply and the bytes (`Exports`, `ExportsLook`)",
-    "digits": "`number` (`spelt`), `digits_only` (`all_digits`), `payload_fits` (`payload_fits`), `put_number` (`Puts`)",
+    "digits": "`number` (`spelt`), `digits_only` (`all_digits`), `payload_fits` (`payload_fits`), `put_number` (`digits`)",
     "forms": "`form_of` (`HasForm`), `command_of` (`command_of`), `line_number` (`line_number`), `values_of` (`HasValues`)",
     "lines": "`read_command` (`read`), `payload` (`PayloadPart`), `line_end` (`LineEnds`)",
     "writer": "`write_line` (`Writes`): the reply, and each byte of the buffer",

@@ -10,7 +10,7 @@ use row::write::write_shift;
 use sorts::{Slot, Weight};
 
 // Segments by their numbers: each one's end, the key of its heaviest row, and its lightest weight or its mark.
-// Kept: three slices side by side, since a sending's counts and heap serve again as ends and tops; one of whole segments would need 8 KB of stack more.
+// Kept: three slices side by side, since a sending's counts and heap serve again as ends and tops; one of whole segments would need 12 KB of stack more.
 #[derive(Drop)]
 pub struct Segments<'a> {
     pub ends: &'a [u32],
@@ -32,6 +32,7 @@ pub fn segment_by(ends: &[u32], own: usize, slot: Slot) -> usize
 }
 
 // Each segment's lightest weight becomes its mark, the least from the first segment on, up to segment to.
+// Kept: count beside lows, since the places past it are a segment's no more and lows is written in place.
 pub fn lower_marks(lows: &mut [u32], count: usize, to: usize)
     requires { (to < count) × (count ≤ length lows.old) }
     ensures { Lowered count to lows.old lows.new }

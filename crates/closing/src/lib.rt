@@ -15,6 +15,7 @@ use sorts::{Round, Slot};
 use zeros::clear;
 
 // The first row due in a slot, from one up to another; the latter if none is.
+// Kept: the latter is a number and no None, since a search ends there alike whether a row was found or not (NextDue, NextLeaving).
 fn next_due(table: &[u8], from: usize, to: usize, slot: Slot) -> usize
     requires { (from ≤ to) × (to ≤ 1024) × (row_at to ≤ length table.now) }
     ensures { NextDue slot.0 from to table.now result }

@@ -1,4 +1,5 @@
 // Sending a slot where rows are left out of the plan: the plan, then its first or its segments, and what is written.
+// Kept: table, round and expiring each on their own, as crate went says.
 #![tactic(auto)]
 
 ghost use Rattle.std.specs.Prelude.{◌≢◌, ◌+◌, ◌≤◌};
@@ -21,7 +22,7 @@ use step::send_planned;
 use went::send_row;
 
 // Sealed: the plan's first. Else by its segments: counts and heap have served once the plan is made, and take their ends and tops.
-// Kept: the arrays each on their own, since some are lent to be written and come back for another use.
+// Kept: the arrays each on their own: counts and heap are written for the plan, and then written again as ends and tops (decision 26).
 fn send_led(
     table: &mut [u8],
     counts: &mut [u32],

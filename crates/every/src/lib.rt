@@ -41,7 +41,7 @@ pub fn mark_every(sound: &Sound, counts: &[u32], reach: Reach, slot: Slot) -> We
 }
 
 // The lightest row due by a slot; 0 for none.
-// Kept: no key is 0, so the greatest of bare numbers tells none too, where an Option would ask at each row.
+// Kept: no key is 0, so the greatest of bare numbers tells none too, and the pass has no case of its own for the first row.
 fn lightest_by(sound: &Sound, by: u32) -> u64
     ensures { LightestKey (round_in sound.now.table.now) by result }
 {

@@ -22,7 +22,7 @@ struct First {
 fn see(first: First, next: First) -> First
     ensures { Sees first next.due next.key result }
 {
-    // Kept: due slots are compared before a key is made, and a derived order would compare them once more.
+    // Kept: due slots are compared before a key is made, so a derived order of both would compare them twice.
     if next.due == first.due {
         if first.key <= next.key {
             return first;

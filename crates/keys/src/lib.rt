@@ -9,7 +9,7 @@ use sorts::{Class, Slot, Weight};
 pub mod canonical; // canonical.rt: one number for a row's place in canonical order
 
 // No row: what a blank would have, which weighs nothing.
-// Kept: passes take the least and the greatest of bare numbers, without a branch; an Option, or a type of its own for keys, would ask at each.
+// Kept: a key among keys, since passes take the least and the greatest of them without a branch, where an Option would ask at each; blank_key names it.
 pub const BLANK: u64 = 281474993487872;
 
 // Due slot and class as one number: rows of one weight go by it. The due slot that it tells.

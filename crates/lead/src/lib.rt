@@ -28,7 +28,7 @@ pub fn score_of(weight: Weight, substitute: Weight) -> u64
 }
 
 // A segment is complete: it is stored, and leads from an equal score on, since it is earlier.
-// Kept: three arrays, since counts and heap serve again as ends and tops; one of whole segments would need 8 KB of stack more than the 26 of 28.
+// Kept: three arrays, since counts and heap serve again as ends and tops (decision 26); one of whole segments would pass the limit of 28,000 bytes.
 #[tactic(auto, unfolding(crate::specs::Closed::closed))]
 pub fn close_segment(
     ends: &mut [u32],

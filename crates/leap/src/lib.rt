@@ -1,5 +1,6 @@
 // A leap from the segment that leads: onto a row left out or onto its blank, which gets the mark of its segment.
 // At most expiring rows are due in the current slot.
+// Kept: table, round and expiring each on their own, as crate went says.
 #![tactic(auto)]
 
 ghost use Rattle.closing.specs.Close.{DueNow};

@@ -18,7 +18,7 @@ use row::entry::numbers_at;
 use sorts::{Round, Slot, Ticket, Weight};
 
 // What is listed.
-// Kept: callers name what they list, so that a further view joins here and changes no call.
+// Kept: callers name what they list, as docs/LINES.md says (`list(View::Plan, ..)`).
 #[derive(Clone, Copy)]
 pub enum View {
     Plan,

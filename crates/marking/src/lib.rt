@@ -32,6 +32,7 @@ pub fn mark_of(slot: Slot, table: &[u8]) -> Result<Weight, Refusal>
 }
 
 // The same with so many places for counts.
+// Kept: it begins as totalling's does; what each asks of its counts is its own.
 fn mark_by<const PLACES: usize>(slot: Slot, table: &[u8]) -> Result<Weight, Refusal>
     requires { ScanAsks table.now (replicate PLACES 0) × (PLACES ≤ 1026) }
     ensures { Says (asking (marking slot.0)) (of_marked result) table.now table.now }

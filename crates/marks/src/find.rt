@@ -12,6 +12,7 @@ pub struct Found {
     pub low: u64,
 }
 
+// Kept: keys and flags each on their own, here and below: leaving reads the ones while it writes the others, and a struct would be made for each call.
 // The plan's rows so far would fill each slot before `edge`: a segment ends there where the latest is due by it.
 pub fn find_segment(keys: &[u64], flags: &[u8], slot: u32, asked: u32) -> Found
     requires { LentAsked keys.now flags.now (length keys.now) slot asked }

@@ -9,11 +9,13 @@ use sorts::Slot;
 use sub::Sub;
 
 // The heaviest row left out that is due from a slot on; BLANK for none.
+// Kept: as a key, BLANK is what a blank would have, and LeftSay names it.
 fn heaviest_out(keys: &[u64], flags: &[u8], from: u32) -> u64
     requires { Lent keys.now flags.now (length keys.now) }
     ensures { LeftSay keys.now flags.now (length keys.now) from result }
 {
     let mut out = BLANK;
+    // Kept: by places, since what the loop keeps speaks of the keys from a place on; so would an iterator's, of a list yielded backwards.
     for p in (0..keys.len()).rev() {
         let key = keys[p];
         if due_of(key) < from {

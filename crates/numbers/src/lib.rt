@@ -15,7 +15,7 @@ pub fn read<const N: usize>(bytes: &[u8], at: usize) -> u32
     u32::from_le_bytes(word)
 }
 
-// Kept: eight bytes do not fit the u32 that the other widths answer, and copied as those are they take a test for overlap.
+// Kept: eight bytes do not fit the u32 that the other widths answer, and a copy of eight compiles to more than this one load.
 pub fn read8(bytes: &[u8], at: usize) -> u64
     requires { at + 8 ≤ length bytes.now }
     ensures { result ≡ field at 8 bytes.now }

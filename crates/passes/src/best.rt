@@ -2,7 +2,7 @@
 ghost use Rattle.passes.specs.Best.{Sees};
 
 // The heaviest row so far; it weighs nothing before there is one.
-// Kept: weight 0 stands for no row, so that a pass compares numbers alone, where an Option would ask at each row.
+// Kept: weight 0 stands for no row, as no row weighs nothing, so that a pass has one comparison a row and no case of its own for the first.
 #[derive(Clone, Copy)]
 pub struct Best {
     pub weight: u32,

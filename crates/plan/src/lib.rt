@@ -10,6 +10,7 @@ use queue::{sort, starts};
 use round::read::Sound;
 
 // How many near rows there are, the key of the heaviest other one where it is asked for, and the weight of all rows left out.
+// Kept: many is no slice's length here, since the keys are lent to be written; far is BLANK where none is, as keys are everywhere.
 #[derive(Clone, Copy)]
 pub struct Planned {
     pub many: usize,
@@ -18,6 +19,7 @@ pub struct Planned {
 }
 
 // Counts are the scan's and are used up; keys get the near rows' in due order; flags, 1 before, become 0 for rows left out.
+// Kept: asked as in crate queue.
 pub fn plan_of(
     sound: &Sound,
     counts: &mut [u32],

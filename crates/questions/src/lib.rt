@@ -12,6 +12,7 @@ use round::read::Sound;
 use sorts::Round;
 
 // Some rows are left out: asks their plan, by the near rows' keys, its flags and what it lost, in small arrays or in large ones.
+// Kept: sound, counts and reach each on their own, since counts are written for the plan while the others are read.
 pub fn ask_plan<R, F: FnOnce(&[u64], &[u8], u64) -> R>(
     sound: &Sound,
     counts: &mut [u32],

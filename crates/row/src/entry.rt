@@ -9,7 +9,7 @@ use crate::row_at;
 use numbers::read;
 use sorts::{Round, Slot, Ticket, Weight};
 
-// Kept: four readers, each with the definition of its number in its clause; one by place and width would move both into every call.
+// Kept: five readers, each with the definition of its number in its clause; one by place and width would move both into every call.
 pub fn ticket_in(table: &[u8], row: usize) -> u32
     requires { (row < most_rows) × (row_at (suc row) ≤ length table.now) }
     ensures { result ≡ ticket_in table.now row }

@@ -11,6 +11,7 @@ use crate::row_at;
 use numbers::write;
 use sorts::{Class, Round, Slot, Ticket, Weight};
 
+// Kept: a table and a row each on their own, since the table is written; the row's bounds stand in the clauses, as in entry.rt.
 // The numbers of a frame's row written; its zero bytes stay as they are.
 pub fn write_row(
     table: &mut [u8],

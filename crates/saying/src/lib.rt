@@ -26,10 +26,12 @@ pub enum Accepted {
 }
 
 // The whole of an opening's line, and of a sealing's.
+// Kept: numbers, here and below, since they are the digits of the line (bare_text, step_text).
 const DONE: u32 = 0;
 
 const CLOSED: u32 = 3;
 
+// Kept: room in a clause, as in crate replying.
 pub fn say(said: Result<Accepted, Refusal>, reply: &mut [u8]) -> usize
     requires { reply_room ≤ length reply.old }
     ensures { Replies (reply_text (of_said said)) reply.old reply.new result }

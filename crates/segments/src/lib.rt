@@ -10,6 +10,7 @@ use lead::{Lead, close_segment, ends_here};
 use sorts::Slot;
 
 // From the last key back: a segment opens at its end and closes where an earlier one ends.
+// Kept: three arrays, as crate lead says; keys and flags, as marks does.
 pub fn segments_of(
     keys: &[u64],
     flags: &[u8],
@@ -36,6 +37,7 @@ pub fn segments_of(
     let mut out = BLANK;
     // the plan's rows still to come would fill each slot before it
     let mut edge = current as usize + free;
+    // Kept: by places, since what the loop keeps speaks of the keys from a place on; so would an iterator's, of a list yielded backwards.
     for i in (0..keys.len()).rev() {
         let key = keys[i];
         let due = due_of(key);

@@ -1,4 +1,5 @@
 // Sending a slot of a sound table: nothing, the row that goes where all are in the plan, or what goes where some are left out.
+// Kept: table, round and expiring each on their own, as crate went says.
 #![tactic(auto)]
 
 ghost use Rattle.rules.specs.Table.{round_in};

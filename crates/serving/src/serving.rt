@@ -9,6 +9,7 @@ use refusals::Refusal;
 use saying::say_refusal;
 
 // The bytes got stand behind those held; no bytes are the end of the input.
+// Kept: two lengths beside the input, since what follows both is room that the caller reads into again.
 pub fn serve_in_room(
     input: &mut [u8],
     held: usize,

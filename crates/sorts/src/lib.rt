@@ -24,7 +24,7 @@ pub struct Round {
     pub last: Slot,
     pub next: Ticket,
     // 1 for a sealed round, else 0.
-    // Kept: a number, since read_head tells any byte that a table holds here, and head_is_good then judges it; of 32 bits, so that the value has no gap.
+    // Kept: a number, since read_head tells any byte that a table holds here, and head_is_good then judges it.
     pub sealed: u32,
     pub used: usize,
     pub room: usize,

@@ -1,5 +1,6 @@
 // Which row goes, once the plan's segments are known or no row is left out.
 // At most expiring rows are due in the current slot.
+// Kept: table, round and expiring each on their own, as crate went says.
 #![tactic(auto)]
 
 ghost use Rattle.std.specs.Prelude.{◌≡◌, ◌*◌, ◌≤◌};
@@ -26,7 +27,7 @@ fn far_score(far: u64) -> u64
 }
 
 // The heaviest far row goes if it scores more than the segment that leads; else that segment's heaviest row: in an ordinary step from the first, else in a leap.
-// Kept: three slices, since the check does not follow a struct that lends one to be written if it is passed on; a leap's is made here.
+// Kept: three slices, since the check has no proof of a function that takes a struct with a slice to write and passes it on; leaps get theirs here.
 pub fn send_planned(
     table: &mut [u8],
     ends: &[u32],

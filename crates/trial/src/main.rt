@@ -70,7 +70,7 @@ pub fn put_counted(counted: Result<usize, Refusal>, out: &mut [u8; OUT_SIZE]) {
 }
 
 // A length or a place as a number of 4 bytes; one that is out of all bounds shows as FFFFFFFF.
-// Kept: a try_from would let numbers of 65,536 and more through.
+// Kept: a try_from would tell numbers of 65,536 and more as they are, and none is in bounds here.
 pub fn small(n: usize) -> u32 {
     if n < 65536 { n as u32 } else { u32::MAX }
 }

@@ -17,6 +17,7 @@ use sending::send_slot;
 use sorts::Class;
 use taking::take_frame;
 
+// Kept: room in a clause, as in crate replying.
 pub fn take_turn_in_room(command: Command, table: &mut [u8], reply: &mut [u8]) -> usize
     requires { reply_room ≤ length reply.old }
     ensures { Turns (of_command command) table.old table.new reply.old reply.new result }

@@ -32,8 +32,5 @@ loop-i-preserved c =
     runs_more c.requires.0 c.requires.1 c.requires.2 c.loop-i.invariant (search rules) c.left_behind-left.ensures
     c.next_leaving-next.ensures (search rules) (search rules)
 
-pub shape_of-table : goal.shape_of-table
-shape_of-table c = c.loop-i.invariant.long
-
 pub returns : goal.returns
 returns c = search (runs_end, rules)

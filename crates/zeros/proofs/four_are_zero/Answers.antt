@@ -19,8 +19,3 @@ loop-row-preserved c =
     let e : 24 * c.loop-row.row + 24 ≡ 24 * (c.loop-row.row + 1) = omega arith in
     sym (ap (λ (n : ℕ). zero_part s.at n s.table.now) e)
     ∙ rows_more s.table.now s.at (24 * c.loop-row.row) _ _ c.row_is_zero.ensures c.if-not-row_is_zero.false (omega arith) c.loop-row.invariant
-
-pub returns : goal.returns
-returns c =
-    let e : 24 * c.loop-row.row ≡ 96 = omega arith in
-    sym c.loop-row.invariant ∙ ap (λ (n : ℕ). zero_part c.args.at n c.args.table.now) e

@@ -1,12 +1,9 @@
 -- `zeros::zeros_from` meets its contract. The invariant: the bytes from the start are zero where those from here on are, and whole rows follow.
 use mathlib.Core.Bool.{true, false}
-use mathlib.Core.Path.{refl, sym, ◌∙◌}
+use mathlib.Core.Path.{sym, ◌∙◌}
 use borrow.Author.Rules.{rules}
 use Rattle.zeros.proofs.ZeroLaws.{zeros_more, zeros_none}
 use Rattle.zeros.proofs.zeros_from.Goals as goal
-
-pub loop-at-init : goal.loop-at-init
-loop-at-init c = (search rules, search rules, refl)
 
 pub returns-then-not-four_are_zero : goal.returns-then-not-four_are_zero
 returns-then-not-four_are_zero c =
@@ -20,9 +17,6 @@ loop-at-preserved c = (
   zeros_more c.args.table.now c.args.from c.loop-at.at _ _ true c.four_are_zero.ensures c.if-not-four_are_zero.false
       c.loop-at.invariant.2,
 )
-
-pub loop-at-2-init : goal.loop-at-2-init
-loop-at-2-init c = (c.loop-at.invariant.0, c.loop-at.invariant.1, c.loop-at.invariant.2)
 
 pub returns-then-not-row_is_zero : goal.returns-then-not-row_is_zero
 returns-then-not-row_is_zero c =

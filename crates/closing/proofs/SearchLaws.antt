@@ -12,8 +12,6 @@ use Rattle.theory.specs.Tests.{leb?, ltb?, eqb?}
 use Rattle.closing.specs.Close.{NoneDue, NextDue, Search, NextLeaving}
 
 -- NONE looked at, and one more that is not due
-pub none_start : {s f e : ℕ} {t : List ℕ} → f ≤ e → NoneDue s f e t f
-none_start h = record { onward = omega arith; by = h; none = λ j a b. absurd (omega (arith, a, b)) }
 
 module _ {s f e : ℕ} {t : List ℕ} {i : ℕ} (q : NoneDue s f e t i) where
   pub none_more : i < e → (due_in t i ≡ s → ⊥) → NoneDue s f e t (i + 1)
@@ -26,14 +24,6 @@ module _ {s f e : ℕ} {t : List ℕ} {i : ℕ} (q : NoneDue s f e t i) where
           | inr c ↦ let n = c.1 in q.none j a (omega (arith, b)) d
         ];
       }
-
-  pub next_found : due_in t i ≡ s → NextDue s f e t i
-  next_found d = record { before = q; due = λ _. d }
-
-  pub next_none : e ≤ i → NextDue s f e t e
-  next_none h =
-      let p : i ≡ e = omega (arith, q.by, h) in
-      subst (λ (j : ℕ). NextDue s f e t j) p record { before = q; due = λ k. absurd (omega (arith, h, k)) }
 
 -- THE END of a search: no row before it goes, and it is the row that does, or past the last
 record Ends (g f u e : ℕ) : Type 0 where
@@ -67,29 +57,3 @@ ends g f u e h k d = elim (leb? f g) [
         }
 
 module _ {s g f u l : ℕ} {t : List ℕ} {e : ℕ} (q : Search s g f u l t) (d : e ≡ cond (leb f g) g u) where
-  pub search_room : (f ≤ e) × (e ≤ 1024) × (row_at e ≤ length t)
-  search_room =
-      let c = ends g f u e q.by q.gone_by d in
-      (c.from_on, omega (arith, c.by, q.few), omega (arith, c.by, q.long))
-
-  -- none is left that is due now
-  pub leaving_last : l ≡ 0 → NextLeaving s g f u t e
-  leaving_last z =
-      let c = ends g f u e q.by q.gone_by d in
-      record {
-        before = record { onward = c.from_on; by = c.by; none = λ j a b. q.none z j a (omega (arith, b, c.by)) (c.other j a b) };
-        other = c.other;
-        leaves = λ h. inr (c.goes h);
-      }
-
-  pub leaving_found : {n : ℕ} → NextDue s f e t n → NextLeaving s g f u t n
-  leaving_found {n} m =
-      let c = ends g f u e q.by q.gone_by d in
-      record {
-        before = record { onward = m.before.onward; by = omega (arith, m.before.by, c.by); none = m.before.none };
-        other = λ j a b. c.other j a (omega (arith, b, m.before.by));
-        leaves = λ h. elim (ltb? n e) [
-          | inl p ↦ inl (m.due p.1)
-          | inr p ↦ let y : n ≡ e = omega (arith, p.1, m.before.by) in inr (y ∙ c.goes (omega (arith, y, h)))
-        ];
-      }

@@ -65,9 +65,6 @@ pub record LightestSoFar (r : Round) (e i k : ℕ) : Type 0 where
   pub most : (j : ℕ) → j < i → (at r j).due ≤ e → key_at r j ≤ k
   pub some : 1 ≤ k → DueKey r i e k
 
-pub lightest_start : (r : Round) (e : ℕ) → LightestSoFar r e 0 0
-lightest_start r e = record { most = λ j h. absurd (omega (arith, h)); some = λ h. absurd (omega (arith, h)) }
-
 pub due_more : (r : Round) (i e k : ℕ) → DueKey r i e k → DueKey r (i + 1) e k
 due_more r i e k d = record { row = d.row; below = omega (arith, d.below); by = d.by; is = d.is }
 

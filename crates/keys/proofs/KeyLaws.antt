@@ -71,16 +71,9 @@ lacks_none = omega arith
 pub lacks_more : (n l w k : ℕ) → k ≤ blank_key → Lacks n l w → Lacks (n + 1) (l + lack_of k) (w + weight_of k)
 lacks_more n l w k h e = omega arith
 
-pub may_lack : (n l w : ℕ) → n ≤ 1024 → Lacks n l w → MayLack n l
-may_lack n l w h e = (h, omega arith)
-
 -- one more does not overflow
 pub lack_fits : (n l w k : ℕ) → n ≤ 1024 → k ≤ blank_key → Lacks n l w → l + lack_of k < 18446744073709551616
 lack_fits n l w k h b e = omega arith
-
--- what they lack tells what they weigh
-pub lacks_once : (n l v w : ℕ) → Lacks n l v → Lacks n l w → v ≡ w
-lacks_once n l v w d e = omega arith
 
 -- A LESSER KEY IS A HEAVIER ROW, where indices rise as tickets do
 pub heavier_by_key : (a b : Row) (i j : ℕ) → i < 1024 → j < 1024 → a.due ≤ 4095 → b.due ≤ 4095 → a.weight ≤ 16777216 → b.weight ≤ 16777216 →

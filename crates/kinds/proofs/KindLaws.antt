@@ -54,18 +54,9 @@ module _ (t : List ℕ) (u n : ℕ) (s : Seen) (x : Bool) (e : x ≡ ltb s.ticke
       rw (e, f) (and_assoc (ltb s.ticket.0 n) (ltb s.weights most_weight) (ltb s.plain 1024 && kinds_good t u)
       ∙ ap (λ (z : Bool). ltb s.ticket.0 n && z) (sym (and_assoc (ltb s.weights most_weight) (ltb s.plain 1024) (kinds_good t u))))
 
-  pub numbers_off : x ≡ false → false ≡ passing t u n s
-  numbers_off g = ap (λ (z : Bool). z && (ltb s.plain 1024 && kinds_good t u)) (sym g) ∙ passed (ltb s.plain 1024) refl
-
   -- where the numbers pass, the words and the kinds are left
   on : x ≡ true → (y : Bool) → y ≡ ltb s.plain 1024 → y && kinds_good t u ≡ passing t u n s
   on g y f = ap (λ (z : Bool). z && (y && kinds_good t u)) (sym g) ∙ passed y f
-
-  pub words_off : x ≡ true → (y : Bool) → y ≡ ltb s.plain 1024 → y ≡ false → false ≡ passing t u n s
-  words_off g y f h = ap (λ (z : Bool). z && kinds_good t u) (sym h) ∙ on g y f
-
-  pub words_on : x ≡ true → (y : Bool) → y ≡ ltb s.plain 1024 → y ≡ true → (k : Bool) → k ≡ kinds_good t u → k ≡ passing t u n s
-  words_on g y f h k c = c ∙ ap (λ (z : Bool). z && kinds_good t u) (sym h) ∙ on g y f
 
   -- where all rows are frames
   pub frames_on : x ≡ true → ltb s.plain 1024 && eqb (s.plain % 256) 0 ≡ true → FramesSeen t u s → true ≡ passing t u n s

@@ -94,9 +94,6 @@ module _ (ks gs hs : List ℕ) (slot free over p count left light : ℕ) (S : Sw
             sweeping_row i q =
                 omega (arith, q, out_row ks hs gs slot free over p count S.lost S.queue S.going here k e us out past L)
 
-            pub sweeping_fits : (v : ℕ) → v ≡ lack_of out → light + v < 18446744073709551616
-            sweeping_fits v q = rw q (lack_fits S.gone light S.lost out few most S.lacks)
-
             pub sweeping_leaves : (i v rest : ℕ) → length us ≡ length hs → i ≡ row_of out → v ≡ lack_of out → rest ≡ left - 1 →
                 Sweeping ks (set gs i 0) us slot free over (p + 1) count rest (light + v)
             sweeping_leaves i v rest g q r s =

@@ -46,14 +46,3 @@ module _ (t ks fs : List ℕ) (h : Head) (x : Reach) (many : ℕ) (k : Ready t h
         from = a;
         by = b;
       }
-
-  pub lent_asked : LentAsked (take many ks) fs (length (take many ks)) h.slot.0 d
-  lent_asked = record { of = round_in t; n = x.free; given = asked }
-
-  pub mark_says : (v : ℕ) → MarksSay (take many ks) fs (length (take many ks)) h.slot.0 d v → v ≡ mark (round_in t) d
-  mark_says v g = g (round_in t) x.free asked
-
-  pub substitute_says : (i : ℕ) (v : Sub) → i < h.used → get_or fs i 0 ≡ 1 → (at (round_in t) i).due ≡ d →
-      SubstitutesSay (take many ks) fs (length (take many ks)) h.slot.0 d v →
-      Substitutes (round_in t) i v
-  substitute_says i v l o e g = g (round_in t) x.free i asked (omega (arith, l, (known t h k).used)) o e

@@ -61,15 +61,6 @@ module _ (r : Round) (ks fs : List ℕ) (many slot n : ℕ) (g : Given r ks fs m
     pub least : (q : ℕ) → p ≤ q → q < many → (get_or fs (placed r n q) 0 ≡ 1 → ⊥) → k ≤ key_at r (placed r n q)
     pub some : k < blank_key → LeftRow r fs from k
 
-  pub back_start : (from : ℕ) → Backing from blank_key many
-  back_start from =
-      record {
-        high = omega arith;
-        due = λ q h l. absurd (omega (arith, h, l));
-        least = λ q h l. absurd (omega (arith, h, l));
-        some = λ h. absurd (omega (arith, h));
-      }
-
   -- all rows left out have been passed where the places end, or where rows are due too early
   pub back_end : (from k p : ℕ) → ((q : ℕ) → q < p → (at r (placed r n q)).due < from) → Backing from k p → Left r fs from k
   back_end from k p e b =

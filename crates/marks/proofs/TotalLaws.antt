@@ -16,9 +16,6 @@ pub record Summing (r : Round) (i n : ℕ) : Type 0 where
   pub is : n ≡ sum (λ x. x.weight) (take i r.rows)
   pub most : n ≤ 16777216 * i
 
-pub sum_start : (r : Round) → Summing r 0 0
-sum_start r = record { is = omega arith; most = omega arith }
-
 pub sum_step : (r : Round) (i n w : ℕ) → i < length r.rows → WeightAt r i w → Summing r i n → Summing r (i + 1) (n + w)
 sum_step r i n w h a s =
     record {

@@ -91,12 +91,6 @@ rows_step s l n b t u i h =
     let f : row_at (i + 1) ≡ row_at i + row_size = omega arith in
     rw (e, f, ← drop-drop row_size (row_at i) t)
 
-pub lent_long : (t : List ℕ) (h : Head) (a i : ℕ) → RowsLent t h → a ≡ row_at i → i < h.used → length (lent t a) ≡ row_size
-lent_long t h a i k e o = simp (length-take, length-drop) (omega (arith, k.within, e, o))
-
-pub fewer_left : (u i : ℕ) → i < u → u - (i + 1) < u - i
-fewer_left u i o = omega (arith, o)
-
 module _ (t : List ℕ) (h : Head) (k : RowsLent t h) (time : h.slot.0 ≤ h.last.0) (i a span : ℕ) (e : a ≡ row_at i)
     (d : span ≡ h.last.0 - h.slot.0) (o : i < h.used) (b s : Seen) (w : Sees h.slot.0 b (lent t a) s) where
   -- as the table holds it
@@ -153,10 +147,6 @@ module _ (t : List ℕ) (h : Head) (k : RowsLent t h) (time : h.slot.0 ≤ h.las
       let last-bucket : top ≡ top_of (round_in t) = m ∙ rw (n.rows, n.slot, n.last) in
       let ahead : s.ahead ≡ (at (round_in t) i).due - (round_in t).slot = u ∙ rw (due_there, n.slot) in
       record { is = g ∙ ap₂ min ahead last-bucket; by = at_most s.ahead top c (top_of (round_in t)) g last-bucket }
-
--- all rows are asked about once i is at the last
-pub frames_end : (t : List ℕ) (h : Head) (i : ℕ) (s : Seen) → Judging t h i s → h.used ≤ i → FramesSeen t h.used s
-frames_end t h i s j o = let e : i ≡ h.used = omega (arith, j.by, o) in rw (← e) j.frames
 
 pub judging_end : (t : List ℕ) (h : Head) (i : ℕ) (s : Seen) (x : Bool) → Judging t h i s → h.used ≤ i → x ≡ passing t h.used h.next.0 s → x ≡ all_judged t h
 unfolding rows_judged

@@ -56,9 +56,6 @@ module _ {ks fs : List ℕ} {many slot n : ℕ} {es₀ ts₀ ls₀ : List ℕ} (
   it : Pass given.of fs n es ts ls l end heavy light out edge i
   it = w.0 given.of given.given
 
-  pub read_there : i ≤ many
-  read_there = omega (arith, it.now.seen, given.given.all)
-
   pub roomy : Room es ts ls l heavy light out
   roomy =
       let k = room given.of ks fs many slot n given.given es ts ls l end heavy light out edge i it in

@@ -7,8 +7,8 @@ use lib.Dec.{ltb}
 use borrow.Author.Tests.{ltb-false, eqb-false, leb-false}
 use Rattle.rules.specs.Limits.{ticket_limit}
 use Rattle.rules.specs.Rows.{Frame, HeadTail}
-use Rattle.theory.specs.Calls.{or_false, none_holds}
-use Rattle.rules.specs.Calls.{first_of, take_tests, send_tests, mark_tests}
+use Rattle.theory.specs.Calls.{none_holds}
+use Rattle.rules.specs.Calls.{first_of, take_tests, send_tests}
 use Rattle.refusals.specs.declared.Refusal.{Refusal}
 use Rattle.refusals.specs.Refusals.{refusal_number}
 use Rattle.refusals.proofs.Numbers.{refusal_counts}

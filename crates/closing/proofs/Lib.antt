@@ -1,4 +1,3 @@
-pub mod SearchLaws
 pub mod HeadLaws
 pub mod CloseLaws
 pub mod EndLaws

@@ -9,7 +9,7 @@ use Rattle.theory.specs.Full.{Fine}
 use Rattle.theory.specs.Order.{NotOver, heavier?}
 use Rattle.theory.specs.Keys.{getD_in, tickets_rise}
 use Rattle.round.specs.Rows.{DueAt, WeightAt, ClassAt, at}
-use Rattle.keys.specs.Key.{key, rank, slot_of, ranked, weight_of, lack_of, due_of, row_of, blank_key, key_at, MayLack, Lacks}
+use Rattle.keys.specs.Key.{key, rank, slot_of, ranked, weight_of, lack_of, due_of, row_of, blank_key, key_at, Lacks}
 
 -- RANKS are compared by due slot, then by class; and a key is made of one
 pub rank_less : (d c e f : ℕ) → f ≤ 3 → rank d c < rank e f → (d < e) ⊎ ((d ≡ e) × (c < f))

@@ -5,7 +5,7 @@ use Prim.Native.Nat.{ℕ, ◌+◌, ◌-◌, ◌≤◌, ◌<◌}
 use native.Mathlib.Omega.{arith}
 use lib.ListN.{length, set}
 use Rattle.keys.specs.Key.{weight_of, lack_of, due_of, row_of, blank_key, Lacks}
-use Rattle.keys.proofs.KeyLaws.{lacks_none, lacks_more, lack_fits}
+use Rattle.keys.proofs.KeyLaws.{lacks_none, lacks_more}
 use Rattle.heap.specs.Heap.{Heap, Grown}
 use Rattle.leaving.specs.Sweep.{Queue, Leaves, FirstCrowded, Filled, EmptyHeap, Crowd}
 use Rattle.leaving.specs.Sweep.{key_on, ahead_on}

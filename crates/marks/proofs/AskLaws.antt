@@ -3,27 +3,22 @@ use mathlib.Core.Path.{◌≡◌}
 use mathlib.Core.List.{List}
 use Prim.Native.Nat.{ℕ, ◌+◌, ◌≤◌, ◌<◌}
 use native.Mathlib.Omega.{arith}
-use lib.ListN.{length, get_or, take}
+use lib.ListN.{length, take}
 use Rattle.rules.specs.Rows.{Round}
 use Rattle.rules.specs.Table.{round_in}
-use Rattle.rules.specs.Plan.{mark}
 use Rattle.theory.specs.Sum.{sum, total_sum}
 use Rattle.theory.specs.Full.{Fine}
 use Rattle.theory.specs.Members.{found_total}
 use Rattle.theory.specs.Flags.{with_flag, Chosen, chosen_rows}
 use Rattle.sorts.specs.declared.Round.{Round as Head}
-use Rattle.round.specs.Rows.{Ready, at}
-use Rattle.round.proofs.ReadLaws.{known}
+use Rattle.round.specs.Rows.{Ready}
 use Rattle.keys.specs.Sorted.{Sorted, many_due}
 use Rattle.keys.proofs.SliceLaws.{front_many, front_sorted}
 use Rattle.buckets.specs.Reach.{Reaches}
 use Rattle.buckets.specs.declared.Reach.{Reach}
 use Rattle.buckets.proofs.SegmentLaws.{whole_rows}
-use Rattle.sub.specs.Substitute.{Substitutes}
-use Rattle.sub.specs.declared.Sub.{Sub}
 use Rattle.marks.specs.Total.{Lost}
-use Rattle.marks.specs.Given.{Asked, LentAsked}
-use Rattle.marks.specs.Near.{MarksSay, SubstitutesSay}
+use Rattle.marks.specs.Given.{Asked}
 use Rattle.marks.proofs.KeptLaws.{given}
 
 -- THE WEIGHT LEFT OUT

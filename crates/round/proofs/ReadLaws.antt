@@ -8,7 +8,7 @@ use Rattle.rules.specs.Limits.{head_size}
 use Rattle.rules.specs.Rows.{Row, row, round, blank}
 use Rattle.rules.specs.Table.{rows_in, round_in}
 use Rattle.rules.specs.Conditions.{row_at, used_in, ticket_in, due_in, weight_in, kind_in, class_in}
-use mathlib.Core.Logic.{inl, inr, ◌≢◌}
+use mathlib.Core.Logic.{inl, inr}
 use lib.Dec.{eqb}
 use Rattle.theory.specs.Tests.{eqb?}
 use Rattle.theory.specs.All.{all_in}

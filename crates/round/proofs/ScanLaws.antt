@@ -7,7 +7,7 @@ use native.Mathlib.Omega.{arith}
 use native.Mathlib.Numerals.{unary_clauses}
 use lib.Dec.{ltb, leb, eqb}
 use borrow.Author.Tests.{lt-ltb, lt-leb, leb-true}
-use lib.ListN.{length, get_or, set, take, drop, length-take, length-drop}
+use lib.ListN.{length, get_or, set, take, drop}
 use lib.Seq.{drop-drop}
 use Rattle.rules.specs.Limits.{row_size, most_weight, most_class, ticket_at, due_at, wide_bytes, slot_bytes}
 use Rattle.rules.specs.Rows.{Row, Round, row}

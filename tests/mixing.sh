@@ -41,16 +41,15 @@ leaving::leave_out(keys, table, tops, <Slot>, buckets::Reach { free: 0, over: 0 
 lead::score_of(<Weight>, <Weight>)
 lead::close_segment(ends, tops, lows, lead::Lead { count: 0, score: 0, key: 0, segment: 0, other: 0 }, <Slot>, 0, 0, 0)
 lead::ends_here(<Slot>, 0, <Slot>)
-segments::segments_of(keys, bytes, 0, <Slot>, 0, ends, tops, lows)
+segments::segments_of(keys, bytes, <Slot>, 0, ends, tops, lows)
 whole::Whole::Kept { row: 0, first: <Slot>, mark: <Weight> }
 chain::segment_by(ends, 0, <Slot>)
-went::Went { leap: false, ticket: <Ticket>, kind: 0 }
 went::send_kept(table, round, 0, <Slot>, <Weight>, 0)
 sub::Sub::Blank(<Slot>)
 far::is_far(round, buckets::Reach { free: 0, over: 0 }, <Slot>)
-every::mark_every(bytes, counts, round, buckets::Reach { free: 0, over: 0 }, <Slot>)
-marks::mark::mark_near(keys, bytes, 0, <Slot>, <Slot>)
-marks::substitute::substitute_near(keys, bytes, 0, <Slot>, <Slot>)
+every::mark_every(&(round::read::Sound { table: bytes, round }), counts, buckets::Reach { free: 0, over: 0 }, <Slot>)
+marks::mark::mark_near(keys, bytes, <Slot>, <Slot>)
+marks::substitute::substitute_near(keys, bytes, <Slot>, <Slot>)
 opening::open_round(<Slot>, table)
 taking::take_frame(<Slot>, <Weight>, <Class>, table)
 marking::mark_of(<Slot>, bytes)
@@ -61,6 +60,7 @@ forms::Command::Take(<Slot>, <Weight>)
 forms::Command::Classed(<Slot>, <Weight>, <Class>)
 replying::write_ticket_in_room(<Ticket>, table)
 replying::write_step_in_room(0, 0, <Ticket>, table)
+saying::Accepted::Taken(<Ticket>)
 EOF
 }
 
@@ -95,7 +95,7 @@ write_crates() {
             print text >(crates "/" crate "/src/lib.rt")
         }
         function function_of(crate, call) {
-            write_in(crate, "pub fn call" lines[crate] "(table: &mut [u8], bytes: &[u8], round: Round, keys: &[u64], counts: &[u32], ends: &mut [u32], tops: &mut [u64], lows: &mut [u32]) { " call "; }")
+            write_in(crate, "pub fn call" lines[crate] "(table: &mut [u8], bytes: &[u8], round: Round, keys: &[u64], counts: &[u32], ends: &mut [u32], tops: &mut [u64], lows: &mut [u32]) { let _ = " call "; }")
         }
         function value(sort, as_limit) { return as_limit ? limit[sort] : sort "(1)" }
         function filled(place, given, as_limit,    i, text) {

@@ -201,7 +201,6 @@ pub filling_none : (ks hs : List ℕ) (first : ℕ) → Fills ks hs first → Fi
 filling_none ks hs first F = record { fills = F; by = omega arith; long = refl; filled = filled_none ks hs first F.empty }
 
 module _ (ks hs us : List ℕ) (first n : ℕ) (F : Filling ks hs us first n) (h : n < first) where
-
   pub filling_more : (k : ℕ) (vs : List ℕ) → k ≡ key_on ks n → Grown n k us vs → Filling ks hs vs first (n + 1)
   filling_more k vs e R =
       record {

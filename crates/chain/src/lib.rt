@@ -18,6 +18,15 @@ pub struct Segments<'a> {
     pub lows: &'a mut [u32],
 }
 
+// The same once the lows are marks, which are only read: each segment's end, the key of its heaviest row, and its mark.
+// Kept: three slices side by side, as those of Segments.
+#[derive(Clone, Copy)]
+pub struct MarkedSegments<'a> {
+    pub ends: &'a [u32],
+    pub tops: &'a [u64],
+    pub marks: &'a [u32],
+}
+
 // The segment in which a slot lies, own or a later one.
 pub fn segment_by(ends: &[u32], own: usize, slot: Slot) -> usize
     requires { (own < length ends.now) × (slot.0 ≤ get_or ends.now 0 0) }
@@ -53,23 +62,23 @@ fn shift_link(table: &mut [u8], key: u64, end: u32, mark: u32)
 }
 
 // From a segment to the one before it: if its heaviest row is heavier than the link that waits, it is the next link, and the other moves to its end.
-fn pass_segment(table: &mut [u8], segments: &Segments, waiting: u64, k: usize) -> u64
+fn pass_segment(table: &mut [u8], segments: &MarkedSegments, waiting: u64, k: usize) -> u64
     requires { Named waiting table.old × (k < length segments.now.ends.now) × (k < length segments.now.tops.now)
-        × (k < length segments.now.lows.now) }
+        × (k < length segments.now.marks.now) }
     ensures { (result ≡ min waiting (get_or segments.now.tops.now k 0))
-        × (table.new ≡ passed segments.now.ends.now segments.now.tops.now segments.now.lows.now waiting k table.old) }
+        × (table.new ≡ passed segments.now.ends.now segments.now.tops.now segments.now.marks.now waiting k table.old) }
 {
     let top = segments.tops[k];
     if waiting <= top {
         return waiting;
     }
-    shift_link(table, waiting, segments.ends[k], segments.lows[k]);
+    shift_link(table, waiting, segments.ends[k], segments.marks[k]);
     top
 }
 
 // Every link between the ends of two segments moves to the end before it.
-pub fn shift_chain(table: &mut [u8], segments: &Segments, to: usize, own: usize)
-    requires { Chained table.old segments.now.ends.now segments.now.tops.now segments.now.lows.now to own }
+pub fn shift_chain(table: &mut [u8], segments: &MarkedSegments, to: usize, own: usize)
+    requires { Chained table.old segments.now.ends.now segments.now.tops.now segments.now.marks.now to own }
     ensures { Shifts (round_in table.old) (get_or segments.now.ends.now own 0) (get_or segments.now.ends.now to 0) table.new }
 {
     if to == own {
@@ -79,5 +88,5 @@ pub fn shift_chain(table: &mut [u8], segments: &Segments, to: usize, own: usize)
     for k in to + 1..own {
         waiting = pass_segment(table, segments, waiting, k);
     }
-    shift_link(table, waiting, segments.ends[own], segments.lows[own]);
+    shift_link(table, waiting, segments.ends[own], segments.marks[own]);
 }

@@ -7,7 +7,7 @@ ghost use Rattle.closing.specs.Close.{DueNow};
 ghost use Rattle.went.specs.Send.{SentSays};
 ghost use Rattle.leap.specs.Leap.{LeapsBlank, LeapsRow};
 
-use chain::{Segments, lower_marks, segment_by, shift_chain};
+use chain::{MarkedSegments, Segments, lower_marks, segment_by, shift_chain};
 use closing::close_up;
 use keys::{due_of, row_of};
 use lead::Lead;
@@ -54,10 +54,16 @@ pub fn send_swapped(
     };
     let out = out_of(&sound, sent);
     let own = lead.segment;
-    let to = segment_by(segments.ends, own, Slot(due_of(lead.other)));
-    lower_marks(segments.lows, lead.count, to);
-    shift_chain(table, &segments, to, own);
-    let mark = segments.lows[to];
+    let Segments { ends, tops, lows } = segments;
+    let to = segment_by(ends, own, Slot(due_of(lead.other)));
+    lower_marks(lows, lead.count, to);
+    let marked = MarkedSegments {
+        ends,
+        tops,
+        marks: lows,
+    };
+    shift_chain(table, &marked, to, own);
+    let mark = lows[to];
     write_weight(table, row_of(lead.other), Weight(mark));
     close_up(table, round, expiring, sent);
     Step::Leap(out)

@@ -1,5 +1,5 @@
 -- What goes out, what it leaves in the table, and what is said of it.
-use Rattle.std.specs.Prelude.{◌≡◌, Bool, false, not, List, ℕ, ◌≤◌, ◌<◌}
+use Rattle.std.specs.Prelude.{◌≡◌, Bool, true, false, not, List, ℕ, ◌≤◌, ◌<◌}
 use Rattle.rules.specs.Limits.{most_weight}
 use Rattle.rules.specs.Rows.{Row}
 use Rattle.rules.specs.Steps.{kept_at, changed}
@@ -11,6 +11,7 @@ use Rattle.round.specs.Rows.{Ready, at}
 use Rattle.closing.specs.Close.{gone_ticket, closed_up}
 use Rattle.replies.specs.declared.Out.{Out}
 use Rattle.replies.specs.declared.Step.{Step}
+use Rattle.replies.specs.declared.Step.TheVariants.{Ordinary, Leap}
 use Rattle.replies.specs.Replies.{of_out, of_step}
 
 -- what goes out of a row
@@ -26,6 +27,11 @@ pub record Silent (t u : List ℕ) (s : Step) : Type 0 where
 pub record Gone (t u : List ℕ) (j : ℕ) (o : Out) : Type 0 where
   pub leaves : u ≡ closed_up (gone_ticket t j) t
   pub out : OutOf (at (round_in t) j) o
+
+-- the step in which it goes: a leap where the row leaps, else an ordinary one
+abbrev pub leap_or_ordinary : (leaps : Bool) → Out → Step
+leap_or_ordinary true o = Leap o
+leap_or_ordinary false o = Ordinary o
 
 -- SENT: u is what sending leaves of the table t, and s what it answers
 pub record SentSays (t u : List ℕ) (s : Step) : Type 0 where

@@ -3,11 +3,11 @@
 // Kept: table, round and expiring each on their own, since the table is written while the head and the count speak of it as it was.
 #![tactic(auto)]
 
-ghost use Rattle.std.specs.Prelude.{◌<◌};
+ghost use Rattle.std.specs.Prelude.{◌<◌, Bool};
 ghost use Rattle.rules.specs.Table.{round_in};
 ghost use Rattle.round.specs.Rows.{Ready, at};
 ghost use Rattle.closing.specs.Close.{DueNow};
-ghost use Rattle.went.specs.Send.{OutOf, Silent, SentSays, Gone, KeepsBlank};
+ghost use Rattle.went.specs.Send.{OutOf, Silent, SentSays, Gone, LeavesAlone, KeepsBlank, leap_or_ordinary};
 
 use closing::close_up;
 use replies::{Out, Step};
@@ -36,10 +36,11 @@ pub fn send_silence(table: &mut [u8], round: Round, expiring: usize) -> Step
     Step::Ordinary(Out::Silence)
 }
 
-// Only the row that goes leaves: in an ordinary step, or a leap from afar.
+// Only the row that goes leaves: in an ordinary step, or a leap from afar. Its caller makes the step.
 pub fn send_row(table: &mut [u8], round: Round, row: usize, expiring: usize) -> Out
     requires { Ready table.old round × (row < round.used) × DueNow table.old expiring }
-    ensures { Gone table.old table.new row result }
+    ensures gone { Gone table.old table.new row result }
+    ensures sent { (leaps : Bool) → LeavesAlone table.old round leaps row → SentSays table.old table.new (leap_or_ordinary leaps result) }
 {
     let sound = Sound {
         table: &*table,

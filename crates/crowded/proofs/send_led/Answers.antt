@@ -1,7 +1,8 @@
 -- `crowded::send_led` meets its contract.
 use Rattle.crowded.proofs.CrowdedLaws.{first_lent, first_alone, planned_step}
-use Rattle.went.proofs.SendLaws.{alone_asks, alone_goes}
+use Rattle.went.proofs.SendLaws.{alone_asks}
 use native.Mathlib.Omega.{arith}
+use mathlib.Core.Bool.{false}
 use Rattle.crowded.proofs.send_led.Goals as goal
 
 pub first_planned-row-requires : goal.first_planned-row-requires
@@ -13,7 +14,7 @@ send_row-requires c =
 
 pub returns-then-round-eq1 : goal.returns-then-round-eq1
 returns-then-round-eq1 c =
-    alone_goes (first_alone c.requires (omega arith) c.first_planned-row.ensures) c.send_row.ensures
+    c.send_row.ensures.sent false (first_alone c.requires (omega arith) c.first_planned-row.ensures)
 
 pub send_planned-requires : goal.send_planned-requires
 send_planned-requires c =

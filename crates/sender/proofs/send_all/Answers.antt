@@ -1,6 +1,7 @@
 -- `sender::send_all` meets its contract.
 use native.Mathlib.Omega.{arith}
-use Rattle.went.proofs.SendLaws.{alone_asks, alone_goes}
+use mathlib.Core.Bool.{false}
+use Rattle.went.proofs.SendLaws.{alone_asks}
 use Rattle.sender.proofs.SenderLaws.{whole_step, all_alone, all_idle}
 use Rattle.sender.proofs.send_all.Goals as goal
 
@@ -18,4 +19,4 @@ send_row-requires c =
 
 pub returns : goal.returns
 returns c =
-    alone_goes (all_alone c.requires.0 (omega arith) (λ e. omega (arith, e)) c.first_of_all-row.ensures) c.send_row.ensures
+    c.send_row.ensures.sent false (all_alone c.requires.0 (omega arith) (λ e. omega (arith, e)) c.first_of_all-row.ensures)

@@ -61,3 +61,7 @@ put_line {line} {o} {part} {w} {r} h p e =
       said = ap (take (w + r)) whole ∙ take_at front rest (w + r) f;
       kept = ap (drop (w + r)) whole ∙ drop_at front rest (w + r) f;
     }
+
+pub reply_within : {line before after : List ℕ} {r : ℕ} → Replies line before after r → length after ≡ length before → r ≤ length after
+reply_within {line} {before} p e =
+    omega (arith, p.long, ap length p.left, length-append line (drop (length line) before), length-drop (length line) before)

@@ -1,8 +1,8 @@
 -- The level, bucket by bucket: its greatest so far tells the sweep over the buckets so far.
-use mathlib.Core.Path.{◌≡◌, refl, ap}
+use mathlib.Core.Path.{◌≡◌, refl, ap, ◌∙◌}
 use mathlib.Core.Logic.{inl, inr}
 use mathlib.Core.List.{List}
-use Prim.Native.Nat.{ℕ, zero, suc, ◌+◌, ◌*◌, ◌-◌, ◌/◌, ◌%◌, ◌≤◌, ◌<◌}
+use Prim.Native.Nat.{ℕ, zero, suc, ◌+◌, ◌*◌, ◌-◌, ◌/◌, ◌%◌, ◌≤◌, ◌<◌, max}
 use native.Mathlib.Omega.{arith}
 use lib.ListN.{get_or}
 use Rattle.theory.specs.Tests.{leb?, eqb?}
@@ -115,7 +115,21 @@ module _ (cs : List ℕ) (top s l m : ℕ) (w : Levels cs top s l m) where
       let d : s ≡ suc x = omega (arith, e, h, w.by) in
       record { sweep = rw (a, b) (rw d at w.sweep) }
 
--- FOUR BUCKETS, one after the other
+-- FOUR BUCKETS at once
+pass_two : (m a b : ℕ) → passed (passed m a) (a + b) ≡ max (m + 4094) (a + max b 2047)
+pass_two m a b = omega arith
+
+pub pass_four : (m a b c d : ℕ) →
+    passed (passed (passed (passed m a) (a + b)) c) (c + d) ≡ max (m + 8188) (max (a + max b 2047 + 4094) (c + max d 2047))
+pass_four m a b c d =
+    pass_two (passed (passed m a) (a + b)) c d
+    ∙ ap (λ (x : ℕ). max (x + 4094) (c + max d 2047)) (pass_two m a b)
+    ∙ raised (a + max b 2047) (c + max d 2047)
+  where
+    raised : (x y : ℕ) → max (max (m + 4094) x + 4094) y ≡ max (m + 8188) (max (x + 4094) y)
+    raised x y = omega arith
+
+-- one after the other
 module _ (cs : List ℕ) (top s l m : ℕ) (w : Levels cs top s l m) (h : s + 2 < top) where
   three : {a b c : ℕ} → a ≡ l + get_or cs s 0 → b ≡ get_or cs (s + 1) 0 → c ≡ a + b + get_or cs (s + 2) 0 →
       Levels cs top (s + 3) c (passed (passed (passed m a) (a + b)) c)

@@ -17,6 +17,9 @@ full_fits cs free b f h =
 
 -- SUMMING UP the buckets before b
 module _ (cs : List ℕ) (b s : ℕ) (f : Fits cs b) where
+  pub sum_next : s < b → upto s cs + get_or cs s 0 ≤ 2048 * b
+  sum_next h = omega (arith, f.fits (suc s) h, h)
+
   pub first_long : length (take b cs) ≡ b
   first_long = length-take-le b cs (omega (arith, f.enough))
 

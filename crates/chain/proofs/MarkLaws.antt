@@ -27,6 +27,13 @@ start_first t n es k e = rw (eq-eqb (suc k) n e)
 pub start_later : (t n : ℕ) (es : List ℕ) (k : ℕ) → suc k < n → start_of t n es k ≡ suc (get_or es (suc k) 0)
 start_later t n es k h = rw (ne_eqb (suc k) n (λ e. omega (arith, e, h)))
 
+-- each segment ends before the one behind it, so numbers are small
+pub number_fits : (r : Round) (n : ℕ) (es ts ls : List ℕ) → Pieces r n es ts ls → (k : ℕ) → k < n → get_or es k 0 + k ≤ get_or es 0 0
+number_fits r n es ts ls p zero h = omega arith
+number_fits r n es ts ls p (suc k) h =
+    let q = (p.piece k (omega arith)).spans in
+    omega (arith, number_fits r n es ts ls p k (omega arith), q.by, start_later r.slot n es k h)
+
 -- THE LEAST SO FAR ARE THE MARKS
 module _ (r : Round) (f : Fine r) (n to : ℕ) (es ts ls us : List ℕ) (p : Pieces r n es ts ls) (l : Lowered n to ls us) where
   mark_from : (j k : ℕ) → to ≤ k → k < n → n ≡ suc (k + j) → get_or us k 0 ≡ mark r (get_or es k 0)

@@ -7,11 +7,16 @@ use lib.Dec.{ltb}
 use borrow.Author.Tests.{ltb-false, eqb-false, leb-false}
 use Rattle.rules.specs.Limits.{ticket_limit}
 use Rattle.rules.specs.Rows.{Frame, HeadTail}
-use Rattle.theory.specs.Calls.{none_holds}
-use Rattle.rules.specs.Calls.{first_of, take_tests, send_tests}
+use Rattle.theory.specs.Calls.{or_false, none_holds}
+use Rattle.rules.specs.Calls.{first_of, take_tests, send_tests, mark_tests}
 use Rattle.refusals.specs.declared.Refusal.{Refusal}
 use Rattle.refusals.specs.Refusals.{refusal_number}
 use Rattle.refusals.proofs.Numbers.{refusal_counts}
+
+pub mark_accepted : (t l s : ℕ) → first_of (mark_tests t l s) ≡ 0 → (t ≤ l) × (t ≤ s) × (s ≤ l)
+mark_accepted t l s e =
+    let h = none_holds (mark_tests t l s) refl e in
+    let b = or_false (ltb s t) (ltb l s) h.1.0 in (ltb-false l t h.0, ltb-false s t b.0, ltb-false l s b.1)
 
 pub send_accepted : (t l : ℕ) → first_of (send_tests t l) ≡ 0 → t ≤ l
 send_accepted t l e = ltb-false l t (none_holds (send_tests t l) refl e).0

@@ -17,11 +17,11 @@ use Rattle.std.specs.List.{list_all}
 use Rattle.digits.specs.Spelling.{value_of, spelt}
 
 -- A DIGIT'S VALUE
-none : (b : ℕ) → value_of b ≡ None → is_digit b ≡ false
+pub none : (b : ℕ) → value_of b ≡ None → is_digit b ≡ false
 unfolding value_of
 none b e = elim (either (is_digit b)) [ inl d ↦ let f : Some (digit_value b) ≡ None = rw d at e in cc | inr d ↦ d ]
 
-some : {v : ℕ} (b : ℕ) → value_of b ≡ Some v → (is_digit b ≡ true) × (v ≡ digit_value b)
+pub some : {v : ℕ} (b : ℕ) → value_of b ≡ Some v → (is_digit b ≡ true) × (v ≡ digit_value b)
 unfolding value_of
 some {v} b e =
     elim (either (is_digit b)) [

@@ -5,9 +5,17 @@ use mathlib.Core.List.{List}
 use Prim.Native.Nat.{ℕ, zero, suc, ◌+◌, ◌-◌, ◌≤◌, ◌<◌}
 use native.Mathlib.Omega.{arith}
 use lib.ListN.{get_or}
-use Rattle.theory.specs.Tests.{eqb?}
+use Rattle.theory.specs.Tests.{leb?, eqb?}
 use Rattle.buckets.specs.Stretch.{upto}
 use Rattle.far.specs.Far.{Roomy, Flat}
+
+-- no fewer rows up to a later bucket
+pub upto_mono : (cs : List ℕ) (a b : ℕ) → a ≤ b → upto a cs ≤ upto b cs
+upto_mono cs a zero h = let e : a ≡ 0 = omega arith in omega (arith, ap (λ (v : ℕ). upto v cs) e)
+upto_mono cs a (suc b) h = elim (leb? a b) [
+  | inl y ↦ omega (arith, upto_mono cs a b y.1)
+  | inr y ↦ let e : a ≡ suc b = omega (arith, h, y.1) in omega (arith, ap (λ (v : ℕ). upto v cs) e)
+]
 
 -- WAITING: w rows want bucket s, since rows from s to some bucket behind mid do not find one each, and none wants it more
 pub record Waiting (cs : List ℕ) (mid top s w : ℕ) : Type 0 where
@@ -100,3 +108,7 @@ seek_back cs mid top (suc s) w x r h k e =
         | inr y ↦ let z = y.1 in k.none u (omega (arith, a, z)) b f
       ];
     })
+
+-- where there is room, no bucket has many rows
+pub count_few : (cs : List ℕ) (mid top s : ℕ) → Roomy cs mid top → s ≤ top → get_or cs s 0 ≤ 1024
+count_few cs mid top s r h = omega (arith, r.few, upto_mono cs (suc s) (suc top) (omega (arith, h)))

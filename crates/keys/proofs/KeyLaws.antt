@@ -1,5 +1,5 @@
 -- What ranks and keys tell, and that keys are the order heavier: rank_less, ranked_key, key_weight, key_due, key_row, key_some, lacks_more, heavier_key, keys_apart.
-use Rattle.std.specs.Prelude.{◌≡◌, ◌⊎◌, true, false, ℕ, ◌+◌, ◌*◌, ◌-◌, ◌≤◌, ◌<◌, ltb, length}
+use Rattle.std.specs.Prelude.{◌≡◌, ◌⊎◌, true, false, ℕ, zero, suc, ◌+◌, ◌*◌, ◌-◌, ◌≤◌, ◌<◌, ltb, length}
 use Rattle.std.proofs.Common.{sym, ap, ◌∙◌, inl, inr, arith, lt-ltb, le-ltb, ltb-true, ltb-false}
 use Rattle.rules.specs.Rows.{Row, Round, blank, heavier, Heavier}
 use Rattle.theory.specs.Tests.{ltb?}
@@ -9,7 +9,7 @@ use Rattle.theory.specs.Full.{Fine}
 use Rattle.theory.specs.Order.{NotOver, heavier?}
 use Rattle.theory.specs.Keys.{getD_in, tickets_rise}
 use Rattle.round.specs.Rows.{DueAt, WeightAt, ClassAt, at}
-use Rattle.keys.specs.Key.{key, rank, slot_of, ranked, weight_of, lack_of, due_of, row_of, blank_key, key_at, Lacks}
+use Rattle.keys.specs.Key.{key, rank, slot_of, ranked, weight_of, lack_of, due_of, row_of, blank_key, key_at, MayLack, Lacks}
 
 -- RANKS are compared by due slot, then by class; and a key is made of one
 pub rank_less : (d c e f : ℕ) → f ≤ 3 → rank d c < rank e f → (d < e) ⊎ ((d ≡ e) × (c < f))
@@ -64,6 +64,11 @@ key_read r i d w c k a b s e =
     ∙ ap (λ (x : ℕ). key (at r i).weight (at r i).due x i) s.is
 
 -- a flag is 1 or 0
+pub flag_fits : (k f : ℕ) → k ≤ blank_key → f ≤ 1 → k * f < 18446744073709551616
+flag_fits k zero h l = omega arith
+flag_fits k (suc zero) h l = omega arith
+flag_fits k (suc (suc f)) h l = absurd (omega arith)
+
 -- MANY ROWS, one by one
 pub lacks_none : Lacks 0 0 0
 lacks_none = omega arith
@@ -71,9 +76,16 @@ lacks_none = omega arith
 pub lacks_more : (n l w k : ℕ) → k ≤ blank_key → Lacks n l w → Lacks (n + 1) (l + lack_of k) (w + weight_of k)
 lacks_more n l w k h e = omega arith
 
+pub may_lack : (n l w : ℕ) → n ≤ 1024 → Lacks n l w → MayLack n l
+may_lack n l w h e = (h, omega arith)
+
 -- one more does not overflow
 pub lack_fits : (n l w k : ℕ) → n ≤ 1024 → k ≤ blank_key → Lacks n l w → l + lack_of k < 18446744073709551616
 lack_fits n l w k h b e = omega arith
+
+-- what they lack tells what they weigh
+pub lacks_once : (n l v w : ℕ) → Lacks n l v → Lacks n l w → v ≡ w
+lacks_once n l v w d e = omega arith
 
 -- A LESSER KEY IS A HEAVIER ROW, where indices rise as tickets do
 pub heavier_by_key : (a b : Row) (i j : ℕ) → i < 1024 → j < 1024 → a.due ≤ 4095 → b.due ≤ 4095 → a.weight ≤ 16777216 → b.weight ≤ 16777216 →

@@ -210,6 +210,17 @@ module _ (ks hs us : List ℕ) (first n : ℕ) (F : Filling ks hs us first n) (h
         filled = filled_more ks us vs n k F.filled e R;
       }
 
+-- A CROWD has a place that crowds
+pub crowd_met : (ks gs : List ℕ) (slot free over : ℕ) → Crowd ks gs slot free over → Crowds ks slot
+crowd_met ks gs slot free over C =
+    record {
+      at = free;
+      within = omega (arith, C.queue.long, C.some);
+      small = omega (arith, C.queue.small);
+      from = λ p a. C.queue.from p (omega (arith, a, C.some));
+      over = C.queue.early free (omega (arith, C.some));
+    }
+
 -- LOOKING FOR THE FIRST CROWDED PLACE: none before place p crowds
 pub record Looking (ks : List ℕ) (slot p : ℕ) : Type 0 where
   pub crowd : Crowds ks slot

@@ -38,10 +38,10 @@ collected_none ns line =
     record { within = omega arith; place = refl; room = length-replicate {A = ℕ} most_numbers 0; clean = refl; values = zeros most_numbers }
 
 -- a part of w bytes from a place on
-part_long : (from w : ℕ) → from + w - from ≡ w
+pub part_long : (from w : ℕ) → from + w - from ≡ w
 part_long from w = omega arith
 
-part_short : (n m : ℕ) (l : List ℕ) → n ≤ m → length (take n l) ≤ m
+pub part_short : (n m : ℕ) (l : List ℕ) → n ≤ m → length (take n l) ≤ m
 part_short zero m l h = omega arith
 part_short (suc n) m [] h = omega arith
 part_short (suc n) m (x ∷ l) h = omega (arith, part_short n (m - 1) l (omega arith))

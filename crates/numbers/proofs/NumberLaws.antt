@@ -4,7 +4,7 @@ use mathlib.Core.List.{List, [], ◌∷◌, ◌++◌}
 use Prim.Native.Nat.{ℕ, zero, suc, ◌+◌, ◌*◌, ◌-◌, ◌/◌, ◌%◌, ◌≤◌, ◌<◌}
 use native.Mathlib.Omega.{arith}
 use native.Mathlib.Numerals.{add-one}
-use lib.ListN.{length, get_or, take, drop, length-drop}
+use lib.ListN.{length, get_or, set, take, drop, length-drop}
 use lib.Seq.{drop-cons, sets, take_all, get_or-drop}
 use Rattle.std.proofs.lemmas.List.{length-take-le}
 use Rattle.std.proofs.lemmas.List.Edits.{sets-eq}
@@ -24,6 +24,40 @@ field_zero bs a = refl
 
 pub field1 : (bs : List ℕ) (a : ℕ) → a + 1 ≤ length bs → field a 1 bs ≡ get_or bs a 0
 field1 bs a h = omega (arith, field_suc bs a 0 (omega arith), field_zero bs (a + 1))
+
+pub field2 : (bs : List ℕ) (a : ℕ) → a + 2 ≤ length bs → field a 2 bs ≡ get_or bs a 0 + 256 * get_or bs (a + 1) 0
+field2 bs a h =
+    omega (arith, field_suc bs a 1 (omega arith), field_suc bs (a + 1) 0 (omega arith), field_zero bs (a + 1 + 1))
+
+-- four bytes, and whatever field follows them
+pub field_four : (bs : List ℕ) (a n : ℕ) → a + 4 ≤ length bs →
+    field a (4 + n) bs ≡ get_or bs a 0 + 256 * (get_or bs (a + 1) 0 + 256 * (get_or bs (a + 2) 0 + 256 * (get_or bs (a + 3) 0 + 256 * field (a + 4) n bs)))
+field_four bs a n h =
+    let e : 4 + n ≡ suc (suc (suc (suc n))) = omega arith in
+    let p : a + 1 + 1 ≡ a + 2 = omega arith in
+    let q : a + 2 + 1 ≡ a + 3 = omega arith in
+    let r : a + 3 + 1 ≡ a + 4 = omega arith in
+    let h₀ : a < length bs = omega arith in
+    let h₁ : a + 1 < length bs = omega arith in
+    let h₂ : a + 2 < length bs = omega arith in
+    let h₃ : a + 3 < length bs = omega arith in
+    rw (
+      e,
+      field_suc bs a (suc (suc (suc n))),
+      field_suc bs (a + 1) (suc (suc n)),
+      p,
+      field_suc bs (a + 2) (suc n),
+      q,
+      field_suc bs (a + 3) n,
+      r,
+    )
+
+pub field4 : (bs : List ℕ) (a : ℕ) → a + 4 ≤ length bs →
+    field a 4 bs ≡ get_or bs a 0 + 256 * (get_or bs (a + 1) 0 + 256 * (get_or bs (a + 2) 0 + 256 * get_or bs (a + 3) 0))
+field4 bs a h = omega (arith, field_four bs a 0 h, field_zero bs (a + 4))
+
+pub field8 : (bs : List ℕ) (a : ℕ) → a + 8 ≤ length bs → field a 8 bs ≡ field a 4 bs + 4294967296 * field (a + 4) 4 bs
+field8 bs a h = omega (arith, field_four bs a 4 (omega arith), field4 bs a (omega arith))
 
 -- the first bytes of a word, the others 0, are a number
 word : (xs : List ℕ) → length xs ≤ 4 → from_le_bytes w32 (xs ++ drop (length xs) (0 ∷ 0 ∷ 0 ∷ 0 ∷ [])) ≡ value xs
@@ -63,12 +97,12 @@ word_read bs xs a n m k s h e d f =
     let l : length xs ≡ n = ap length p ∙ length-take-le n (drop a bs) (omega (arith, h, length-drop a bs)) in
     f ∙ ap (λ (j : ℕ). from_le_bytes w32 (xs ++ drop j (0 ∷ 0 ∷ 0 ∷ 0 ∷ []))) (sym l) ∙ word xs (omega (arith, l, s)) ∙ ap value p
 
--- eight bytes
-pub field8 : (bs : List ℕ) (a : ℕ) → a + 8 ≤ length bs →
+-- eight bytes, one by one
+pub eight_bytes : (bs : List ℕ) (a : ℕ) → a + 8 ≤ length bs →
     field a 8 bs ≡ get_or bs a 0 + get_or bs (a + 1) 0 * 256 + get_or bs (a + 2) 0 * 65536 + get_or bs (a + 3) 0 * 16777216 + get_or bs (a + 4) 0 * 4294967296
     + get_or bs (a + 5) 0 * 1099511627776 + get_or bs (a + 6) 0 * 281474976710656 + get_or bs (a + 7) 0 * 72057594037927936
 unfolding field
-field8 bs a h =
+eight_bytes bs a h =
     let l : length (drop a bs) ≡ length bs - a = length-drop a bs in
     let p : get_or (drop a bs) 0 0 ≡ get_or bs a 0 = get_or-drop a bs 0 0 ∙ ap (λ (i : ℕ). get_or bs i 0) (omega arith) in
     omega (
@@ -101,3 +135,21 @@ low_written bs xs ys a n k v s h e d f =
     put_mid-paste a k bs xs (low n v) n p (sym e) (sym l)
     ∙ ap₂ (λ (zs : List ℕ) (j : ℕ). take a bs ++ zs ++ drop (a + j) bs) (take_all n (low n v) (omega (arith, l))) (sym l)
     ∙ sym (sets-eq (low n v) bs a (omega (arith, h, l)))
+
+-- the lowest bytes of a number, stored one after another
+pub sets1 : (bs : List ℕ) (a v : ℕ) → set bs a (v % 256) ≡ sets bs a (low 1 v)
+unfolding low
+sets1 bs a v = refl
+
+pub sets2 : (bs : List ℕ) (a v : ℕ) → set (set bs a (v % 256)) (a + 1) (v / 256 % 256) ≡ sets bs a (low 2 v)
+unfolding low
+sets2 bs a v = rw add-one
+
+pub sets4 : (bs : List ℕ) (a v : ℕ) →
+    set (set (set (set bs a (v % 256)) (a + 1) (v / 256 % 256)) (a + 2) (v / 256 / 256 % 256)) (a + 3) (v / 256 / 256 / 256 % 256)
+    ≡ sets bs a (low 4 v)
+unfolding low
+sets4 bs a v =
+    let p : a + 2 ≡ suc (suc a) = omega arith in
+    let q : a + 3 ≡ suc (suc (suc a)) = omega arith in
+    rw (add-one, p, q)

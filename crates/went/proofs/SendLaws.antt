@@ -76,7 +76,7 @@ module _ {t : List ℕ} {h : Head} (k : Ready t h) where
     none_due = omega (arith, e, (known t h k).used, num_most (suc (round_in t).slot) (round_in t).rows)
 
 -- ALONE, in either step
-alone_says : {t : List ℕ} {h : Head} (leaps : Bool) {j : ℕ} {v : List ℕ} {o : Out} (w : Step) → LeavesAlone t h leaps j → Gone t v j o →
+pub alone_says : {t : List ℕ} {h : Head} (leaps : Bool) {j : ℕ} {v : List ℕ} {o : Out} (w : Step) → LeavesAlone t h leaps j → Gone t v j o →
     of_step w ≡ cond leaps (rules.leap (of_out o)) (rules.ordinary (of_out o)) → SentSays t v w
 alone_says {t} {h} leaps {j} {v} {o} w a g d =
     let r = round_in t in

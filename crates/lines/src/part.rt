@@ -2,17 +2,16 @@
 ghost use Rattle.std.specs.Prelude.{◌≡◌};
 ghost use Rattle.lines.specs.Part.{PayloadPart, PayloadPlaced};
 
-use crate::read_command;
+use crate::{Place, read_command};
 use forms::{form_of, line_number};
-use std::ops::Range;
 
 // From start up to end; 0 and 0 with no payload digits, and of a line that is refused.
 // Kept: no Option, since the contract promises the numbers 0 and 0 there (payload_placed).
-pub fn payload_place(line: &[u8]) -> Range<usize>
+pub fn payload_place(line: &[u8]) -> Place
     ensures payload_placed { PayloadPlaced line.now result.start result.end }
     ensures line_value { line.now ≡ line.now }
 {
-    let none = 0..0;
+    let none = Place { start: 0, end: 0 };
     let Some(command) = read_command(line) else {
         return none;
     };
@@ -20,7 +19,7 @@ pub fn payload_place(line: &[u8]) -> Range<usize>
     let n = line.len();
     if front + 1 < n {
         let end = n - 1;
-        front..end
+        Place { start: front, end }
     } else {
         none
     }

@@ -43,16 +43,16 @@ fn answer_next(
     let request = Request::of(&head)?;
     let body = &mut body[..request.size];
     stdin.read_exact(body).ok()?;
-    let n = outcome(request, body, out);
+    let n = outcome(request.asked?, request.room, body, out);
     stdout.write_all(&out[..n]).ok()
 }
 
 // The outcome's length.
-fn outcome(request: Request, body: &[u8], out: &mut [u8; OUT_SIZE]) -> usize
+fn outcome(asked: Asked, room: usize, body: &[u8], out: &mut [u8; OUT_SIZE]) -> usize
+    requires { room ≤ 1024 }
     ensures { result ≤ 65536 }
 {
-    let room = request.room;
-    match request.asked {
+    match asked {
         Asked::List => try_list(body, room, out),
         Asked::Write(command) => try_write(command, body, room, out),
         Asked::Read => try_read(body, out),

@@ -18,10 +18,10 @@ pub enum Asked {
     Read,
 }
 
-// The call, the size of what follows, and the room lent.
+// The call, none where the kind or the command is none; the size of what follows, and the room lent.
 #[derive(Clone, Copy)]
 pub struct Request {
-    pub asked: Asked,
+    pub asked: Option<Asked>,
     pub size: usize,
     pub room: usize,
     ghost small_size: { size ≤ 24640 },
@@ -29,26 +29,30 @@ pub struct Request {
 }
 
 impl Request {
-    // None where the kind or the command is none, or a size is too large.
+    // None where a size is too large.
     pub fn of(head: &[u8; HEAD_SIZE]) -> Option<Request> {
-        let asked = match read::<4>(head, 0) {
-            0 => Asked::List,
-            1 => Asked::Write(command_of(
-                read::<4>(head, 12),
-                [
-                    read::<4>(head, 16),
-                    read::<4>(head, 20),
-                    read::<4>(head, 24),
-                ],
-            )?),
-            2 => Asked::Read,
-            _ => return None,
-        };
         let size = read::<4>(head, 4) as usize;
         let room = read::<4>(head, 8) as usize;
         if MOST_SIZE < size || MOST_ROOM < room {
             return None;
         }
+        let asked = asked_in(head);
         Some(Request { asked, size, room })
+    }
+}
+
+fn asked_in(head: &[u8; HEAD_SIZE]) -> Option<Asked> {
+    match read::<4>(head, 0) {
+        0 => Some(Asked::List),
+        1 => {
+            let values = [
+                read::<4>(head, 16),
+                read::<4>(head, 20),
+                read::<4>(head, 24),
+            ];
+            Some(Asked::Write(command_of(read::<4>(head, 12), values)?))
+        }
+        2 => Some(Asked::Read),
+        _ => None,
     }
 }

@@ -5,6 +5,12 @@ use Rattle.buckets.proofs.LevelLaws.{level_start, level_end}
 use Rattle.buckets.proofs.FourLaws.{four_fits, four_most, four_turn, four_end, rest_fits, rest_most, rest_step, rest_end}
 use Rattle.buckets.proofs.reach_of.Goals as goal
 
+pub returns : goal.returns
+returns c =
+    let f = c.as_chunks.ensures in
+    let w = rest_end _ _ _ f.back f.back_len _ _ _ c.loop-count.invariant (omega arith) (omega (arith, c.loop-count-test.false)) in
+    level_end _ _ _ _ _ w c.top_of-top.ensures (omega arith) (omega arith) (omega arith)
+
 pub loop-four-init : goal.loop-four-init
 loop-four-init c = level_start _ _ (rw c.top_of-top.ensures c.requires.1)
 
@@ -61,9 +67,3 @@ overflow_sub-level c =
     let f = c.as_chunks.ensures in
     let w = rest_end _ _ _ f.back f.back_len _ _ _ c.loop-count.invariant (omega arith) (omega (arith, c.loop-count-test.false)) in
     omega (arith, w.most)
-
-pub returns : goal.returns
-returns c =
-    let f = c.as_chunks.ensures in
-    let w = rest_end _ _ _ f.back f.back_len _ _ _ c.loop-count.invariant (omega arith) (omega (arith, c.loop-count-test.false)) in
-    level_end _ _ _ _ _ w c.top_of-top.ensures (omega arith) (omega arith) (omega arith)

@@ -16,15 +16,15 @@ const MOST_COPIED: usize = 1024;
 pub fn try_read(line: &[u8], out: &mut [u8; OUT_SIZE]) -> usize
     ensures { result ≤ 65536 }
 {
-    put_read(line, out);
     let part = payload(line);
+    put_read(line, part.len(), out);
     let copied = part.len().min(MOST_COPIED);
     let end = PAYLOAD_AT + copied;
     out[PAYLOAD_AT..end].copy_from_slice(&part[..copied]);
     end
 }
 
-fn put_read(line: &[u8], out: &mut [u8; OUT_SIZE]) {
+fn put_read(line: &[u8], many: usize, out: &mut [u8; OUT_SIZE]) {
     let (refusal, number, values) = match read_command(line) {
         Some(command) => (0, line_number(command), values_of(command)),
         None => (u32::from(Refusal::BadLine), 0, [0; MOST_NUMBERS]),
@@ -37,5 +37,5 @@ fn put_read(line: &[u8], out: &mut [u8; OUT_SIZE]) {
     let place = payload_place(line);
     write::<4>(out, 20, small(place.start));
     write::<4>(out, 24, small(place.end));
-    write::<4>(out, 28, small(payload(line).len()));
+    write::<4>(out, 28, small(many));
 }

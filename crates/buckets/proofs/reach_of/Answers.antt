@@ -8,7 +8,9 @@ use Rattle.buckets.proofs.reach_of.Goals as goal
 pub returns : goal.returns
 returns c =
     let f = c.as_chunks.ensures in
-    let w = rest_end _ _ _ f.back f.back_len _ _ _ c.loop-count.invariant (omega arith) (omega (arith, c.loop-count-test.false)) in
+    let w =
+    rest_end c.args.counts.now c.top_of-top.result c.as_chunks.result.1.now (search f.back) (search f.back_len) _ _ _ c.loop-count.invariant
+    (omega arith) (omega (arith, c.loop-count-test.false)) in
     level_end _ _ _ _ _ w c.top_of-top.ensures (omega arith) (omega arith) (omega arith)
 
 pub loop-four-init : goal.loop-four-init
